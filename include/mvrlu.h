@@ -113,6 +113,7 @@ int32_t mvrlu_raw_open(const mvrlu_options *options, mvrlu_raw seats[], size_t c
 int32_t mvrlu_raw_close(mvrlu_raw *seat);
 int32_t mvrlu_raw_prepare(mvrlu_raw *seat);
 int32_t mvrlu_raw_tidy(mvrlu_raw *seat, uint32_t *live);
+int32_t mvrlu_raw_grace(mvrlu_raw *seat, uint64_t *time);
 int32_t mvrlu_raw_enter(mvrlu_raw *seat);
 int32_t mvrlu_raw_read(mvrlu_raw *seat, uint32_t object, uint64_t words[MVRLU_WORDS]);
 int32_t mvrlu_raw_read_pair(mvrlu_raw *seat, uint32_t object, uint32_t place, uint64_t words[2]);
@@ -191,6 +192,15 @@ static inline int32_t mvrlu_prepare(mvrlu_seat *seat) { MVRLU_ON(seat, mvrlu_raw
 static inline int32_t mvrlu_tidy(mvrlu_seat *seat, uint32_t *live) {
     if (live == NULL) return MVRLU_NULL;
     MVRLU_ON(seat, mvrlu_raw_tidy(&seat->raw, live));
+}
+
+/* Tells a time that no section of the domain is below, now or ever: what a commit of that time or an earlier one took out of the objects
+ * is read by no section any more. So memory of the caller's own that such words named, and nothing else does, may be freed. Each seat
+ * in a section holds the time back, at most to that of its section; where no other seat is in one during the call, the time is no earlier
+ * than that of the last entry before the call. */
+static inline int32_t mvrlu_grace(mvrlu_seat *seat, uint64_t *time) {
+    if (time == NULL) return MVRLU_NULL;
+    MVRLU_ON(seat, mvrlu_raw_grace(&seat->raw, time));
 }
 
 /* Begins a section. Its snapshot is the whole history at one moment of this call. */

@@ -252,6 +252,14 @@ public:
         return live;
     }
 
+    /* A time that no section of the domain is below, now or ever: memory of the caller's own that only words named which a commit of that
+     * time or an earlier one took out may be freed. Throws errc::inside. */
+    time grace() {
+        time found = 0;
+        detail::must(mvrlu_grace(held("mvrlu_grace"), &found), "mvrlu_grace");
+        return found;
+    }
+
     /* Begins a section. Its snapshot is the whole history at one moment of this call. Throws errc::inside. */
     [[nodiscard]] section enter() {
         detail::must(mvrlu_enter(held("mvrlu_enter")), "mvrlu_enter");

@@ -34,15 +34,17 @@ calls='calls: '
 sets='sets: '
 moves='moves 100000 beside pairs 100000, none wrong'
 bank='transfers 100000, each sum 64000'
+grace='replaced 20000, freed 20000, read none that was freed'
 under=()
 run=0
 for compiler in gcc clang; do
     command -v "$compiler" >/dev/null || { echo "library: $compiler isn't there, not run"; continue; }
     expect "calls by $compiler" "$calls" "$compiler" "${strict[@]}" -O2 tests/library/calls.c
     expect "bank by $compiler" "$bank" "$compiler" "${strict[@]}" -O2 examples/c/bank.c
+    expect "grace by $compiler" "$grace" "$compiler" "${strict[@]}" -O2 tests/library/grace.c
     expect "calls on sets by $compiler" "$sets" "$compiler" "${strict[@]}" -O2 tests/library/sets_calls.c
     expect "moves by $compiler" "$moves" "$compiler" "${strict[@]}" -O2 tests/library/sets_moves.c
-    run=$((run + 4))
+    run=$((run + 5))
 done
 expect "random histories" "histories 10000: " gcc "${strict[@]}" -O2 -DHISTORIES=10000 tests/library/histories.c
 expect "random histories of sets" "histories of sets 10000: " gcc "${strict[@]}" -O2 -DHISTORIES=10000 tests/library/sets_histories.c
@@ -51,7 +53,8 @@ run=$((run + 3))
 if carries -fsanitize=address,undefined; then
     expect "calls under the address sanitizer" "$calls" gcc "${strict[@]}" -g -fsanitize=address,undefined tests/library/calls.c
     expect "calls on sets under the address sanitizer" "$sets" gcc "${strict[@]}" -g -fsanitize=address,undefined tests/library/sets_calls.c
-    run=$((run + 2))
+    expect "grace under the address sanitizer" "$grace" gcc "${strict[@]}" -g -fsanitize=address,undefined tests/library/grace.c
+    run=$((run + 3))
 fi
 if carries -fsanitize=thread; then
     sanitized=("${strict[@]}" -g -O1 -fsanitize=thread)

@@ -75,6 +75,7 @@ void seats_move_and_close() {
     WANT_THROWN(seats[0].enter(), mvrlu::errc::closed);
     WANT_THROWN(seats[0].prepare(), mvrlu::errc::closed);
     WANT_THROWN(mvrlu::seat().tidy(), mvrlu::errc::closed);
+    WANT_THROWN(mvrlu::seat().grace(), mvrlu::errc::closed);
     seats[0].close();
     other = std::move(seats[1]);
     WANT(other.is_open() && get(other, 1) == 5);

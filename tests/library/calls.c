@@ -70,6 +70,7 @@ static void calls_on_a_closed_seat(void) {
     uint32_t live = 7;
     WANT(mvrlu_prepare(&seat), MVRLU_CLOSED);
     WANT(mvrlu_tidy(&seat, &live), MVRLU_CLOSED);
+    WANT(mvrlu_grace(&seat, &time), MVRLU_CLOSED);
     WANT(mvrlu_enter(&seat), MVRLU_CLOSED);
     WANT(mvrlu_read(&seat, 0, words), MVRLU_CLOSED);
     WANT(mvrlu_read_pair(&seat, 0, 0, pair), MVRLU_CLOSED);
@@ -100,6 +101,7 @@ static void calls_outside_and_inside(void) {
     WANT(mvrlu_enter(&seats[0]), MVRLU_INSIDE);
     WANT(mvrlu_prepare(&seats[0]), MVRLU_INSIDE);
     WANT(mvrlu_tidy(&seats[0], &live), MVRLU_INSIDE);
+    WANT(mvrlu_grace(&seats[0], &time), MVRLU_INSIDE);
     WANT(mvrlu_leave(&seats[0]), MVRLU_OK);
     close_two(seats);
 }
@@ -215,6 +217,46 @@ static void a_full_log(void) {
     close_two(seats);
 }
 
+/* The time that a seat tells. */
+static uint64_t grace_of(mvrlu_seat *seat) {
+    uint64_t time = 77;
+    WANT(mvrlu_grace(seat, &time), MVRLU_OK);
+    return time;
+}
+
+static void commit_one(mvrlu_seat *seat, uint64_t wanted) {
+    uint64_t time = 0;
+    WANT(mvrlu_enter(seat), MVRLU_OK);
+    WANT(mvrlu_lock(seat, 3, NULL), MVRLU_OK);
+    WANT(mvrlu_commit(seat, NULL, &time), MVRLU_OK);
+    WANT(time, wanted);
+}
+
+/* A section of seat 1 holds the time back, at its own time; once it is left or aborted it holds nothing. */
+static void grace_is_held_back_by_sections(void) {
+    mvrlu_seat seats[2];
+    open_two(seats);
+    WANT(grace_of(&seats[0]), 0);
+    WANT(mvrlu_enter(&seats[1]), MVRLU_OK);
+    commit_one(&seats[0], 1);
+    WANT(grace_of(&seats[0]), 0);
+    WANT(mvrlu_leave(&seats[1]), MVRLU_OK);
+    WANT(grace_of(&seats[0]), 1);
+    WANT(mvrlu_enter(&seats[1]), MVRLU_OK);
+    WANT(mvrlu_lock(&seats[1], 5, NULL), MVRLU_OK);
+    commit_one(&seats[0], 2);
+    commit_one(&seats[0], 3);
+    WANT(grace_of(&seats[0]), 1);
+    WANT(mvrlu_abort(&seats[1]), MVRLU_OK);
+    WANT(grace_of(&seats[0]), 3);
+    WANT(grace_of(&seats[1]), 3);
+    WANT(mvrlu_enter(&seats[1]), MVRLU_OK);
+    commit_one(&seats[0], 4);
+    WANT(mvrlu_close(&seats[1]), MVRLU_OK);
+    WANT(grace_of(&seats[0]), 4);
+    WANT(mvrlu_close(&seats[0]), MVRLU_OK);
+}
+
 static void closing_in_a_section_gives_up_its_locks(void) {
     mvrlu_seat seats[2];
     open_two(seats);
@@ -243,6 +285,7 @@ static void misuse_of_a_handle(void) {
     WANT(mvrlu_write(&seats[0], 0, NULL), MVRLU_NULL);
     WANT(mvrlu_time(&seats[0], NULL), MVRLU_NULL);
     WANT(mvrlu_tidy(&seats[0], NULL), MVRLU_NULL);
+    WANT(mvrlu_grace(&seats[0], NULL), MVRLU_NULL);
     close_two(seats);
 }
 
@@ -261,6 +304,7 @@ int main(void) {
     busy_then_stale_then_held();
     commits_of_two_seats();
     a_full_log();
+    grace_is_held_back_by_sections();
     closing_in_a_section_gives_up_its_locks();
     misuse_of_a_handle();
     each_status_has_a_text();

@@ -32,6 +32,7 @@ extern "C" {
     fn mvrlu_raw_close(seat: &mut RawSeat) -> i32;
     fn mvrlu_raw_prepare(seat: &mut RawSeat) -> i32;
     fn mvrlu_raw_tidy(seat: &mut RawSeat, live: &mut u32) -> i32;
+    fn mvrlu_raw_grace(seat: &mut RawSeat, time: &mut u64) -> i32;
     fn mvrlu_raw_enter(seat: &mut RawSeat) -> i32;
     fn mvrlu_raw_read(seat: &mut RawSeat, object: u32, words: &mut Words) -> i32;
     fn mvrlu_raw_read_pair(seat: &mut RawSeat, object: u32, place: u32, words: &mut [u64; 2]) -> i32;
@@ -141,6 +142,11 @@ impl RawSeat {
     pub(crate) fn tidy(&mut self, live: &mut u32) -> Status {
         // SAFETY: as said above.
         Status::of(unsafe { mvrlu_raw_tidy(self, live) })
+    }
+
+    pub(crate) fn grace(&mut self, time: &mut u64) -> Status {
+        // SAFETY: as said above.
+        Status::of(unsafe { mvrlu_raw_grace(self, time) })
     }
 
     pub(crate) fn enter(&mut self) -> Status {

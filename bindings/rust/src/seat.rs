@@ -79,6 +79,14 @@ impl Seat {
         live
     }
 
+    /// Tells a time that no section of the domain is below, now or ever: what a commit of that time or an earlier one took out of
+    /// the objects is read by no section any more. Each seat in a section holds it back, at most to the section's time.
+    pub fn grace(&mut self) -> u64 {
+        let mut time = 0;
+        self.outside(|raw| raw.grace(&mut time)).must_be_done();
+        time
+    }
+
     /// Begins a section. Its snapshot is the whole history at one moment of this call.
     pub fn enter(&mut self) -> Section<'_> {
         self.outside(RawSeat::enter).must_be_done();

@@ -126,9 +126,10 @@ fn what_is_given_up_is_free_and_as_it_was() {
 #[test]
 fn each_call_outside_gives_a_leaked_section_up() {
     type Call = fn(&mut Seat);
-    let calls: [(&str, Call); 3] = [
+    let calls: [(&str, Call); 4] = [
         ("prepare", |seat| seat.prepare().unwrap()),
         ("tidy", |seat| assert_eq!(seat.tidy(), 0)),
+        ("grace", |seat| assert_eq!(seat.grace(), 0)),
         ("enter", |seat| seat.enter().abort()),
     ];
     for (name, call) in calls {
@@ -138,6 +139,20 @@ fn each_call_outside_gives_a_leaked_section_up() {
         call(&mut first);
         assert_eq!(second.enter().lock(5), Ok(()), "{name}");
     }
+}
+
+#[test]
+fn grace_is_held_back_by_sections() {
+    let [mut first, mut second] = open_two();
+    assert_eq!(first.grace(), 0);
+    let reader = second.enter();
+    assert_eq!((put(&mut first, 3, COUNTED), first.grace()), (1, 0));
+    assert!(reader.leave().is_ok());
+    assert_eq!(first.grace(), 1);
+    let reader = holding(&mut second, 5);
+    assert_eq!((put(&mut first, 3, COUNTED), put(&mut first, 3, COUNTED), first.grace()), (2, 3, 1));
+    reader.abort();
+    assert_eq!((first.grace(), second.grace()), (3, 3));
 }
 
 #[test]

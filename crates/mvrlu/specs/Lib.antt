@@ -11,3 +11,4 @@ pub mod Joined
 pub mod Opened
 pub mod Readiness
 pub mod Orders
+pub mod Grace

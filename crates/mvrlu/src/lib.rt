@@ -32,7 +32,11 @@
 //! many steps it makes at most: `enter` 6, `try_lock` 24, `write` 6, `try_commit` 8 and one for each
 //! object held, `abort` 2 and one for each object held, `leave` 1, and a `read` 12 and three for each entry
 //! after the snapshot that was seen. `prepare` and `tidy` make at most `2 * (4 + seats + 20 * slots) + 8`,
-//! and `meet` `seats + 7`.
+//! `grace` `seats + 3`, and `meet` `seats + 7`.
+//!
+//! `Handle::grace` tells a time that no section is below, by one scan of the marks: `NeverBelow` in specs/
+//! says so of each state of the rule in which the seat has the view that the call left, and of each that
+//! comes after by moves of any seats. What a section means, its time, is by the rule of `mv_core`.
 //!
 //! Each call's clause `aborts` says what becomes of the seat's count of aborts, which `Handle::table`
 //! gives: `abort` raises it by one exactly where something is held, and every other call leaves it.
@@ -63,6 +67,7 @@ mod closing;
 mod domain;
 mod ending;
 mod entering;
+mod grace;
 mod handle;
 mod holding;
 mod meeting;

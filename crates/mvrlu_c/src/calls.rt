@@ -266,3 +266,20 @@ pub extern "C" fn mvrlu_raw_tidy(alloc: Global, seat: &mut MvrluSeat, live: &mut
     };
     status.code()
 }
+
+/// Tells a time that no section of the domain is below, and none ever will be.
+#[unsafe(no_mangle)]
+pub extern "C" fn mvrlu_raw_grace(alloc: Global, seat: &mut MvrluSeat, time: &mut u64) -> i32
+    ensures tells { Tells done seat.old seat.new (λ p q a. calls.TellsGrace p q a × (time.new ≡ told time.old a)) result }
+    ensures closed { seat.old.is_open ≡ false → time.new ≡ time.old }
+{
+    let status = match on_open(alloc, seat, (), |seat: ObjectSeat, _none: ()| seat.grace()) {
+        None => Status::Closed,
+        Some(Err(why)) => of_misuse(why),
+        Some(Ok(at)) => {
+            *time = at;
+            Status::Done
+        }
+    };
+    status.code()
+}

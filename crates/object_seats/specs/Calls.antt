@@ -1,5 +1,5 @@
 -- What each call leaves of a seat's position, by its answer, and when it is a misuse.
-use Rattle.std.specs.Prelude.{◌≡◌, ◌≢◌, ◌↔◌, ℕ, ◌+◌, ◌-◌, ◌<◌, ◌≤◌, List, [], length, slice_index_or, Result, Ok, Err}
+use Rattle.std.specs.Prelude.{◌≡◌, ◌≢◌, ◌↔◌, ⊤, ℕ, ◌+◌, ◌-◌, ◌<◌, ◌≤◌, List, [], length, slice_index_or, Result, Ok, Err}
 use Rattle.mv_history.specs.declared.answers.LockAnswer.{LockAnswer}
 use Rattle.mv_history.specs.declared.answers.LockAnswer.TheVariants as lock
 use Rattle.mv_history.specs.declared.answers.LogTable.{LogTable}
@@ -10,6 +10,7 @@ use Rattle.mv_history.specs.Meaning as history
 use Rattle.mv_history.specs.Calls as made
 use Rattle.log_reclaim.specs.declared.rounds.Tidy.{Tidy}
 use Rattle.mvrlu.specs.Causes.{Took, Loaded, FoundLocked}
+use Rattle.mvrlu.specs.Grace as grace
 use Rattle.mvrlu.specs.Holding as holding
 use Rattle.mvrlu.specs.Placed.{Placed, seat_from}
 use Rattle.mvrlu.specs.Meant.{seat_of, section_in, aborts_in, aborts_parked, aborts_with}
@@ -175,3 +176,10 @@ Tidies (Outside seat) new (Ok tidy) = ComesOutPlaced new (λ q. holding.Tidies s
 Tidies (Outside seat) new (Err why) = ⊥
 Tidies (Inside section) new (Ok tidy) = ⊥
 Tidies (Inside section) new (Err why) = IsInside (Inside section) new why
+
+-- `grace`, in a domain whose rules allow every opening state and every commit
+abbrev pub TellsGrace : Position → Position → Result ℕ Misuse → Type 0
+TellsGrace (Outside seat) new (Ok time) = ComesOutPlaced new (λ q. grace.TellsGrace (λ s. ⊤) (λ tag before writes. ⊤) seat.idle q time)
+TellsGrace (Outside seat) new (Err why) = ⊥
+TellsGrace (Inside section) new (Ok time) = ⊥
+TellsGrace (Inside section) new (Err why) = IsInside (Inside section) new why

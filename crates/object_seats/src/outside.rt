@@ -1,6 +1,6 @@
 // Calls for a seat outside a section.
 ghost use Rattle.object_seats.specs.Positions.{IsOf, aborts_at};
-ghost use Rattle.object_seats.specs.Calls.{Enters, MakesRoom, Tidies, Counts};
+ghost use Rattle.object_seats.specs.Calls.{Enters, MakesRoom, Tidies, TellsGrace, Counts};
 ghost use Rattle.std.specs.Prelude.{◌≡◌};
 
 use crate::position::{Misuse, Position};
@@ -64,6 +64,26 @@ pub(crate) fn tidy_in(
             let mut handle = domain.handle(seat);
             let tidy = handle.tidy();
             (Position::Outside(handle.into_seat()), Ok(tidy))
+        }
+    }
+}
+
+// Tells a time that no section of the domain is below any more.
+pub(crate) fn grace_in(
+    domain: &Domain<AnyRules>,
+    position: Position,
+) -> (Position, Result<u64, Misuse>)
+    requires of { IsOf domain.now position }
+    ensures of { IsOf domain.now result.0 }
+    ensures tells { TellsGrace position result.0 result.1 }
+    ensures aborts { aborts_at result.0 ≡ aborts_at position }
+{
+    match position {
+        Position::Inside(section) => (Position::Inside(section), Err(Misuse::Inside)),
+        Position::Outside(seat) => {
+            let mut handle = domain.handle(seat);
+            let time = handle.grace();
+            (Position::Outside(handle.into_seat()), Ok(time))
         }
     }
 }

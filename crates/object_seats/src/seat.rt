@@ -7,7 +7,7 @@ ghost use Rattle.object_seats.specs.Calls as calls;
 use crate::inside::{
     abort_in, commit_in, leave_in, lock_in, read_in, read_pair_in, time_in, write_in,
 };
-use crate::outside::{count_in, enter_in, prepare_in, tidy_in};
+use crate::outside::{count_in, enter_in, grace_in, prepare_in, tidy_in};
 use crate::position::{CommitResult, Misuse, Position};
 use log_reclaim::Tidy;
 use mv_history::{AnyRules, LockAnswer, LogTable, Room, Section, Tag, Words};
@@ -148,6 +148,17 @@ impl ObjectSeat {
     {
         let ObjectSeat { domain, position } = self;
         let (position, answer) = tidy_in(&domain, position);
+        (ObjectSeat { domain, position }, answer)
+    }
+
+    /// A printed time that no section of the domain is below, and none ever will be. A seat in a section
+    /// holds it back, at most to the section's time.
+    pub fn grace(self) -> (ObjectSeat, Result<u64, Misuse>)
+        ensures tells { calls.TellsGrace self.position result.0.position result.1 }
+        ensures aborts { aborts_at result.0.position ≡ aborts_at self.position }
+    {
+        let ObjectSeat { domain, position } = self;
+        let (position, answer) = grace_in(&domain, position);
         (ObjectSeat { domain, position }, answer)
     }
 

@@ -30,7 +30,8 @@ ghost use Rattle.mvrlu.specs.Whole.{last_state};
 ghost use Rattle.domain_run.specs.Numbers.{numbers_for};
 ghost use Rattle.section_work.specs.Attempts.{HasSpace};
 ghost use Rattle.mv_client.specs.Updates.{Repeated, Filled, IsForCommit};
-ghost use Rattle.counter.specs.Counting.{CountsOne, count, done_of, EachCounted};
+ghost use Rattle.client_run.specs.Over.{EachTold};
+ghost use Rattle.counter.specs.Counting.{CountsOne, count, asked_of, done_of};
 
 use client_run::run_over;
 use domain_run::Task;
@@ -123,7 +124,7 @@ pub fn run_counters<R: Threads + Wait + Sync>(
     requires { vec_len counters ≤ 64 }
     ensures last { IfOk result (λ done. let last = last_state (whole_of done.0) in
         (length last ≡ 1) × (count last ≡ first + sum_by done_of done.1.items)) }
-    ensures each { IfOk result (λ done. EachCounted counters.items done.1.items (whole_of done.0)) }
+    ensures each { IfOk result (λ done. EachTold asked_of done_of counters.items done.1.items (whole_of done.0)) }
     ensures refused { IfErr result (λ back. Refuses (numbers_for (vec_len counters) 1 1) back.1 × (back.0 ≡ counters)) }
 {
     let start = [[first as u64, 0, 0, 0, 0, 0]];

@@ -1,15 +1,16 @@
 -- What every update leaves of its seat.
 use Rattle.std.proofs.Common.{◌≡◌, ℕ, ◌+◌, ◌<◌, ◌≤◌, List, [], ◌∷◌, ◌++◌, length, refl, sym, ap, ◌∙◌, subst, Ok, Err, Option, Some, length-append, arith}
 use Rattle.std.specs.Result.{IsErrAnd}
+use Rattle.std.proofs.lemmas.Bool.Decides.{nat_tests}
 use denote.Ref.{MutBor}
 use Rattle.core.specs.Fn.{Shared}
-use Rattle.mv_history.specs.Meaning.{Seat, InSection, IsWorn, IsSection, snapshot_of, Lacks}
+use Rattle.mv_history.specs.Meaning.{Seat, InSection, IsWorn, IsSection, state_of, snapshot_of, words_at, Lacks}
 use Rattle.mv_history.specs.Calls.{Continues, Enters, GoesOn, Prepares, IsAsBefore, Leaves, commit_by}
 use Rattle.mv_history.specs.State.{State, Writes, touches}
 use Rattle.mv_history.specs.Drift.{IsFit}
 use Rattle.mv_history.proofs.Steps.{Continues-Continues, GoesOn-GoesOn}
 use Rattle.mv_history.proofs.Snapshots.{snapshot_of-goes_on}
-use Rattle.section_work.proofs.Entering.{worn_left}
+use Rattle.section_work.proofs.Entering.{reads_snapshot, worn_left}
 use Rattle.section_work.specs.Causes.{Causes}
 use Rattle.section_work.specs.declared.causes.Refusal.{Refusal}
 use Rattle.section_work.specs.declared.causes.Cause.{Cause}
@@ -19,6 +20,7 @@ use Rattle.section_work.specs.declared.place.Place.TheVariants.{Commit as AtComm
 use Rattle.section_work.specs.declared.work.Decision.TheVariants.{Settled, Change}
 use Rattle.mv_client.specs.declared.updating.Outcome.{Outcome}
 use Rattle.mv_client.specs.declared.updating.Outcome.TheVariants.{Done, Again, End}
+use Rattle.mv_client.proofs.Fits.{fit_by_held}
 use Rattle.mv_client.specs.Closures.{Shows}
 use Rattle.mv_client.specs.Updates.{Answer, Opened, OnChange, Filled, IsForCommit, IsFilled, commits_in, Updated, UpdatedLast, outcome_of}
 
@@ -122,28 +124,27 @@ pub filled_fit : {T : Type 0} (allowed : List ℕ → State → Writes → Type 
 filled_fit allowed old new r tag reply e f =
     subst (λ z. OnChange z (λ t. (0 < length new.own) × IsFit allowed (snapshot_of new) t new.own)) e f.fit
 
--- a lock that was refused gives the section up
-pub filled_refused : {T : Type 0} (allowed : List ℕ → State → Writes → Type 0) (old new : InSection) (r : Answer T) (refusal : Refusal) → GoesOn old new
-    → IsErrAnd r (λ e. e ≡ refusal) → Filled allowed old new r × IsForCommit r
-filled_refused allowed old new (Ok d) refusal goes e = absurd e
-filled_refused allowed old new (Err e) refusal goes is = (record { goes_on = goes; fit = tt }, tt)
+-- behind a read, a lock that was refused gives the section up
+pub filled_refused : {T : Type 0} {allowed : List ℕ → State → Writes → Type 0} {old mid new : InSection} {r : Answer T} (refusal : Refusal)
+    → GoesOn old mid → GoesOn mid new → IsErrAnd r (λ e. e ≡ refusal) → Filled allowed old new r × IsForCommit r
+filled_refused {r = Ok d} refusal goes more e = absurd e
+filled_refused {r = Err e} refusal goes more is = (record { goes_on = GoesOn-GoesOn goes more; fit = tt }, tt)
 
--- One object was put in a section that held nothing, and these writes are fit.
-pub filled_one : {T : Type 0} (starts : State → Type 0) (allowed : List ℕ → State → Writes → Type 0) (old mid new : InSection) (tag : List ℕ) (reply : T)
-    (object : ℕ) (words : List ℕ) → IsSection starts allowed old → old.own ≡ [] → IsAsBefore old mid → GoesOn old mid → GoesOn mid new
-    → (Lacks mid object → new.own ≡ mid.own ++ (object, words) ∷ []) → IsFit allowed (snapshot_of old) tag ((object, words) ∷ [])
-    → Filled allowed old new (Ok (Change tag reply))
-filled_one starts allowed old mid new tag reply object words lawful none same goes more put fit =
+-- In a section that held nothing one object was read and put, and the writes are allowed wherever the object has the words that were read.
+pub filled_put : {T : Type 0} {starts : State → Type 0} {allowed : List ℕ → State → Writes → Type 0} {old mid new : InSection} {u : State}
+    {tag : List ℕ} {reply : T} {object : ℕ} {was words : List ℕ} → IsSection starts allowed old → old.own ≡ [] → u ≡ state_of old
+    → was ≡ words_at u object → object < length u → IsAsBefore old mid → GoesOn old mid → GoesOn mid new
+    → (Lacks mid object → new.own ≡ mid.own ++ (object, words) ∷ [])
+    → ((s : State) → object < length s → words_at s object ≡ was → allowed tag s ((object, words) ∷ [])) → Filled allowed old new (Ok (Change tag reply))
+filled_put {allowed = allowed} {old = old} {mid = mid} {new = new} {u = u} {tag = tag} {object = object} {words = words}
+    lawful none reads is within same goes more put allows =
     let own : new.own ≡ (object, words) ∷ [] =
     put (ap (λ ws. touches ws object) (same.own ∙ none)) ∙ ap (λ ws. ws ++ (object, words) ∷ []) (same.own ∙ none) in
-    let all = GoesOn-GoesOn goes more in record {
-      goes_on = all;
-      fit = (
-        omega (arith, ap length own),
-        subst (λ ws. IsFit allowed (snapshot_of new) tag ws) (sym own)
-            (subst (λ u. IsFit allowed u tag ((object, words) ∷ [])) (sym (snapshot_of-goes_on old new all lawful.at)) fit),
-      );
-    }
+    let all = GoesOn-GoesOn goes more in
+    let from : u ≡ snapshot_of new = reads ∙ reads_snapshot old none ∙ sym (snapshot_of-goes_on old new all lawful.at) in
+    let fit = fit_by_held allowed (snapshot_of new) tag ((object, words) ∷ []) (λ s long held.
+    allows s (omega (arith, long, ap length from, within)) (held object (grind (arith, nat_tests)) ∙ ap (λ v. words_at v object) (sym from) ∙ sym is)) in
+    record { goes_on = all; fit = (omega (arith, ap length own), subst (λ ws. IsFit allowed (snapshot_of new) tag ws) (sym own) fit) }
 
 -- A closure that has something to commit each time is done by a commit.
 pub done_commits : {Open T : Type 0} (k : Causes) (section : Open → InSection) (gives : Open → Answer T → Open → Type 0) (old new : Seat)

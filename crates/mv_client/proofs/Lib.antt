@@ -3,3 +3,4 @@ pub mod Filled
 pub mod Invariants
 pub mod Commits
 pub mod Fits
+pub mod Rewriting

@@ -2,3 +2,4 @@ pub mod Closures
 pub mod Updates
 pub mod Invariants
 pub mod Rules
+pub mod Rewriting

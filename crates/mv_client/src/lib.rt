@@ -17,11 +17,12 @@
 //! - [`update_at_most`], [`update_until`], [`update_times`]: updates that are tried again behind an `Again`, which left nothing.
 //!
 //! What is asked of the closure are two things (`Filled`): it stays in its section, and what it leaves for a commit is fit. In
-//! `proofs/`, for clients: `Fits.fit_by_held`, for commits whose rules depend on what is held alone; `Filled.filled_one` and
-//! `filled_refused`, for closures that put one object; `Invariants.keeps_after`, `keeps_at` and `keeps_in`: what each allowed
+//! `proofs/`, for clients: `Fits.fit_by_held`, for commits whose rules depend on what is held alone; `Filled.filled_put` and
+//! `filled_refused`, for closures that read one object and put it; `Invariants.keeps_after`, `keeps_at` and `keeps_in`: what each allowed
 //! commit keeps (`IsKept`) holds after an allowed history, at each time that a seat has seen, and in what a section reads;
-//! `raised_after`, of what each commit raises by one; `Commits.told_in_all`, of commits that are told seat by seat.
-//! `specs/Rules.antt` has what shows that rules are propositions.
+//! `raised_after` and `raised_read`, of what each commit raises by one; `Commits.told_in_all`, of commits that are told seat by
+//! seat. `specs/Rules.antt` has what shows that rules are propositions, and `specs/Rewriting.antt` the rules of one object
+//! (`Rewrites`), whose lemmas are in `proofs/Rewriting.antt`.
 //!
 //! # Its place
 //!

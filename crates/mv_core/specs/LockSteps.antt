@@ -21,7 +21,6 @@ use Rattle.mv_core.specs.declared.view.Walk.TheVariants as walk
 use Rattle.mv_core.specs.declared.view.Stand.{Stand}
 use Rattle.mv_core.specs.declared.view.Passed.TheVariants.{Nothing}
 use Rattle.mv_core.specs.Rings.{slot_at, index_of, put_slot, held_count, spare_count, set_first, own_of}
-use Rattle.mv_core.specs.Times.{words_of}
 use Rattle.mv_core.specs.Views.{time_in, IsUnnamed, with_step}
 use Rattle.mv_core.specs.WalkSteps.{IsWalking, stand_at}
 
@@ -124,8 +123,9 @@ StandsToLock v inside object previous =
     ⊎ ((stand : Stand) × (found : ℕ) × (v.walk ≡ walk.At stand) × (stand.object ≡ object) × (stand.link ≡ previous)
     × (stand.stamp ≡ Some found) × (found ≤ time_in inside))
 
--- compare_exchange HEAD (lock): an open section past its help stands there, doesn't hold the object, has room in its write set, and built the slot whole
-pub record MayLock (c : Config) (write_max : ℕ) (v : View) (object previous position : ℕ) (b : Build) (inside : Section) : Type 0 where
+-- compare_exchange HEAD (lock): an open section past its help stands there, doesn't hold the object, has room in its write set, and built the slot whole,
+-- with any six words: a held version is nobody else's to read
+pub record MayLock (c : Config) (write_max : ℕ) (v : View) (object previous position : ℕ) (words : List ℕ) (b : Build) (inside : Section) : Type 0 where
   pub walking : IsWalking v inside
   pub in_range : object < c.objects
   pub stands : StandsToLock v inside object previous
@@ -137,22 +137,22 @@ pub record MayLock (c : Config) (write_max : ℕ) (v : View) (object previous po
   pub stamp : set_first v.ring ≡ position → b.stamp ≡ Some (unset_of position)
   pub previous_is : b.previous ≡ Some previous
   pub successor : b.successor ≡ Some 0
-  pub words : b.words ≡ map Some (words_of c v.start v.past.seen (time_in inside) object)
+  pub words_are : b.words ≡ map Some words
 
 -- the version that a won lock holds
-abbrev pub locked_version : Config → View → Section → ℕ → ℕ → ℕ → Version
-locked_version c v inside object previous position = record {
+abbrev pub locked_version : View → ℕ → ℕ → ℕ → List ℕ → Version
+locked_version v object previous position words = record {
   position = position;
   first = set_first v.ring;
   object = object;
   previous = previous;
-  words = words_of c v.start v.past.seen (time_in inside) object;
+  words = words;
 }
 
 -- won: the version is held, and the next position is used
-abbrev pub head_locked : Config → View → Section → ℕ → ℕ → ℕ → View
-head_locked c v inside object previous position = record v {
-  ring = record (put_slot v.ring (index_of c position) (Live (locked_version c v inside object previous position) Held)) { next = position + 1 };
+abbrev pub head_locked : Config → View → ℕ → ℕ → ℕ → List ℕ → View
+head_locked c v object previous position words = record v {
+  ring = record (put_slot v.ring (index_of c position) (Live (locked_version v object previous position words) Held)) { next = position + 1 };
   trail = with_step c v LockHead (Head object) (Some previous) (Some (link_of v.number position));
 }
 
@@ -162,14 +162,14 @@ lock_lost c v object link =
     record v { walk = stand_at object link Nothing true; trail = with_step c v LockHead (Head object) (Some link) None }
 
 -- what the exchange tells
-abbrev pub LockTold : Config → View → Section → ℕ → ℕ → ℕ → ℕ → View → Type 0
-LockTold c v inside object previous position found w =
-    (found ≡ previous → w ≡ head_locked c v inside object previous position) × (found ≢ previous → w ≡ lock_lost c v object found)
+abbrev pub LockTold : Config → View → ℕ → ℕ → ℕ → List ℕ → ℕ → View → Type 0
+LockTold c v object previous position words found w =
+    (found ≡ previous → w ≡ head_locked c v object previous position words) × (found ≢ previous → w ≡ lock_lost c v object found)
 
--- a lock adds one write to those that the section holds, of the words that it reads, and takes a spare slot
-abbrev pub OneMoreWrite : Config → View → Section → ℕ → View → Type 0
-OneMoreWrite c v inside object w =
-    (own_of c w.ring ≡ own_of c v.ring ++ (object, words_of c v.start v.past.seen (time_in inside) object) ∷ [])
+-- a lock adds one write to those that the section holds, of the words that were built, and takes a spare slot
+abbrev pub OneMoreWrite : Config → View → ℕ → List ℕ → View → Type 0
+OneMoreWrite c v object words w =
+    (own_of c w.ring ≡ own_of c v.ring ++ (object, words) ∷ [])
     × (spare_count w.ring + 1 ≡ spare_count v.ring)
 
 -- store HEAD (abort): in a section that named nothing and holds the object with this previous link

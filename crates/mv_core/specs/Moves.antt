@@ -55,7 +55,7 @@ pub data Kind : Type 0 where
   store_built : (position field value : ℕ) → (build : Build) → Kind
   store_data : (position word value : ℕ) → (version : Version) → Kind
   load_death : Kind
-  lock_head : (object previous position : ℕ) → (build : Build) → (inside : Section) → Kind
+  lock_head : (object previous position : ℕ) → (words : List ℕ) → (build : Build) → (inside : Section) → Kind
   unlock_head : (object previous slot : ℕ) → (version : Version) → (inside : Section) → Kind
   name_commit : (word : ℕ) → (tag : List ℕ) → (inside : Section) → Kind
   store_super : (link time slot : ℕ) → (version : Version) → (note : CommitNote) → Kind
@@ -141,9 +141,9 @@ act allows c v (store_built position field value build) =
 act allows c v (store_data position word value version) =
     stores (MayStoreData c v position word version) (Data v.number (index_of c position) word) value (data_stored c v position word value version)
 act allows c v load_death = loads (MayLoadDeath v) Clock (λ word h. death_loaded c v word h)
-act allows c v (lock_head object previous position build inside) =
-    swaps (MayLock c c.write_max v object previous position build inside) (Head object) previous (link_of v.number position)
-    (λ h. head_locked c v inside object previous position) (λ found h. lock_lost c v object found) None
+act allows c v (lock_head object previous position words build inside) =
+    swaps (MayLock c c.write_max v object previous position words build inside) (Head object) previous (link_of v.number position)
+    (λ h. head_locked c v object previous position words) (λ found h. lock_lost c v object found) None
 act allows c v (unlock_head object previous slot version inside) =
     stores (MayUnlock v object previous slot version inside) (Head object) previous (head_unlocked c v object previous slot version inside)
 act allows c v (name_commit word tag inside) =

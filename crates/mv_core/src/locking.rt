@@ -1,5 +1,5 @@
 //! The steps that put a version on top of an object's chain and take it off again.
-ghost use Rattle.std.specs.Prelude.{◌≡◌, ◌≢◌, ℕ, ◌+◌, ◌<◌};
+ghost use Rattle.std.specs.Prelude.{◌≡◌, ◌≢◌, ℕ, List, ◌+◌, ◌<◌};
 ghost use Rattle.mv_layout.specs.Words.{link_seat_of};
 ghost use Rattle.mv_core.specs.declared.ring.Build.{Build};
 ghost use Rattle.mv_core.specs.declared.ring.Version.{Version};
@@ -20,8 +20,8 @@ use std::sync::ledger::Ledger;
 
 impl<P: Protocol> Shared<P> {
     /// Exchanges HEAD of an object from `previous` to the link of the version that was built at
-    /// `position`, and so locks the object where it is won: the version is held then, and its words
-    /// are those that the section reads. The section is open and past its help, doesn't hold the
+    /// `position`, and so locks the object where it is won: the version is held then, with the words
+    /// that it was built with. The section is open and past its help, doesn't hold the
     /// object, and has fewer versions held than its limit. Its walk stands at the version that
     /// `previous` links to, whose time is not above the section's, or at the master, and `previous`
     /// is 0. `first` is the position of the write set's first version, which is `position` where
@@ -36,14 +36,14 @@ impl<P: Protocol> Shared<P> {
         position: u64,
         steps: &mut Steps<L>,
     ) -> Swap
-        ghost what: { Build × Section }
+        ghost what: { List ℕ × Build × Section }
         requires of { IsOf self.now pass.old }
-        requires may { MayLock (config_of self.now) (config_of self.now).write_max (view pass.old) object previous position what.0 what.1 }
+        requires may { MayLock (config_of self.now) (config_of self.now).write_max (view pass.old) object previous position what.0 what.1 what.2 }
         requires first { first ≡ set_first (view pass.old).ring }
         ensures same { IsSame pass.old pass.new }
-        ensures view { LockTold (config_of self.now) (view pass.old) what.1 object previous position (found_by previous result) (view pass.new) }
+        ensures view { LockTold (config_of self.now) (view pass.old) object previous position what.0 (found_by previous result) (view pass.new) }
         ensures swap { IsSwap previous result }
-        ensures own { found_by previous result ≡ previous → OneMoreWrite (config_of self.now) (view pass.old) what.1 object (view pass.new) }
+        ensures own { found_by previous result ≡ previous → OneMoreWrite (config_of self.now) (view pass.old) object what.0 (view pass.new) }
         ensures link { found_by previous result ≢ previous → IsLinkOf (config_of self.now) (found_by previous result) }
         ensures other { found_by previous result ≢ previous → found_by previous result ≢ 0
             → link_seat_of (found_by previous result) ≢ (view pass.old).number }

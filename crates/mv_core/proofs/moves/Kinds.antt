@@ -73,9 +73,9 @@ module _ (starts : State → Type 0) (allows : List ℕ → State → Writes →
   kept (store_data position word value version) may =
       store_keeps starts allows c start v _ _ _ _ _ (data_stores starts allows c start v position word value version may) (λ w t. t.0) refl
   kept load_death may = clock_keeps starts allows c start v _ _ _ (death_loads starts allows c start v) (λ n w t. t.0.0) (λ n h. refl)
-  kept (lock_head object previous position build inside) may =
+  kept (lock_head object previous position words build inside) may =
       swap_keeps starts allows c start v _ _ _ _ _ _ _ _ _
-      (lock_swaps starts allows c start v c.write_max object previous position build inside may (link_of v.number position) refl)
+      (lock_swaps starts allows c start v c.write_max object previous position words build inside may (link_of v.number position) refl)
       (λ m h longer seats w k is hit l t. let e = t.0.0 refl in (e, stays seats v w is k l (ap (λ (u : View). u.past) e)))
       (λ m h seats w miss l t. t.0.1 miss)
   kept (unlock_head object previous slot version inside) may =

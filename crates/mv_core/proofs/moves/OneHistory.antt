@@ -70,7 +70,7 @@ module _ (allows : List ℕ → State → Writes → Type 0) (c : Config) (n : �
       entry_if (name_rest word) word e is (ap (λ (u : Moment). u.history) is)
       (λ hit longer. record { kind = name_rest word; won = hit; state = is; entry = e; longer = longer })
   step_entry (stamp word unset) is = inl (ap (λ (u : Moment). u.history) is ∙ no_entry _ s.history)
-  step_entry (lock_head object previous position build inside) is = inl (ap (λ (u : Moment). u.history) is ∙ no_entry _ s.history)
+  step_entry (lock_head object previous position words build inside) is = inl (ap (λ (u : Moment). u.history) is ∙ no_entry _ s.history)
   step_entry (cut_head object position version note) is = inl (ap (λ (u : Moment). u.history) is ∙ no_entry _ s.history)
   step_entry k is = inl (ap (λ (u : Moment). u.history) is)
 

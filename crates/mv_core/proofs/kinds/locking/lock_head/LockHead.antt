@@ -14,18 +14,18 @@ use Rattle.mv_core.proofs.kinds.walking.WalkOn.{head_link}
 use Rattle.mv_core.proofs.kinds.walking.Walks.{walked}
 
 module _ (starts : State → Type 0) (allows : List ℕ → State → Writes → Type 0) (c : Config) (start : State) (v : View) (write_max object previous position : ℕ)
-    (b : Build) (inside : Section) (may : MayLock c write_max v object previous position b inside) where
-  lock_swaps_to : Swaps starts allows c start v (Head object) previous (link_of v.number position) (λ n w. (LockTold c v inside object previous position n w
-      × (n ≡ previous → OneMoreWrite c v inside object w) × (n ≢ previous → IsLinkOf c n × (n ≢ 0 → link_seat_of n ≢ v.number))) × IsKept v w)
+    (words : List ℕ) (b : Build) (inside : Section) (may : MayLock c write_max v object previous position words b inside) where
+  lock_swaps_to : Swaps starts allows c start v (Head object) previous (link_of v.number position) (λ n w. (LockTold c v object previous position words n w
+      × (n ≡ previous → OneMoreWrite c v object words w) × (n ≢ previous → IsLinkOf c n × (n ≢ 0 → link_seat_of n ≢ v.number))) × IsKept v w)
   lock_swaps_to = (
     (λ m h seats k is own begins won. (
-      head_locked c v inside object previous position,
+      head_locked c v object previous position words,
       h,
-      lock_won seats k v is own write_max object previous position b inside may won,
+      lock_won seats k v is own write_max object previous position words b inside may won,
       (
         (
           ((λ _. refl), (λ ne. absurd (ne refl))),
-          (λ _. one_more_write seats k v is own write_max object previous position b inside may),
+          (λ _. one_more_write seats k v is own write_max object previous position words b inside may),
           (λ ne. absurd (ne refl)),
         ),
         (refl, refl, refl, refl, refl, refl),
@@ -45,7 +45,7 @@ module _ (starts : State → Type 0) (allows : List ℕ → State → Writes →
               (λ e. absurd (lost e)),
               (λ _. (
                 head_link k v.number v.clocks inside timed may.walking.helped object,
-                lost_other seats k v is write_max object previous position b inside may lost,
+                lost_other seats k v is write_max object previous position words b inside may lost,
               )),
             ),
             (refl, refl, refl, refl, refl, refl),
@@ -54,8 +54,8 @@ module _ (starts : State → Type 0) (allows : List ℕ → State → Writes →
   )
 
   pub lock_swaps : (new : ℕ) → new ≡ link_of v.number position
-      → Swaps starts allows c start v (Head object) previous new (λ n w. (LockTold c v inside object previous position n w
-      × (n ≡ previous → OneMoreWrite c v inside object w) × (n ≢ previous → IsLinkOf c n × (n ≢ 0 → link_seat_of n ≢ v.number))) × IsKept v w)
+      → Swaps starts allows c start v (Head object) previous new (λ n w. (LockTold c v object previous position words n w
+      × (n ≡ previous → OneMoreWrite c v object words w) × (n ≢ previous → IsLinkOf c n × (n ≢ 0 → link_seat_of n ≢ v.number))) × IsKept v w)
   lock_swaps new e = subst (λ (g : ℕ). Swaps starts allows c start v (Head object) previous g
-      (λ n w. (LockTold c v inside object previous position n w × (n ≡ previous → OneMoreWrite c v inside object w) ×
+      (λ n w. (LockTold c v object previous position words n w × (n ≡ previous → OneMoreWrite c v object words w) ×
       (n ≢ previous → IsLinkOf c n × (n ≢ 0 → link_seat_of n ≢ v.number))) × IsKept v w)) (sym e) lock_swaps_to

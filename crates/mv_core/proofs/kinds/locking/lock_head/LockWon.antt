@@ -29,8 +29,8 @@ put_head m a n P here rest b =
 
 module _ {starts : State → Type 0} {allows : List ℕ → State → Writes → Type 0} {c : Config} {start : State} {m : Memory} {h : List Entry} (seats : ℕ → View)
     (k : Facts starts allows c start m h (parts_of seats))
-    (v : View) (is : seats v.number ≡ v) (own : v.number < c.seats) (write_max object previous position : ℕ) (b : Build) (inside : Section)
-    (may : MayLock c write_max v object previous position b inside)
+    (v : View) (is : seats v.number ≡ v) (own : v.number < c.seats) (write_max object previous position : ℕ) (words : List ℕ) (b : Build) (inside : Section)
+    (may : MayLock c write_max v object previous position words b inside)
     (won : m (Head object) ≡ previous) where
   abbrev rings : ℕ → Ring
   rings s = (seats s).ring
@@ -42,10 +42,10 @@ module _ {starts : State → Type 0} {allows : List ℕ → State → Writes →
   slot = index_of c position
 
   abbrev x : Version
-  x = log.x seats k v is own write_max object previous position b inside may
+  x = log.x seats k v is own write_max object previous position words b inside may
 
   abbrev later : ℕ → Ring
-  later = log.later seats k v is own write_max object previous position b inside may
+  later = log.later seats k v is own write_max object previous position words b inside may
 
   abbrev section : ℕ → Option Section
   section s = section_of (seats s).phase
@@ -63,20 +63,20 @@ module _ {starts : State → Type 0} {allows : List ℕ → State → Writes →
   master o w = m (Master o w)
 
   kept : KeepsCommitted rings later
-  kept = log.kept seats k v is own write_max object previous position b inside may
+  kept = log.kept seats k v is own write_max object previous position words b inside may
 
   each_live : (P : ℕ → ℕ → Version → Status → Type 0) → P n slot x Held → ((s j : ℕ) (y : Version) (st : Status) → Lives rings s j y st → P s j y st)
       → (s j : ℕ) (y : Version) (st : Status) → Lives later s j y st → P s j y st
-  each_live = log.each_live seats k v is own write_max object previous position b inside may
+  each_live = log.each_live seats k v is own write_max object previous position words b inside may
 
   lives_still : (s j : ℕ) (y : Version) (st : Status) → Lives rings s j y st → Lives later s j y st
-  lives_still = log.lives_still seats k v is own write_max object previous position b inside may
+  lives_still = log.lives_still seats k v is own write_max object previous position words b inside may
 
   lives_new : Lives later n slot x Held
-  lives_new = log.lives_new seats k v is own write_max object previous position b inside may
+  lives_new = log.lives_new seats k v is own write_max object previous position words b inside may
 
   positions : Positions c h later
-  positions = log_places.positions_after seats k v is own write_max object previous position b inside may
+  positions = log_places.positions_after seats k v is own write_max object previous position words b inside may
 
   section_here : section n ≡ Some inside
   section_here = section_is seats v inside k is may.walking.phase
@@ -95,7 +95,7 @@ module _ {starts : State → Type 0} {allows : List ℕ → State → Writes →
       let clash : Open ≡ Named naming = sym may.walking.open_is ∙ ap (λ (j : Section). j.mode) same ∙ mode in cc
 
   ring_else : (s : ℕ) → s ≢ n → later s ≡ rings s
-  ring_else s ne = set_at_else rings n (log.ring_now seats k v is own write_max object previous position b inside may) s ne
+  ring_else s ne = set_at_else rings n (log.ring_now seats k v is own write_max object previous position words b inside may) s ne
 
   nothing_else : (s : ℕ) → s ≢ n → HoldsNothing (rings s) → HoldsNothing (later s)
   nothing_else s ne = subst HoldsNothing (sym (ring_else s ne))
@@ -175,7 +175,7 @@ module _ {starts : State → Type 0} {allows : List ℕ → State → Writes →
               each_live (λ q j z su. q ≡ clock_seat_of g.word → j ≡ clock_slot_of g.word → z.position ≡ r.position → (z.first ≡ r.position) ×
               ((note : CommitNote) × (su ≡ Committed note) × (note.time ≡ clock_time_of g.word)))
               (λ seat _ e. let used : r.position < (rings n).next = subst (λ (q : ℕ). r.position < (rings q).next) (sym seat) r.used in let next =
-              log.next_is seats k v is own write_max object previous position b inside may in absurd (omega arith))
+              log.next_is seats k v is own write_max object previous position words b inside may in absurd (omega arith))
               (λ q j z su old seat slot_is e. r.live z su (subst (λ (p : ℕ × ℕ). Lives rings p.0 p.1 z su) (λ i. (seat i, slot_is i)) old) e)
               (clock_seat_of g.word) (clock_slot_of g.word) y st lives refl refl;
           gone = λ none. r.gone (λ y st lives. none y st (lives_still (clock_seat_of g.word) (clock_slot_of g.word) y st lives));
@@ -190,14 +190,14 @@ module _ {starts : State → Type 0} {allows : List ℕ → State → Writes →
         (λ s j y st lives e. k.open_section.held s j y (subst (Lives rings s j y) e lives)) s j y Held lives refl;
     one_set = λ s j l y z a d.
         let mine = each_live (λ t i u su. t ≡ n → su ≡ Held → u.first ≡ x.first) (λ _ _. refl)
-        (λ t i u su lives at e. log.same_first seats k v is own write_max object previous position b inside may i u
+        (λ t i u su lives at e. log.same_first seats k v is own write_max object previous position words b inside may i u
         (subst (λ (q : ℕ). Lives rings q i u Held) at (subst (Lives rings t i u) e lives))) in
         dite (ℕ_discrete s n)
         (λ e. mine s j y Held a e refl ∙ sym (mine s l z Held d e refl))
         (λ ne. k.open_section.one_set s j l y z (subst (λ (r : Ring). slot_at r j ≡ Live y Held) (ring_else s ne) a)
         (subst (λ (r : Ring). slot_at r l ≡ Live z Held) (ring_else s ne) d));
     whole = λ s j y i lives at mode.
-        log.each_set seats k v is own write_max object previous position b inside may (λ st. st ≡ Held) refl s j y lives
+        log.each_set seats k v is own write_max object previous position words b inside may (λ st. st ≡ Held) refl s j y lives
         (λ ne before. k.open_section.whole s j y i before at mode);
   }
 
@@ -254,16 +254,16 @@ module _ {starts : State → Type 0} {allows : List ℕ → State → Writes →
   successors_after : Successors c h stamp super section later
   successors_after = record {
     held = each_live (λ s j y st. IsHeldOrAborted st → super s j ≡ 0)
-        (λ _. log.super_new seats k v is own write_max object previous position b inside may) k.successors.held;
+        (λ _. log.super_new seats k v is own write_max object previous position words b inside may) k.successors.held;
     next = λ s j y note lives. k.successors.next s j y note (kept.was s j y note lives);
     stamped = λ s j y note lives t l z other there. k.successors.stamped s j y note (kept.was s j y note lives) t l z other (kept.was t l z other there);
     unfinished = λ s j y note lives. k.successors.unfinished s j y note (kept.was s j y note lives);
-    built = λ s j d at. k.successors.built s j d (log.built_was seats k v is own write_max object previous position b inside may s j d
+    built = λ s j d at. k.successors.built s j d (log.built_was seats k v is own write_max object previous position words b inside may s j d
         at).0;
   }
 
   pub lock_won : Facts starts allows c start (put m (Head object) (link_of v.number position)) h
-      (parts_of (set_at seats v.number (head_locked c v inside object previous position)))
+      (parts_of (set_at seats v.number (head_locked c v object previous position words)))
   lock_won =
       let deaths : Deaths c h later = record {
         aborted = λ s j dead y lives. each_live (λ s j y st. st ≡ Aborted (Some dead) → dead ≤ c.base + length h + 1) (λ e. absurd (cc))
@@ -284,13 +284,13 @@ module _ {starts : State → Type 0} {allows : List ℕ → State → Writes →
       (λ s w at. nothing_else s (λ e.
       let none : None ≡ Some w = sym may.walking.no_back ∙ ap (λ (u : View). u.back) (sym is) ∙ ap (λ (t : ℕ). (seats t).back) (sym e) ∙ at in cc))
       k.write_back in
-      settle starts allows c start (put m (Head object) (link_of v.number position)) h seats v.number v (head_locked c v inside object previous position) is
-      (record unchanged { ring = Some (head_locked c v inside object previous position).ring })
+      settle starts allows c start (put m (Head object) (link_of v.number position)) h seats v.number v (head_locked c v object previous position words) is
+      (record unchanged { ring = Some (head_locked c v object previous position words).ring })
       (refl, refl, refl, refl, refl, refl, refl, refl, refl, refl, refl)
-      (let words_after = log.words_after seats k v is own write_max object previous position b inside may in
-      let stamps_after = log.stamps_after seats k v is own write_max object previous position b inside may in
-      let sets_after = log.sets_after seats k v is own write_max object previous position b inside may in
-      let grace_after = log_places.grace_after seats k v is own write_max object previous position b inside may in
+      (let words_after = log.words_after seats k v is own write_max object previous position words b inside may in
+      let stamps_after = log.stamps_after seats k v is own write_max object previous position words b inside may in
+      let sets_after = log.sets_after seats k v is own write_max object previous position words b inside may in
+      let grace_after = log_places.grace_after seats k v is own write_max object previous position words b inside may in
       let past_help_still = past_help_kept rings later kept c stamp section (λ s. (seats s).clocks) k.stamped_past_help in
       let link_still = link_kept rings later kept c h k.commit_link in
       let master_still = master_kept rings later kept c h start master time k.present_master in

@@ -32,8 +32,8 @@ none_held r none k x e =
 
 module _ {starts : State → Type 0} {allows : List ℕ → State → Writes → Type 0} {c : Config} {start : State} {m : Memory} {h : List Entry} (seats : ℕ → View)
     (k : Facts starts allows c start m h (parts_of seats))
-    (v : View) (is : seats v.number ≡ v) (own : v.number < c.seats) (write_max object previous position : ℕ) (b : Build) (inside : Section)
-    (may : MayLock c write_max v object previous position b inside) where
+    (v : View) (is : seats v.number ≡ v) (own : v.number < c.seats) (write_max object previous position : ℕ) (words : List ℕ) (b : Build) (inside : Section)
+    (may : MayLock c write_max v object previous position words b inside) where
   abbrev pub rings : ℕ → Ring
   rings s = (seats s).ring
 
@@ -45,10 +45,10 @@ module _ {starts : State → Type 0} {allows : List ℕ → State → Writes →
 
   -- the version that is held now
   abbrev pub x : Version
-  x = locked_version c v inside object previous position
+  x = locked_version v object previous position words
 
   abbrev pub ring_now : Ring
-  ring_now = (head_locked c v inside object previous position).ring
+  ring_now = (head_locked c v object previous position words).ring
 
   abbrev pub later : ℕ → Ring
   later = set_at rings n ring_now
@@ -239,13 +239,13 @@ module _ {starts : State → Type 0} {allows : List ℕ → State → Writes →
       slots_after rings n slot (Live x Held) ring_now written within (λ s j z. HoldsSlot (m (First s j)) (m (Prev s j)) (λ i. m (Data s j i)) z)
       (let old : HoldsBuild (m (First n slot)) (m (Prev n slot)) (λ i. m (Data n slot i)) b = subst
       (HoldsSlot (m (First n slot)) (m (Prev n slot)) (λ i. m (Data n slot i))) was_built (k.slot_words n slot) in
-      let wide : length x.words ≡ 6 = sym (length-map x.words Some) ∙ ap length (sym may.words) ∙ old.wide in
+      let wide : length x.words ≡ 6 = sym (length-map x.words Some) ∙ ap length (sym may.words_are) ∙ old.wide in
       record {
         first_is = subst (λ (o : Option ℕ). IsStored o (m (First n slot))) may.first old.first_is;
         prev_is = subst (λ (o : Option ℕ). IsStored o (m (Prev n slot))) may.previous_is old.prev_is;
         wide = wide;
         words = λ i lt. subst (λ (o : Option ℕ). IsStored o (m (Data n slot i)))
-            (ap (λ (ws : List (Option ℕ)). slice_index_or ws i None) may.words ∙ get_or-map Some x.words i 0 None (omega arith)) (old.words i lt);
+            (ap (λ (ws : List (Option ℕ)). slice_index_or ws i None) may.words_are ∙ get_or-map Some x.words i 0 None (omega arith)) (old.words i lt);
       })
       (λ s j ne. k.slot_words s j)
 

@@ -16,8 +16,8 @@ use Rattle.mv_core.proofs.logs.Slots.{slots_after, at_else, wide_after}
 
 module _ {starts : State → Type 0} {allows : List ℕ → State → Writes → Type 0} {c : Config} {start : State} {m : Memory} {h : List Entry} (seats : ℕ → View)
     (k : Facts starts allows c start m h (parts_of seats))
-    (v : View) (is : seats v.number ≡ v) (own : v.number < c.seats) (write_max object previous position : ℕ) (b : Build) (inside : Section)
-    (may : MayLock c write_max v object previous position b inside) where
+    (v : View) (is : seats v.number ≡ v) (own : v.number < c.seats) (write_max object previous position : ℕ) (words : List ℕ) (b : Build) (inside : Section)
+    (may : MayLock c write_max v object previous position words b inside) where
   abbrev rings : ℕ → Ring
   rings s = (seats s).ring
 
@@ -28,47 +28,47 @@ module _ {starts : State → Type 0} {allows : List ℕ → State → Writes →
   slot = index_of c position
 
   abbrev x : Version
-  x = log.x seats k v is own write_max object previous position b inside may
+  x = log.x seats k v is own write_max object previous position words b inside may
 
   abbrev ring_now : Ring
-  ring_now = log.ring_now seats k v is own write_max object previous position b inside may
+  ring_now = log.ring_now seats k v is own write_max object previous position words b inside may
 
   abbrev later : ℕ → Ring
-  later = log.later seats k v is own write_max object previous position b inside may
+  later = log.later seats k v is own write_max object previous position words b inside may
 
   written : ring_now.slots ≡ slice_set (rings n).slots slot (Live x Held)
-  written = log.written seats k v is own write_max object previous position b inside may
+  written = log.written seats k v is own write_max object previous position words b inside may
 
   within : slot < length (rings n).slots
-  within = log.within seats k v is own write_max object previous position b inside may
+  within = log.within seats k v is own write_max object previous position words b inside may
 
   next_is : (rings n).next ≡ position
-  next_is = log.next_is seats k v is own write_max object previous position b inside may
+  next_is = log.next_is seats k v is own write_max object previous position words b inside may
 
   was_built : slot_at (rings n) slot ≡ Built b
-  was_built = log.was_built seats k v is own write_max object previous position b inside may
+  was_built = log.was_built seats k v is own write_max object previous position words b inside may
 
   each_live : (P : ℕ → ℕ → Version → Status → Type 0) → P n slot x Held → ((s j : ℕ) (y : Version) (st : Status) → Lives rings s j y st → P s j y st)
       → (s j : ℕ) (y : Version) (st : Status) → Lives later s j y st → P s j y st
-  each_live = log.each_live seats k v is own write_max object previous position b inside may
+  each_live = log.each_live seats k v is own write_max object previous position words b inside may
 
   lives_new : Lives later n slot x Held
-  lives_new = log.lives_new seats k v is own write_max object previous position b inside may
+  lives_new = log.lives_new seats k v is own write_max object previous position words b inside may
 
   lives_still : (s j : ℕ) (y : Version) (st : Status) → Lives rings s j y st → Lives later s j y st
-  lives_still = log.lives_still seats k v is own write_max object previous position b inside may
+  lives_still = log.lives_still seats k v is own write_max object previous position words b inside may
 
   next_here : (later n).next ≡ position + 1
-  next_here = log.next_here seats k v is own write_max object previous position b inside may
+  next_here = log.next_here seats k v is own write_max object previous position words b inside may
 
   next_else : (s : ℕ) → s ≢ n → (later s).next ≡ (rings s).next
-  next_else = log.next_else seats k v is own write_max object previous position b inside may
+  next_else = log.next_else seats k v is own write_max object previous position words b inside may
 
   kept : KeepsCommitted rings later
-  kept = log.kept seats k v is own write_max object previous position b inside may
+  kept = log.kept seats k v is own write_max object previous position words b inside may
 
   built_was : (s j : ℕ) (d : Build) → slot_at (later s) j ≡ Built d → (slot_at (rings s) j ≡ Built d) × (s ≢ n)
-  built_was = log.built_was seats k v is own write_max object previous position b inside may
+  built_was = log.built_was seats k v is own write_max object previous position words b inside may
 
   -- the log has room for its next position
   in_round : position / c.slots ≤ length h

@@ -53,43 +53,43 @@ module _ (c : Config) where
 
 module _ {starts : State → Type 0} {allows : List ℕ → State → Writes → Type 0} {c : Config} {start : State} {m : Memory} {h : List Entry} (seats : ℕ → View)
     (k : Facts starts allows c start m h (parts_of seats))
-    (v : View) (is : seats v.number ≡ v) (own : v.number < c.seats) (write_max object previous position : ℕ) (b : Build) (inside : Section)
-    (may : MayLock c write_max v object previous position b inside) where
+    (v : View) (is : seats v.number ≡ v) (own : v.number < c.seats) (write_max object previous position : ℕ) (words : List ℕ) (b : Build) (inside : Section)
+    (may : MayLock c write_max v object previous position words b inside) where
   abbrev now : Ring
-  now = (head_locked c v inside object previous position).ring
+  now = (head_locked c v object previous position words).ring
 
   abbrev y : Version
-  y = x seats k v is own write_max object previous position b inside may
+  y = x seats k v is own write_max object previous position words b inside may
 
   -- a version of the log after the step is in it
-  in_now : (j : ℕ) (z : Version) → Lives (later seats k v is own write_max object previous position b inside may) v.number j z Held
+  in_now : (j : ℕ) (z : Version) → Lives (later seats k v is own write_max object previous position words b inside may) v.number j z Held
       → slot_at now j ≡ Live z Held
   in_now j z lives =
       ap (λ (r : Ring). slot_at r j)
-      (sym (set_at_here (λ s. (seats s).ring) v.number (ring_now seats k v is own write_max object previous position b inside may))) ∙ lives
+      (sym (set_at_here (λ s. (seats s).ring) v.number (ring_now seats k v is own write_max object previous position words b inside may))) ∙ lives
 
-  pub one_more_write : OneMoreWrite c v inside object (head_locked c v inside object previous position)
+  pub one_more_write : OneMoreWrite c v object words (head_locked c v object previous position words)
   one_more_write =
       let next = may.next in
       let count : held_count now ≡ suc (held_count v.ring) = (let e = one_held_more v.ring (index_of c position) b y may.build in omega arith) in
       let first : set_first now ≡ set_first v.ring = omega arith in
       let here : write_of (slot_at now (index_of c position)) ≡ (y.object, y.words) =
-      ap write_of (in_now (index_of c position) y (lives_new seats k v is own write_max object previous position b inside may)) in
+      ap write_of (in_now (index_of c position) y (lives_new seats k v is own write_max object previous position words b inside may)) in
       let fits : set_first v.ring + held_count v.ring ≡ position =
-      by_set seats k v is own write_max object previous position b inside may
+      by_set seats k v is own write_max object previous position words b inside may
       (λ none e. (let z = holds_none v.ring (subst (λ (u : View). HoldsNothing u.ring) is none) in omega arith))
       (λ set e. (let z = set.count_is in let some = set.some in let ring_is = ap (λ (u : View). held_count u.ring) is in
       let next_is = ap (λ (u : View). u.ring.next) is in let f = set.first_is in omega arith)) in
       let same : writes_from c now (set_first v.ring) (held_count v.ring) ≡ writes_from c v.ring (set_first v.ring) (held_count v.ring) =
       writes_same c now v.ring (set_first v.ring) (held_count v.ring) (λ i lo hi.
-      by_set seats k v is own write_max object previous position b inside may
+      by_set seats k v is own write_max object previous position words b inside may
       (λ none e. absurd (let z = holds_none v.ring (subst (λ (u : View). HoldsNothing u.ring) is none) in omega arith))
       (λ set e.
       let next_is = ap (λ (u : View). u.ring.next) is in
       let a = set.at i (let f = e in omega arith) (omega arith) in
       let old : slot_at v.ring (index_of c i) ≡ Live a.0 Held = ap (λ (u : View). slot_at u.ring (index_of c i)) (sym is) ∙ a.1 in
       ap write_of (in_now (index_of c i) a.0
-      (lives_still seats k v is own write_max object previous position b inside may v.number (index_of c i) a.0 Held a.1)) ∙ ap write_of (sym old))) in (
+      (lives_still seats k v is own write_max object previous position words b inside may v.number (index_of c i) a.0 Held a.1)) ∙ ap write_of (sym old))) in (
         (λ i. writes_from c now (first i) (count i)) ∙ writes_more c now (set_first v.ring) (held_count v.ring)
             ∙ (λ i. same i ++ write_of (slot_at now (index_of c (fits i))) ∷ [])
             ∙ ap (λ (w : ℕ × List ℕ). own_of c v.ring ++ w ∷ []) here,

@@ -13,11 +13,11 @@ use Rattle.mv_core.proofs.shared.Shared.lock_head.Goals as goal
 pub link_word-link-requires-clause-position : goal.link_word-link-requires-clause-position
 link_word-link-requires-clause-position g c =
     let may = c.requires.1.1.1.0 in
-    ∥∥₁_elim c.args.pass.now.known le_prop (λ a. subst (λ (n : ℕ). n < 2 ^ 57) (sym may.next) (a.next _ g.what.0 may.build))
+    ∥∥₁_elim c.args.pass.now.known le_prop (λ a. subst (λ (n : ℕ). n < 2 ^ 57) (sym may.next) (a.next _ g.what.1 may.build))
 
 pub swap_alone-found-requires-clause-rule : goal.swap_alone-found-requires-clause-rule
 swap_alone-found-requires-clause-rule g c =
-    lock_swaps _ _ _ _ (view c.args.pass.now) _ c.args.object c.args.previous c.args.position g.what.0 g.what.1 c.requires.1.1.1.0 _
+    lock_swaps _ _ _ _ (view c.args.pass.now) _ c.args.object c.args.previous c.args.position g.what.0 g.what.1 g.what.2 c.requires.1.1.1.0 _
     (c.link_word-link.ensures.word ∙ ap (λ s. link_of s c.args.position) c.args.pass.now.numbered)
 
 pub swap_alone-found-requires-clause-moves : goal.swap_alone-found-requires-clause-moves

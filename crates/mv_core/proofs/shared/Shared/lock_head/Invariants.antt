@@ -9,8 +9,8 @@ abbrev pub ghosts-swap_alone : goal.ghosts-swap_alone
 ghosts-swap_alone g a = record {
   config = config_of a.shared.now;
   place = Head a.about.now.0;
-  tells = λ n w. LockTold (config_of a.shared.now) a.seat.now.me.0 g.what.1 a.about.now.0 a.about.now.1 a.about.now.2 n w
-      × (n ≡ a.about.now.1 → OneMoreWrite (config_of a.shared.now) a.seat.now.me.0 g.what.1 a.about.now.0 w)
+  tells = λ n w. LockTold (config_of a.shared.now) a.seat.now.me.0 a.about.now.0 a.about.now.1 a.about.now.2 g.what.0 n w
+      × (n ≡ a.about.now.1 → OneMoreWrite (config_of a.shared.now) a.seat.now.me.0 a.about.now.0 g.what.0 w)
       × (n ≢ a.about.now.1 → IsLinkOf (config_of a.shared.now) n × (n ≢ 0 → link_seat_of n ≢ a.seat.now.me.0.number));
-  kind = lock_head a.about.now.0 a.about.now.1 a.about.now.2 g.what.0 g.what.1;
+  kind = lock_head a.about.now.0 a.about.now.1 a.about.now.2 g.what.0 g.what.1 g.what.2;
 }

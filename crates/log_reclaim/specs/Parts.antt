@@ -2,8 +2,8 @@
 use Rattle.std.specs.Prelude.{◌≡◌, ◌≢◌, ℕ, ◌+◌, ◌<◌, ◌≤◌, max, Bool, false, List, ◌∷◌, ◌++◌, length, Contains, All, Some, None}
 use Rattle.mv_history.specs.declared.Step.{Step}
 use Rattle.mv_history.specs.declared.StepKind.{StepKind}
-use Rattle.mv_history.specs.declared.StepKind.TheVariants.{LoadScan, LoadMark, RaiseGrace, LoadGrace, StoreFree, LoadHead, LockHead, UnlockHead, CutHead, LoadSuper}
-use Rattle.mv_history.specs.declared.StepKind.TheVariants.{LoadDeath, NameCommit, NameRest}
+use Rattle.mv_history.specs.declared.StepKind.TheVariants.{LoadScan, LoadMark, RaiseGrace, LoadGrace, StoreFree, LoadHead, CutHead, LoadSuper}
+use Rattle.mv_history.specs.declared.StepKind.TheVariants.{LockHead, UnlockHead, LoadDeath, NameCommit, NameRest}
 use Rattle.mv_layout.specs.declared.Config.{Config}
 use Rattle.mv_layout.specs.declared.Place.TheVariants.{Grace, Head, Super}
 use Rattle.mv_layout.specs.Places.{place_of}

@@ -7,9 +7,8 @@ ghost use Rattle.set_seats.specs.Opening.{AreOpened, HasObjects, MayShare, Refus
 
 use crate::seat::SetSeat;
 use crate::single::Remembered;
-use mv_history::{WORDS, Words};
 use mv_layout::{Config, ConfigFault};
-use mvrlu::{Domain, Seat, open};
+use mvrlu::{Domain, Seat, open_zeros};
 use set_blocks::BlockRules;
 use set_catalog::Hints;
 use std::alloc::{AllocError, Global};
@@ -106,8 +105,7 @@ fn open_sets(
     requires objects { (180 < config.objects) × (config.objects ≤ 65535) }
     ensures { IfOk result (λ r. IsOpened config (replicate config.objects no_words) r.0 r.1.items) }
 {
-    let start = zeros(alloc, config.objects as usize)?;
-    match open(alloc, config, &start) {
+    match open_zeros(alloc, config) {
         Ok(opened) => Ok(opened),
         Err(_) => Err(AllocError),
     }
@@ -180,11 +178,4 @@ fn let_all_go(mut seats: Vec<Seat<BlockRules>>) {
         seat.let_go();
     }
     seats.destroy_empty();
-}
-
-// So many objects of zeros. The number is a variable here, since a proof would compute a list of a literal length.
-fn zeros(alloc: Global, count: usize) -> Result<Vec<Words>, AllocError>
-    ensures { IfOk result (λ objects. objects.items ≡ replicate count no_words) }
-{
-    vec![in alloc; [0; WORDS]; count]
 }

@@ -1,6 +1,6 @@
 -- A section that gave up what it held may end, and so it has when its mark is cleared.
 use Rattle.std.proofs.Common.{◌≡◌, ◌≢◌, ℕ, zero, suc, ◌+◌, List, [], ◌∷◌, ◌++◌, length, refl, sym, ap, ◌∙◌, subst, ⊎_elim, arith}
-use Rattle.std.proofs.Common.{append-nil, append_assoc, length-append, All, Some, None}
+use Rattle.std.proofs.Common.{append-nil, append_assoc, length-append, ◌==◌, if◌then◌else◌, ◌&&◌, Bool, true, false, is_some, All, Some, None}
 use Rattle.std.proofs.lemmas.List.Elements.{All-push, All-weaker}
 use Rattle.mv_history.specs.declared.Step.{Step}
 use Rattle.mv_history.specs.declared.StepKind.{StepKind}
@@ -26,10 +26,11 @@ use Rattle.mv_core.proofs.kinds.locking.lock_head.LockedLog.{none_held}
 use Rattle.mv_core.proofs.logs.Links.{live_once}
 use Rattle.seat_log.specs.declared.version.Note.{Note}
 use Rattle.seat_log.specs.Notes.{Noted, aborted_noted}
-use Rattle.seat_log.specs.Stands.{is_free, is_won_cut, Stands}
+use Rattle.seat_log.specs.Stands.{is_free_kind, is_cut_kind, is_lock_kind, is_unlock_kind, is_free, is_won_cut, is_won_lock, is_unlock, aborts_in, Stands}
 use Rattle.seat_log.proofs.BuildsOn.{unpassed}
 use Rattle.seat_log.proofs.NotedSlots.{noted_in, held_last}
-use Rattle.seat_log.proofs.PlainSteps.{kind_leaves, frees_left, cuts_left}
+use Rattle.seat_log.proofs.Noting.{abort_counts}
+use Rattle.seat_log.proofs.StepCounts.{none_more, ends_last, aborts_kept, aborts_more}
 use Rattle.seat_log.proofs.Ended.{HasEnded, ends_same}
 use Rattle.seat_log.proofs.Aborts.{HasUnlocked, abort_ends, nothing_ends, stands_aborted}
 use Rattle.commit_abort.specs.Aborts.{Unlocks, IsAbortStep, Aborts, abort_cost}
@@ -63,14 +64,39 @@ module _ (c : Config) (v : View) (l : Noted) (inside : Section) (k : Stands c v 
 
   unlocked : HasUnlocked v y
   unlocked =
-      let leaves = kind_leaves UnlockHead (refl, refl) u.trail.0 u.trail.3 in record {
+      let unpassed_all : (test : StepKind → Bool) → test UnlockHead ≡ false → All (λ s. test s.kind ≡ false) u.trail.0 =
+      λ test none. All-weaker (λ s. s.kind ≡ UnlockHead) (λ s. test s.kind ≡ false) (λ s e. ap test e ∙ none) u.trail.0 u.trail.3 in
+      let unwon : (test : StepKind → Bool) → test UnlockHead ≡ false → All (λ s. (test s.kind && is_some s.stored) ≡ false) u.trail.0 =
+      λ test none.
+      All-weaker (λ s. test s.kind ≡ false) (λ s. (test s.kind && is_some s.stored) ≡ false) (λ s e. ap (λ b. b && is_some s.stored) e) u.trail.0
+      (unpassed_all test none) in record {
         number = ap (λ (q : View). q.number) u.kept;
         next = u.next;
         wide = u.wide;
         each = u.more;
-        frees = frees_left v.trail y.trail u.trail.0 u.trail.1 leaves;
-        backs = cuts_left v.trail y.trail u.trail.0 u.trail.1 leaves;
+        frees = none_more is_free v.trail y.trail u.trail.0 u.trail.1 (unpassed_all is_free_kind refl);
+        backs = none_more is_won_cut v.trail y.trail u.trail.0 u.trail.1 (unwon is_cut_kind refl);
+        locks = none_more is_won_lock v.trail y.trail u.trail.0 u.trail.1 (unwon is_lock_kind refl);
       }
+
+  -- each of the steps gives an object up
+  all_unlock : All (λ s. is_unlock s ≡ true) u.trail.0
+  all_unlock = All-weaker (λ s. s.kind ≡ UnlockHead) (λ s. is_unlock s ≡ true) (λ s e. ap is_unlock_kind e) u.trail.0 u.trail.3
+
+  -- with something held they are one abort
+  one_abort : l.held ≢ 0 → aborts_in y.trail ≡ aborts_in v.trail + 1
+  one_abort some =
+      let made = u.trail.2 in
+      let few = k.log.held in
+      aborts_more v.trail y.trail u.trail.0 u.trail.1 (λ none. let long = ap length none in some (omega arith)) all_unlock k.settled
+
+  -- and with nothing held there are none
+  no_abort : l.held ≡ 0 → y.trail ≡ v.trail
+  no_abort none = let made = u.trail.2 in let few = k.log.held in no_steps u.trail.0 u.trail.1 (omega arith)
+    where
+      no_steps : (steps : List Step) → y.trail ≡ v.trail ++ steps → length steps ≡ 0 → y.trail ≡ v.trail
+      no_steps [] is long = is ∙ append-nil v.trail
+      no_steps (s ∷ steps) is long = absurd (omega arith)
 
   past_same : y.past ≡ v.past
   past_same = ap (λ (q : View). q.past) u.kept
@@ -131,12 +157,15 @@ module _ (c : Config) (v : View) (l : Noted) (inside : Section) (k : Stands c v 
           u.kept;
     }
 
-    pub stands_timed : Stands c z (aborted_noted l dead)
-    stands_timed =
+    pub stands_timed : l.held ≢ 0 → Stands c z (aborted_noted l dead)
+    stands_timed some =
         let ended = ends_same v x z (λ n. record n { dead = clock_time_of word + 1 }) ends refl refl
-        (unpassed is_free x.trail _ refl) (unpassed is_won_cut x.trail _ refl) in
+        (unpassed is_free x.trail _ refl) (unpassed is_won_cut x.trail _ refl) (unpassed is_won_lock x.trail _ refl) in
+        let told : (aborted_noted l (clock_time_of word + 1)).aborts ≡ aborts_in z.trail =
+        abort_counts l some ∙ ap (λ n. n + 1) k.aborts ∙ sym (one_abort some) ∙ sym (aborts_kept y.trail load refl) ∙ sym (aborts_kept x.trail clear refl) in
         subst (λ d. Stands c z (aborted_noted l d)) (sym dead_is)
-        (stands_aborted c v z l (clock_time_of word + 1) k ended unbuilt (ap (λ p. p.mine) past_same) (ap (λ p. p.rests) past_same))
+        (stands_aborted c v z l (clock_time_of word + 1) k ended unbuilt (ap (λ p. p.mine) past_same) (ap (λ p. p.rests) past_same) told
+        (ends_last x.trail clear))
 
   -- with nothing held: only the mark was cleared
   module _ (none : l.held ≡ 0) where
@@ -184,8 +213,11 @@ module _ (c : Config) (v : View) (l : Noted) (inside : Section) (k : Stands c v 
     stands_none dead =
         let f : Note → Note = λ n. record n { dead = dead } in
         let ended = ends_same v y z0 f (nothing_ends v y f unlocked (none_held v.ring (k.held ∙ none))) refl refl
-        (unpassed is_free y.trail _ refl) (unpassed is_won_cut y.trail _ refl) in
-        stands_aborted c v z0 l dead k ended unbuilt (ap (λ p. p.mine) past_same) (ap (λ p. p.rests) past_same)
+        (unpassed is_free y.trail _ refl) (unpassed is_won_cut y.trail _ refl) (unpassed is_won_lock y.trail _ refl) in
+        let kept : (aborted_noted l dead).aborts ≡ l.aborts = ap (λ (n : ℕ). if n == 0 then l.aborts else l.aborts + 1) none in
+        let told : (aborted_noted l dead).aborts ≡ aborts_in z0.trail =
+        kept ∙ k.aborts ∙ ap aborts_in (sym (no_abort none)) ∙ sym (aborts_kept y.trail clear0 refl) in
+        stands_aborted c v z0 l dead k ended unbuilt (ap (λ p. p.mine) past_same) (ap (λ p. p.rests) past_same) told (ends_last y.trail clear0)
 
   -- the same, by what the code has of the views
   pub clear_timed : (x : View) (word : ℕ) → (h : List Entry) × IsWhole c y word h × (x ≡ death_loaded c y word h) → MayClearMark x
@@ -197,7 +229,7 @@ module _ (c : Config) (v : View) (l : Noted) (inside : Section) (k : Stands c v 
       let at : z ≡ mark_cleared c (death_loaded c y word t.0) = is ∙ ap (mark_cleared c) t.2 in (
         subst (λ (q : View). Aborts v q (abort_cost l.held)) (sym at)
             (subst (λ (n : ℕ). Aborts v (mark_cleared c (death_loaded c y word t.0)) n) (sym (cost_some l.held some)) (aborts_timed word dead t.0 t.1 dead_is)),
-        subst (Stands c z) (sym noted) (subst (λ (q : View). Stands c q (aborted_noted l dead)) (sym at) (stands_timed word dead t.0 t.1 dead_is)),
+        subst (Stands c z) (sym noted) (subst (λ (q : View). Stands c q (aborted_noted l dead)) (sym at) (stands_timed word dead t.0 t.1 dead_is some)),
       )
 
   pub ended_none : (z : View) (m : Noted) (dead : ℕ) → l.held ≡ 0 → z ≡ mark_cleared c y → m ≡ aborted_noted l dead

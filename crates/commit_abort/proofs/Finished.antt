@@ -32,7 +32,8 @@ use Rattle.seat_log.specs.declared.version.Note.{Note}
 use Rattle.seat_log.specs.Notes.{Noted, held_from, IsNoteAt, committed_noted}
 use Rattle.seat_log.specs.Stands.{version_of, Stands}
 use Rattle.seat_log.proofs.NotedSlots.{noted_in, held_last, held_at}
-use Rattle.seat_log.proofs.PlainSteps.{LeavesLog, frees_left, cuts_left}
+use Rattle.seat_log.proofs.PlainSteps.{LeavesLog, ArePlain, all_plain, frees_left, cuts_left, locks_left}
+use Rattle.seat_log.proofs.StepCounts.{KeepsLocks, keeps_one, keeps_then}
 use Rattle.seat_log.proofs.Ended.{HasEnded}
 use Rattle.seat_log.proofs.Commits.{commit_ends, ends_linked, stands_committed}
 use Rattle.commit_abort.specs.Finishes.{WonNaming, first_of_mode, first_named, IsJustNamed, HasNamed, StampsIt, AreCommitted, IsLinkedToo, Tells}
@@ -169,9 +170,12 @@ module _ (c : Config) (w : View) (l : Noted) (won : WonNaming) (k : IsJustNamed 
       same_number : z.number ≡ w.number
       same_number = ap (λ (u : View). u.number) tells.kept ∙ ap (λ (u : View). u.number) st.rest
 
+      are_plain : ArePlain steps
+      are_plain = all_plain steps (all_steps LeavesLog (refl, refl) (refl, refl) (refl, refl))
+
       has_ended : HasEnded v z (λ n. record n { time = t })
       has_ended =
-          let leaves = all_steps LeavesLog (refl, refl) (refl, refl) (refl, refl) in
+          let leaves = are_plain in
           ends_linked v w z (λ n. record n { time = t })
           (subst (λ (u : View). HasEnded v u (λ n. record n { time = t })) (sym k.named) (commit_ends c v won.inside won.tag won.word won.history))
           same_number
@@ -180,16 +184,22 @@ module _ (c : Config) (w : View) (l : Noted) (won : WonNaming) (k : IsJustNamed 
           (λ j. subst (λ (s : Slot). IsLinkedToo s (slot_at y.ring j)) (ap (λ r. slot_at r j) same_ring) (tells.more j))
           (frees_left w.trail z.trail steps trail_is leaves)
           (cuts_left w.trail z.trail steps trail_is leaves)
+          (locks_left w.trail z.trail steps trail_is leaves).locks
 
       pub stands_after : Stands c z (committed_noted l t)
       stands_after =
           let past : z.past ≡ w.past = ap (λ (u : View). u.past) tells.kept ∙ ap (λ (u : View). u.past) st.rest in
           let named : w.past ≡ (commit_named c v won.inside won.tag won.word won.history).past = ap (λ (u : View). u.past) k.named in
+          let one : KeepsLocks v.trail (commit_named c v won.inside won.tag won.word won.history).trail = keeps_one v.trail _ refl refl in
+          let keeps : KeepsLocks v.trail z.trail =
+          keeps_then v.trail w.trail z.trail (subst (λ (u : View). KeepsLocks v.trail u.trail) (sym k.named) one)
+          (locks_left w.trail z.trail steps trail_is are_plain) in
           stands_committed c v z l t k.stands has_ended some_held k.unbuilt
           (commit_of c v won.inside won.tag)
           (ap (λ p. p.mine) past ∙ ap (λ p. p.mine) named)
           (writes_length c v.ring (set_first v.ring) (held_count v.ring) ∙ k.stands.held)
           (ap (λ p. p.rests) past ∙ ap (λ p. p.rests) named)
+          keeps
 
   -- the same, by what the code has of the time, of the first position and of the section
   module _ (time first : ℕ) (time_is : time ≡ t) (at : first ≡ set_first v.ring) where

@@ -35,7 +35,8 @@ pub record IsOpen (v : View) (inside : Section) : Type 0 where
 abbrev pub IsAbortedToo : Slot → Slot → Type 0
 IsAbortedToo a b = (b ≡ a) ⊎ ((x : Version) × (a ≡ Live x Held) × (b ≡ Live x (Aborted None)))
 
--- HEAD was given back of each of the held versions before this place in the log, and nothing else changed but how far the section is, and the trail
+-- HEAD was given back of each of the held versions before this place in the log, by one step each, and nothing else changed but how far the
+-- section is, and the trail
 pub record Unlocks (c : Config) (v w : View) (l : Noted) (inside : Section) (i : ℕ) : Type 0 where
   pub inside_now : Section
   pub phase : w.phase ≡ Inside inside_now
@@ -46,7 +47,7 @@ pub record Unlocks (c : Config) (v w : View) (l : Noted) (inside : Section) (i :
   pub more : (k : ℕ) → IsAbortedToo (slot_at v.ring k) (slot_at w.ring k)
   pub gone : (j : ℕ) → held_from l ≤ j → j < i → (x : Version) × (slot_at w.ring (index_of c (l.freed + j)) ≡ Live x (Aborted None))
   pub left : (j : ℕ) → i ≤ j → j < length l.live → slot_at w.ring (index_of c (l.freed + j)) ≡ slot_at v.ring (index_of c (l.freed + j))
-  pub trail : (steps : List Step) × (w.trail ≡ v.trail ++ steps) × (length steps + held_from l ≤ i) × All (λ s. s.kind ≡ UnlockHead) steps
+  pub trail : (steps : List Step) × (w.trail ≡ v.trail ++ steps) × (length steps + held_from l ≡ i) × All (λ s. s.kind ≡ UnlockHead) steps
 
 -- a slot of the own log, the held version that it has, and the section that holds it
 pub record HeldSlot : Type 0 where

@@ -18,7 +18,7 @@ use Rattle.seat_log.specs.Notes.{Noted, IsLog}
 use Rattle.seat_log.specs.Frees.{OldestIsDead, FreesSet, freed_noted, slots_freed}
 use Rattle.seat_log.proofs.FreedLogs.{few_freed}
 use Rattle.seat_log.proofs.NotedSlots.{note_there}
-use Rattle.log_reclaim.specs.Parts.{NamesNoCommit, IsOtherKind}
+use Rattle.log_reclaim.specs.Parts.{IsReclaimKind, IsOtherKind}
 use Rattle.log_reclaim.specs.Tries.{Makes}
 use Rattle.log_reclaim.specs.Rounds.{FreesAll}
 use Rattle.log_reclaim.proofs.Reclaiming.{reclaims_outside, makes_none, makes_on, reclaims_may, reclaims_still}
@@ -68,7 +68,7 @@ frees_makes v w steps count may still k =
           (ap (λ (x : View). x.past.mine) e)
           (let same : w.grace ≡ v.grace = ap (λ (x : View). x.grace) e in omega arith)
           k.trail
-          (free_kind NamesNoCommit tt steps k.kinds);
+          (free_kind IsReclaimKind tt steps k.kinds);
       rests = ap (λ (x : View). x.past.rests) e;
       kinds = free_kind IsOtherKind tt steps k.kinds;
     }

@@ -8,7 +8,7 @@ use Rattle.mv_core.specs.declared.view.Walk.TheVariants.{Nowhere}
 use Rattle.mv_core.specs.HistoryFacts.{BeginsWith}
 use Rattle.mv_core.specs.EnterSteps.{MayLoadLow}
 use Rattle.mv_core.proofs.history.Fronts.{begins_by, begins_long}
-use Rattle.log_reclaim.specs.Parts.{NamesNoCommit, IsOtherKind, Reclaims}
+use Rattle.log_reclaim.specs.Parts.{IsReclaimKind, IsOtherKind, Reclaims}
 use Rattle.log_reclaim.specs.Tries.{Makes}
 
 -- steps outside a section that change only what was seen, the clock words that were loaded, the rests, the HEADs found empty, the
@@ -16,7 +16,7 @@ use Rattle.log_reclaim.specs.Tries.{Makes}
 pub reclaims_outside : (v w : View) (made : List Step) → MayLoadLow v → (v.walk ≡ Nowhere) × (v.back ≡ None)
     → w ≡ record v { past = w.past; clocks = w.clocks; empty = w.empty; ring = w.ring; grace = w.grace; trail = w.trail }
     → BeginsWith w.past.seen v.past.seen → w.past.mine ≡ v.past.mine → v.grace ≤ w.grace → w.trail ≡ v.trail ++ made
-    → All (λ s. NamesNoCommit s.kind) made → Reclaims v w made
+    → All (λ s. IsReclaimKind s.kind) made → Reclaims v w made
 reclaims_outside v w made may still is seen mine grace trail kinds = record {
   outside = ap (λ (x : View). x.phase) is ∙ may.outside;
   no_scan = ap (λ (x : View). x.scan) is ∙ may.no_scan;
@@ -43,7 +43,7 @@ reclaims_outside v w made may still is seen mine grace trail kinds = record {
 pub reclaims_none : (v : View) → MayLoadLow v → (v.walk ≡ Nowhere) × (v.back ≡ None) → Reclaims v v []
 reclaims_none v may still =
     reclaims_outside v v [] may still refl ([], sym (append-nil v.past.seen)) refl (let e : v.grace ≤ v.grace = omega arith in e)
-    (sym (append-nil v.trail)) (All-nil (λ s. NamesNoCommit s.kind))
+    (sym (append-nil v.trail)) (All-nil (λ s. IsReclaimKind s.kind))
 
 pub makes_none : (v : View) → MayLoadLow v → (v.walk ≡ Nowhere) × (v.back ≡ None) → Makes v v []
 makes_none v may still = record { reclaims = reclaims_none v may still; rests = refl; kinds = All-nil (λ s. IsOtherKind s.kind) }
@@ -57,7 +57,7 @@ reclaims_on v u w made more a b = record {
   mine = b.mine ∙ a.mine;
   grace = (let first = a.grace in let then = b.grace in omega arith);
   trail = b.trail ∙ ap (λ l. l ++ more) a.trail ∙ append_assoc v.trail made more;
-  kinds = All-append (λ s. NamesNoCommit s.kind) made more a.kinds b.kinds;
+  kinds = All-append (λ s. IsReclaimKind s.kind) made more a.kinds b.kinds;
   rest = b.rest
       ∙ ap
       (λ (x : View).

@@ -34,7 +34,7 @@ use Rattle.seat_log.specs.Notes.{Noted, rest_noted}
 use Rattle.seat_log.specs.Stands.{Stands}
 use Rattle.seat_log.proofs.PlainSteps.{LeavesLog, kinds_leave, help_leaves, stands_left}
 use Rattle.seat_log.proofs.Rested.{rests_room, stands_rested, stands_unrested}
-use Rattle.log_reclaim.specs.Parts.{NamesNoCommit, BeginsNoScan, LeavesClock, Reclaims}
+use Rattle.log_reclaim.specs.Parts.{IsReclaimKind, BeginsNoScan, LeavesClock, Reclaims}
 use Rattle.log_reclaim.specs.Tidies.{IsAnyAbove, RestsSo}
 use Rattle.log_reclaim.proofs.Exchanges.{none_exchanged, one_last}
 use Rattle.log_reclaim.proofs.Reclaiming.{reclaims_outside}
@@ -55,8 +55,8 @@ rest_kind P named check swap rest SwapStamp h = swap
 rest_kind P named check swap rest NameRest h = rest
 rest_kind P named check swap rest _ h = absurd h
 
-names_none : (k : StepKind) → IsRestStep k → NamesNoCommit k
-names_none = rest_kind NamesNoCommit tt tt tt tt
+names_none : (k : StepKind) → IsRestStep k → IsReclaimKind k
+names_none = rest_kind IsReclaimKind tt tt tt tt
 
 begins_none : (k : StepKind) → IsRestStep k → BeginsNoScan k
 begins_none = rest_kind BeginsNoScan tt tt tt tt
@@ -97,7 +97,7 @@ module _ (c : Config) (v : View) (may : MayLoadLow v) (still : (v.walk ≡ Nowhe
       reclaims_outside v w made may still
       (ap (λ (u : View). record u { past = w.past; clocks = w.clocks; empty = w.empty; ring = w.ring; grace = w.grace; trail = w.trail }) k.rest)
       k.seen k.mine (let e = ap (λ (u : View). u.grace) k.rest in omega arith) k.trail
-      (All-weaker (λ (s : Step). IsRestStep s.kind) (λ s. NamesNoCommit s.kind) (λ s. names_none s.kind) made k.kinds)
+      (All-weaker (λ (s : Step). IsRestStep s.kind) (λ s. IsReclaimKind s.kind) (λ s. names_none s.kind) made k.kinds)
 
   -- nothing was done: the last time was seen, or no version is dead only from above
   pub rests_none : (starts : State → Type 0) (allows : List ℕ → State → Writes → Type 0) (l : Noted) (latest : ℕ) → ∥ Known starts allows v ∥₁

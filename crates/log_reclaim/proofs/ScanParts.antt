@@ -17,7 +17,7 @@ use Rattle.reader_marks.specs.Scans.{Scans, scan_step, grace_step, mark_steps, s
 use Rattle.seat_log.specs.Notes.{Noted}
 use Rattle.seat_log.specs.Stands.{Stands}
 use Rattle.seat_log.proofs.PlainSteps.{LeavesLog, stands_left}
-use Rattle.log_reclaim.specs.Parts.{NamesNoCommit, BeginsNoScan, LeavesClock, IsOtherKind, IsPlainKind, Reclaims, HasScanned, grace_load}
+use Rattle.log_reclaim.specs.Parts.{IsReclaimKind, BeginsNoScan, LeavesClock, IsOtherKind, IsPlainKind, Reclaims, HasScanned, grace_load}
 use Rattle.log_reclaim.specs.Tries.{Makes}
 use Rattle.mv_core.proofs.history.Fronts.{begins_long}
 use Rattle.log_reclaim.proofs.Reclaiming.{reclaims_outside}
@@ -35,7 +35,7 @@ module _ (c : Config) (v w : View) (found : ℕ) (is : w ≡ grace_loaded c v fo
         (ap (λ (x : View). x.past.mine) is)
         (let e : w.grace ≡ max v.grace found = ap (λ (x : View). x.grace) is in omega arith)
         (ap (λ (x : View). x.trail) is)
-        (one_kind NamesNoCommit (grace_load c found) tt);
+        (one_kind IsReclaimKind (grace_load c found) tt);
     rests = ap (λ (x : View). x.past.rests) is;
     kinds = one_kind IsOtherKind (grace_load c found) tt;
   }
@@ -94,7 +94,7 @@ module _ (c : Config) (v w : View) (mark : Watermark) (clock before after : ℕ)
         mine = ap (λ (x : View). x.past.mine) is;
         grace = (let e : w.grace ≡ max (max v.grace mark.low) k.found = ap (λ (x : View). x.grace) is in omega arith);
         trail = ap (λ (x : View). x.trail) is;
-        kinds = steps_all NamesNoCommit tt tt tt;
+        kinds = steps_all IsReclaimKind tt tt tt;
         rest = is
             ∙ (λ i. record v {
               past = sym (ap (λ (x : View). x.past) is) i;

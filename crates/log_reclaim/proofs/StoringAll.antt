@@ -23,7 +23,7 @@ use Rattle.log_reclaim.specs.declared.writing_back.BackEnd.{BackEnd}
 use Rattle.log_reclaim.specs.declared.writing_back.BackEnd.TheVariants.{Cut, Above}
 use Rattle.log_reclaim.specs.Backs.{IsWriting, StoresWord, IsCutAt, IsUncut, FinishesSo}
 use Rattle.mv_core.specs.Tops.{NamesNewer}
-use Rattle.log_reclaim.specs.Parts.{NamesNoCommit, IsOtherKind, FindsSeat, FindsTop}
+use Rattle.log_reclaim.specs.Parts.{IsReclaimKind, IsOtherKind, FindsSeat, FindsTop}
 use Rattle.log_reclaim.specs.Tries.{StoresAll}
 use Rattle.log_reclaim.proofs.Visits.{IsPlain}
 
@@ -85,7 +85,7 @@ module _ (c : Config) (v w : View) (b d : Back) (count before after : ℕ) (k : 
       }
 
   plain : All IsPlain k.made
-  plain = All-weaker IsStore IsPlain (λ s e. subst (λ (kind : StepKind). NamesNoCommit kind × IsOtherKind kind) (sym e) (tt, tt)) k.made k.kinds
+  plain = All-weaker IsStore IsPlain (λ s e. subst (λ (kind : StepKind). IsReclaimKind kind × IsOtherKind kind) (sym e) (tt, tt)) k.made k.kinds
 
   -- the log stands for the pass
   pub stands_stored : (l : Noted) → Stands c v l → Stands c w l

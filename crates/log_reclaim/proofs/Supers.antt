@@ -26,7 +26,7 @@ use Rattle.seat_log.specs.Notes.{Noted, IsLive, retired}
 use Rattle.seat_log.specs.Stands.{version_of, Stands}
 use Rattle.seat_log.specs.Builds.{note_in}
 use Rattle.seat_log.proofs.Retired.{committed_at, may_load_super, noted_live, stands_found, stands_unfound}
-use Rattle.log_reclaim.specs.Parts.{NamesNoCommit, IsOtherKind, super_load}
+use Rattle.log_reclaim.specs.Parts.{IsReclaimKind, IsOtherKind, super_load}
 use Rattle.log_reclaim.specs.Tries.{IsUntimed, Makes, LoadsSuper}
 use Rattle.log_reclaim.proofs.Idle.{still_of}
 
@@ -111,7 +111,7 @@ module _ (c : Config) (v : View) (l : Noted) (position : ℕ) (n : Note) (k : St
               mine = refl;
               grace = (let e : v.grace ≤ v.grace = omega arith in e);
               trail = refl;
-              kinds = All-cons (λ s. NamesNoCommit s.kind) step [] tt (All-nil (λ s. NamesNoCommit s.kind));
+              kinds = All-cons (λ s. IsReclaimKind s.kind) step [] tt (All-nil (λ s. IsReclaimKind s.kind));
               rest = λ i. record x { phase = may.outside i; walk = still.0 i; back = still.1 i; scan = may.no_scan i };
             };
             rests = refl;

@@ -25,15 +25,16 @@ use Rattle.reader_marks.proofs.EnterKinds.{enter_kind}
 use Rattle.seat_log.specs.Notes.{Noted}
 use Rattle.seat_log.specs.Stands.{is_free, is_won_cut, Stands}
 use Rattle.seat_log.proofs.BuildsOn.{unpassed}
+use Rattle.seat_log.proofs.StepCounts.{keeps_one}
 use Rattle.seat_log.proofs.Stays.{stands_same}
 use Rattle.seat_log.proofs.PlainSteps.{stands_entered, stands_unmarked}
-use Rattle.log_reclaim.specs.Parts.{NamesNoCommit, IsOtherKind, FindsTop}
+use Rattle.log_reclaim.specs.Parts.{IsReclaimKind, IsOtherKind, FindsTop}
 use Rattle.log_reclaim.specs.Backs.{HasLooked}
 use Rattle.log_reclaim.specs.Tries.{Makes}
 
 -- a step that names no commit, is no other exchange on CLOCK, and begins no scan
 abbrev pub IsPlain : Step → Type 0
-IsPlain s = NamesNoCommit s.kind × IsOtherKind s.kind
+IsPlain s = IsReclaimKind s.kind × IsOtherKind s.kind
 
 -- plain steps that end outside a section are a part of a reclaiming call
 pub section_makes : (v w : View) (made : List Step) → MayLoadLow v → w.phase ≡ Outside → BeginsWith w.past.seen v.past.seen
@@ -58,7 +59,7 @@ section_makes v w made may outside seen trail kinds rest =
         mine = ap (λ (x : View). x.past.mine) rest;
         grace = omega arith;
         trail = trail;
-        kinds = All-weaker IsPlain (λ s. NamesNoCommit s.kind) (λ s p. p.0) made kinds;
+        kinds = All-weaker IsPlain (λ s. IsReclaimKind s.kind) (λ s p. p.0) made kinds;
         rest = rest
             ∙ (λ i. record v {
               past = past i;
@@ -101,7 +102,7 @@ module _ (c : Config) (v w : View) (object link : ℕ) (h : HasLooked c v w obje
   looked_plain =
       All-append IsPlain h.begins.entered.steps (head_step ∷ [])
       (All-weaker (λ (s : Step). IsEnterStep s.kind) IsPlain
-      (λ s. enter_kind (λ k. NamesNoCommit k × IsOtherKind k) (tt, tt) (tt, tt) (tt, tt) (tt, tt) (tt, tt) (tt, tt) s.kind) h.begins.entered.steps
+      (λ s. enter_kind (λ k. IsReclaimKind k × IsOtherKind k) (tt, tt) (tt, tt) (tt, tt) (tt, tt) (tt, tt) (tt, tt) s.kind) h.begins.entered.steps
       h.begins.entered.kinds)
       (All-cons IsPlain head_step [] (tt, tt) (All-nil IsPlain))
 
@@ -139,7 +140,7 @@ module _ (c : Config) (v w : View) (object link : ℕ) (h : HasLooked c v w obje
   pub looked_stands : (l : Noted) → Stands c v l → Stands c w l
   looked_stands l k =
       subst (λ (y : View). Stands c y l) (sym h.looked)
-      (stands_same c e x l refl refl refl refl (unpassed is_free e.trail _ refl) (unpassed is_won_cut e.trail _ refl)
+      (stands_same c e x l refl refl refl refl (unpassed is_free e.trail _ refl) (unpassed is_won_cut e.trail _ refl) (keeps_one e.trail _ refl refl)
       (stands_entered c v e l h.time h.begins k))
 
   -- the time of the section isn't below any that was seen before

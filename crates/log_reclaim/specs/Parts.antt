@@ -3,7 +3,7 @@ use Rattle.std.specs.Prelude.{◌≡◌, ◌≢◌, ℕ, ◌+◌, ◌<◌, ◌�
 use Rattle.mv_history.specs.declared.Step.{Step}
 use Rattle.mv_history.specs.declared.StepKind.{StepKind}
 use Rattle.mv_history.specs.declared.StepKind.TheVariants.{LoadScan, LoadMark, RaiseGrace, LoadGrace, StoreFree, LoadHead, CutHead, LoadSuper}
-use Rattle.mv_history.specs.declared.StepKind.TheVariants.{LoadDeath, NameCommit, NameRest}
+use Rattle.mv_history.specs.declared.StepKind.TheVariants.{LockHead, UnlockHead, LoadDeath, NameCommit, NameRest}
 use Rattle.mv_layout.specs.declared.Config.{Config}
 use Rattle.mv_layout.specs.declared.Place.TheVariants.{Grace, Head, Super}
 use Rattle.mv_layout.specs.Places.{place_of}
@@ -20,10 +20,12 @@ use Rattle.reader_marks.specs.Scans.{IsLowest, named_by, scan_steps}
 use Rattle.seat_log.specs.declared.version.Note.{Note}
 use Rattle.seat_log.specs.Notes.{Noted, IsNoteAt}
 
--- a kind of step that reclaiming may make: no exchange that names a commit
-abbrev pub NamesNoCommit : StepKind → Type 0
-NamesNoCommit NameCommit = ⊥
-NamesNoCommit _ = Unit {0}
+-- a kind of step that reclaiming may make: it names no commit, locks no object and gives none up
+abbrev pub IsReclaimKind : StepKind → Type 0
+IsReclaimKind LockHead = ⊥
+IsReclaimKind UnlockHead = ⊥
+IsReclaimKind NameCommit = ⊥
+IsReclaimKind _ = Unit {0}
 
 -- a step of another kind than the load of CLOCK that begins a scan
 abbrev pub BeginsNoScan : StepKind → Type 0
@@ -67,7 +69,7 @@ pub record Reclaims (v w : View) (made : List Step) : Type 0 where
   pub mine : w.past.mine ≡ v.past.mine
   pub grace : v.grace ≤ w.grace
   pub trail : w.trail ≡ v.trail ++ made
-  pub kinds : All (λ s. NamesNoCommit s.kind) made
+  pub kinds : All (λ s. IsReclaimKind s.kind) made
   pub rest : w ≡ record v {
     past = w.past;
     phase = Outside;

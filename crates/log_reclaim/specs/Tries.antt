@@ -18,7 +18,7 @@ use Rattle.log_reclaim.specs.declared.writing_back.Back.{Back}
 use Rattle.log_reclaim.specs.declared.writing_back.BackEnd.{BackEnd}
 use Rattle.log_reclaim.specs.declared.writing_back.BackEnd.TheVariants.{Cut, Above}
 use Rattle.log_reclaim.specs.Backs.{HasLater}
-use Rattle.log_reclaim.specs.Parts.{NamesNoCommit, IsOtherKind, Reclaims, super_load, FindsTop, FindsOther, TimesDeath}
+use Rattle.log_reclaim.specs.Parts.{IsReclaimKind, IsOtherKind, Reclaims, super_load, FindsTop, FindsOther, TimesDeath}
 
 -- The pass is outside a section, with no scan running, and knows the watermark of a scan that found this time in CLOCK; all of
 -- that history was seen, and no commit of the log is later.
@@ -59,7 +59,7 @@ pub record StoresAll (c : Config) (v w : View) (l m : Noted) (back : Back) (end 
   pub outside : w.phase ≡ Outside
   pub seen : BeginsWith w.past.seen v.past.seen
   pub trail : w.trail ≡ v.trail ++ made
-  pub kinds : All (λ s. NamesNoCommit s.kind × IsOtherKind s.kind) made
+  pub kinds : All (λ s. IsReclaimKind s.kind × IsOtherKind s.kind) made
   pub rest : w ≡ record v {
     past = record v.past { seen = w.past.seen };
     phase = Outside;

@@ -8,7 +8,7 @@ use Rattle.mv_history.specs.State.{State, Writes}
 use Rattle.mv_history.specs.Meaning.{Seat}
 use Rattle.mv_history.specs.Trail.{clock_exchanges}
 use Rattle.mv_history.specs.Calls.{call_trail, Prepares}
-use Rattle.seat_log.specs.Stands.{is_free, is_won_cut, writes_in}
+use Rattle.seat_log.specs.Stands.{is_free, is_won_cut, is_won_lock, aborts_in, writes_in}
 use Rattle.log_reclaim.specs.Parts.{Shrinks}
 use Rattle.log_reclaim.specs.Holders.{TidyHolds, RoundHolds, HeldSo}
 use Rattle.log_reclaim.specs.Rounds.{FreesFirst, SweptSo}
@@ -129,13 +129,16 @@ pub record MakesRoom (p q : Placed) : Type 0 where
   pub rests : RestsAtMostOnce (seat_from p) (seat_from q)
   pub steps : length (steps_between p q) ≤ tidy_steps (seat_from q)
 
--- The table of a seat's log: its commits and rests, the chains that it cut and the slots that it freed, each by the seat's history or its
--- trail; and the live slots. The versions that are live or freed are those of its commits' writes and of what its aborts held.
+-- The table of a seat's log: its commits and rests by the seat's history; by its trail the chains that it cut, the slots that it freed and
+-- its aborts of sections that held something; and the live slots. The slots that are live or freed are as many as the exchanges of HEAD in
+-- its trail that locked. They are those of its commits' writes and of what its aborts held.
 pub record IsSeatTable (s : Seat) (t : LogTable) : Type 0 where
   pub commits : t.commits ≡ length s.mine
   pub rests : t.rests ≡ s.rests
   pub back : t.back ≡ count_by is_won_cut s.trail
   pub freed : t.freed ≡ count_by is_free s.trail
   pub live : t.live + s.spare ≡ slots_of s
+  pub locks : t.live + t.freed ≡ count_by is_won_lock s.trail
+  pub aborts : t.aborts ≡ aborts_in s.trail
   pub used : writes_in s.mine ≤ t.live + t.freed
   pub all_used : t.aborts ≡ 0 → t.live + t.freed ≡ writes_in s.mine

@@ -135,10 +135,10 @@ impl<'d, P: Protocol> Handle<'d, P> {
     }
 
     /// The counts of the seat's log, each by its definition: `commits` and `rests` by the seat's part of the
-    /// history, `freed` slots and `back` write-backs that cut their chain by the seat's trail, `live` slots
-    /// by those that aren't free, and `aborts` of sections that held something by the calls of `abort`.
-    /// `live + freed`, all slots that were ever taken, is at least as many as the writes of the seat's
-    /// commits, and exactly as many where no section was aborted that held something.
+    /// history; `freed` slots, `back` write-backs that cut their chain and `aborts` of sections that held
+    /// something by the seat's trail; and `live` slots by those that aren't free. `live + freed`, all slots
+    /// that were ever taken, is exactly how many exchanges of HEAD in the trail locked an object. It is at
+    /// least as many as the writes of the seat's commits, and exactly as many where nothing was aborted.
     pub fn table(&self) -> LogTable
         ensures table { IsSeatTable (handled self.now) result }
         ensures aborts { result.aborts ≡ aborts_of self.now }

@@ -1,5 +1,5 @@
 -- The parts of a lock, from the build on: what each leaves, and how the outcome of one is that of all.
-use Rattle.std.proofs.Common.{◌≡◌, ◌≢◌, ℕ, ◌+◌, ◌-◌, ◌<◌, true, List, [], ◌∷◌, ◌++◌, length, map, drop, refl, sym}
+use Rattle.std.proofs.Common.{◌≡◌, ◌≢◌, ℕ, ◌+◌, ◌-◌, ◌<◌, true, false, List, [], ◌∷◌, ◌++◌, length, map, drop, refl, sym}
 use Rattle.std.proofs.Common.{ap, ◌∙◌, subst, append-nil, append_assoc, inl, arith, Some, None}
 use Rattle.std.proofs.lemmas.List.Elements.{All-nil, All-cons}
 use Rattle.mv_history.specs.declared.Step.{Step}
@@ -26,7 +26,7 @@ use Rattle.mv_core.specs.WalkSteps.{IsLinkOf}
 use Rattle.mv_core.proofs.kinds.walking.WalkOn.{at_some}
 use Rattle.seat_log.specs.declared.version.Note.{Note}
 use Rattle.seat_log.specs.Notes.{Noted, held_noted, cleared, without_previous}
-use Rattle.seat_log.specs.Stands.{Stands}
+use Rattle.seat_log.specs.Stands.{is_won_lock, Stands}
 use Rattle.seat_log.specs.Builds.{stored_next}
 use Rattle.seat_log.proofs.Stays.{stands_locked}
 use Rattle.version_chain.specs.Walks.{MayWalk, inside_of, section_in, stand_of}
@@ -173,7 +173,8 @@ module _ {words : List ℕ} (c : Config) (v w : View) (l : Noted) (object previo
     lost_stands =
         stands_on c v w l (step_lost ∷ []) (ap (λ (u : View). u.number) told) (ap (λ (u : View). u.ring) told) (ap (λ (u : View). u.past.mine) told)
         (ap (λ (u : View). u.past.rests) told) (ap (λ (u : View). u.trail) told)
-        (All-cons IsLocks step_lost [] tt (All-nil IsLocks)) s
+        (All-cons IsLocks step_lost [] tt (All-nil IsLocks))
+        (All-cons (λ (t : Step). is_won_lock t ≡ false) step_lost [] refl (All-nil (λ (t : Step). is_won_lock t ≡ false))) s
 
     pub came_first : link ≢ 0 → IsLinkOf c link → link_seat_of link ≢ v.number → CameFirst c w object link
     came_first some packed other =

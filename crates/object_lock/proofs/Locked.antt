@@ -18,6 +18,7 @@ use Rattle.object_lock.specs.Tops.{Tries, IsRefused}
 use Rattle.object_lock.specs.Locks.{HoldsObject, LockMakes, KeepsOwn, HasRoom, IsSetFull, AnswersWith}
 use Rattle.object_lock.proofs.Holding.{makes_before}
 use Rattle.object_lock.proofs.OwnNotes.{note_write, held_notes, own_is, own_long}
+use Rattle.object_lock.proofs.LockKinds.{none_won}
 use Rattle.object_lock.proofs.Stood.{stands_on}
 
 -- a place of a mapped list
@@ -75,7 +76,7 @@ module _ (c : Config) (v x : View) (l : Noted) (object before here : ℕ) (s : S
   top_stands =
       let t = tries.trail in
       stands_on c v x l t.0 (ap (λ (u : View). u.number) tries.rest) ring (ap (λ (u : View). u.past.mine) tries.rest)
-      (ap (λ (u : View). u.past.rests) tries.rest) t.1 t.3 s
+      (ap (λ (u : View). u.past.rests) tries.rest) t.1 t.3 (none_won t.0 tries.exchanges) s
 
   pub top_keeps : KeepsOwn c v x
   top_keeps = (ap (own_of c) ring, ap spare_count ring)

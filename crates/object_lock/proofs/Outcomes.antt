@@ -21,6 +21,7 @@ use Rattle.object_lock.specs.Tops.{Looked, Tries, IsRefused}
 use Rattle.object_lock.specs.Locks.{lost_step, CameFirst, LockMakes, Outcome}
 use Rattle.object_lock.proofs.Exchanged.{exchanged_on}
 use Rattle.object_lock.proofs.Looks.{IsLocks, rest_of, found_held}
+use Rattle.object_lock.proofs.LockKinds.{none_won}
 use Rattle.object_lock.proofs.Stood.{stands_on}
 
 -- one after another
@@ -99,7 +100,7 @@ module _ (c : Config) (v x : View) (object link found : ℕ) (may : MayWalk v) (
         may = still;
         stands = stands_dropped c x l
             (stands_on c v x l (of_first ∷ of_stamp ∷ []) (ap (λ (u : View). u.number) looked.view) ring (ap (λ (u : View). u.past.mine) looked.view)
-            (ap (λ (u : View). u.past.rests) looked.view) two_steps two_kinds s);
+            (ap (λ (u : View). u.past.rests) looked.view) two_steps two_kinds (none_won (of_first ∷ of_stamp ∷ []) refl) s);
         unbuilt = refl;
         makes = makes;
         sees = λ held. absurd (refused held);

@@ -22,7 +22,7 @@ use Rattle.mv_core.proofs.kinds.entering.LoadTime.{holds_none}
 use Rattle.mv_core.proofs.kinds.building.DeathNotes.{note_cut, note_uncut}
 use Rattle.seat_log.specs.declared.version.Note.{Note}
 use Rattle.seat_log.specs.Notes.{Noted, next_of, aborted_noted}
-use Rattle.seat_log.specs.Stands.{death_of, is_cut, is_free, is_won_cut, writes_in, Stands}
+use Rattle.seat_log.specs.Stands.{death_of, is_cut, is_free, is_won_cut, is_won_lock, ends_unlocking, aborts_in, writes_in, Stands}
 use Rattle.seat_log.proofs.BuildsOn.{unpassed}
 use Rattle.seat_log.proofs.SlotCounts.{count_alike, unlived}
 use Rattle.seat_log.proofs.NotedSlots.{noted_in}
@@ -37,6 +37,7 @@ pub record HasUnlocked (v u : View) : Type 0 where
   pub each : (k : ℕ) → (slot_at u.ring k ≡ slot_at v.ring k) ⊎ ((x : Version) × (slot_at v.ring k ≡ Live x Held) × (slot_at u.ring k ≡ Live x (Aborted None)))
   pub frees : count_by is_free u.trail ≡ count_by is_free v.trail
   pub backs : count_by is_won_cut u.trail ≡ count_by is_won_cut v.trail
+  pub locks : count_by is_won_lock u.trail ≡ count_by is_won_lock v.trail
 
 -- as many slots pass a test that takes a held version for an aborted one
 unlocked_count : (v u : View) → HasUnlocked v u → (p : Slot → Bool) → ((x : Version) → p (Live x (Aborted None)) ≡ p (Live x Held))
@@ -129,6 +130,7 @@ abort_ends c v u l word h s e nothing =
       others = λ k z is none. slot_mapped (timed d) refl u.ring k ∙ ap (timed d) (unlocked_else v u e k z is (unlived z none)) ∙ unwaiting c v l d s k z is;
       frees = unpassed is_free u.trail _ refl ∙ e.frees;
       backs = unpassed is_won_cut u.trail _ refl ∙ e.backs;
+      locks = unpassed is_won_lock u.trail _ refl ∙ e.locks;
     }
 
 -- and where nothing was held nothing has to end
@@ -145,16 +147,19 @@ nothing_ends v u f e nothing = record {
   others = λ k z is none. unlocked_else v u e k z is (unlived z none);
   frees = e.frees;
   backs = e.backs;
+  locks = e.locks;
 }
 
 -- the log stands after an abort of all that was held
 pub stands_aborted : (c : Config) (v w : View) (l : Noted) (dead : ℕ) → Stands c v l → HasEnded v w (λ n. record n { dead = dead }) → l.built ≡ None
-    → w.past.mine ≡ v.past.mine → w.past.rests ≡ v.past.rests → Stands c w (aborted_noted l dead)
-stands_aborted c v w l dead k e unbuilt mine rests =
+    → w.past.mine ≡ v.past.mine → w.past.rests ≡ v.past.rests → (aborted_noted l dead).aborts ≡ aborts_in w.trail
+    → ends_unlocking false w.trail ≡ false → Stands c w (aborted_noted l dead)
+stands_aborted c v w l dead k e unbuilt mine rests aborts settled =
     let total = ap writes_in mine in
     let used = k.used in
     stands_ended c v w l (aborted_noted l dead) (λ n. record n { dead = dead }) (λ n. refl) k e (aborted_is_log l dead unbuilt k.log)
     refl refl refl refl refl unbuilt refl (k.commits ∙ ap length (sym mine)) (k.rests ∙ sym rests) (omega arith) all_used
+    aborts settled
   where
     all_used : (aborted_noted l dead).aborts ≡ 0 → next_of l ≡ writes_in w.past.mine
     all_used none =

@@ -1,8 +1,10 @@
 -- The log of a new domain stands for its pass.
-use Rattle.std.proofs.Common.{◌≡◌, ℕ, zero, suc, ◌+◌, ◌-◌, ◌*◌, ◌<◌, ◌≤◌, Bool, cond, count_by, [], length, replicate, refl, sym, ap, ◌∙◌, subst, arith}
+use Rattle.std.proofs.Common.{◌≡◌, ℕ, zero, suc, ◌+◌, ◌-◌, ◌*◌, ◌<◌, ◌≤◌, Bool, false, cond, count_by, [], length, replicate, refl, sym, ap, ◌∙◌, subst, arith}
 use Rattle.std.proofs.lemmas.List.Folds.{sum_by-replicate}
 use Rattle.std.proofs.lemmas.List.{length-replicate}
+use Rattle.std.proofs.lemmas.List.Elements.{All-replicate}
 use Rattle.mv_history.specs.State.{State}
+use Rattle.mv_history.specs.declared.Step.{Step}
 use Rattle.mv_layout.specs.declared.Config.{Config}
 use Rattle.mv_layout.specs.Limits.{Checked}
 use Rattle.mv_core.specs.declared.ring.Slot.TheVariants.{Free, Built, Live, Freeing}
@@ -11,15 +13,16 @@ use Rattle.mv_core.specs.Rings.{slot_at, is_held, is_spare, empty_ring}
 use Rattle.mv_core.specs.Start.{starting_view}
 use Rattle.mv_core.proofs.kinds.opening.Starting.{all_free}
 use Rattle.seat_log.specs.Notes.{nothing_noted}
-use Rattle.seat_log.specs.Stands.{is_free, is_won_cut, writes_in, Stands}
+use Rattle.seat_log.specs.Stands.{is_free, is_won_cut, is_won_lock, is_unlock, writes_in, Stands}
+use Rattle.seat_log.proofs.StepCounts.{KeepsLocks, keeps_same, keeps_more}
 
 counted : {X : Type 0} (test : X → Bool) (n : ℕ) (x : X) → count_by test (replicate n x) ≡ n * cond (test x) 1 0
 counted test n x = sum_by-replicate (λ y. cond (test y) 1 0) n x
 
 -- nothing is noted, and nothing is there
 stands_empty : (c : Config) (v : View) → Checked c → v.number < c.seats → v.ring ≡ empty_ring c → v.past.mine ≡ [] → v.past.rests ≡ 0
-    → count_by is_free v.trail ≡ 0 → count_by is_won_cut v.trail ≡ 0 → Stands c v (nothing_noted v.number c.slots)
-stands_empty c v checked range ring mine rests frees backs =
+    → count_by is_free v.trail ≡ 0 → count_by is_won_cut v.trail ≡ 0 → KeepsLocks [] v.trail → Stands c v (nothing_noted v.number c.slots)
+stands_empty c v checked range ring mine rests frees backs keeps =
     let seats = checked.seats.1 in
     let slots = checked.slots in
     let some_slots = slots.0 in
@@ -52,6 +55,9 @@ stands_empty c v checked range ring mine rests frees backs =
       rests = sym rests;
       frees = sym frees;
       backs = sym backs;
+      locks = sym keeps.locks;
+      aborts = sym keeps.aborts;
+      settled = keeps.settled refl;
       cuts = omega arith;
       used = subst (λ cs. writes_in cs + 0 ≤ 0) (sym mine) (omega arith);
       all_used = λ none. sym (ap (λ cs. writes_in cs + 0) mine);
@@ -63,4 +69,7 @@ pub stands_new : (c : Config) (start : State) (number : ℕ) → Checked c → n
 stands_new c start zero checked range =
     stands_empty c (starting_view c start zero) checked range refl refl refl (counted is_free (c.seats - 1) _ ∙ (omega arith))
     (counted is_won_cut (c.seats - 1) _ ∙ (omega arith))
-stands_new c start (suc number) checked range = stands_empty c (starting_view c start (suc number)) checked range refl refl refl refl refl
+    (keeps_more [] (starting_view c start zero).trail (starting_view c start zero).trail refl
+    (All-replicate (λ (s : Step). is_won_lock s ≡ false) (c.seats - 1) _ refl) (All-replicate (λ (s : Step). is_unlock s ≡ false) (c.seats - 1) _ refl))
+stands_new c start (suc number) checked range =
+    stands_empty c (starting_view c start (suc number)) checked range refl refl refl refl refl (keeps_same [])

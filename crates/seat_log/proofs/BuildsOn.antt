@@ -21,6 +21,7 @@ use Rattle.seat_log.specs.declared.version.Note.{Note}
 use Rattle.seat_log.specs.Stands.{IsAllStored, is_free, is_won_cut}
 use Rattle.seat_log.specs.Builds.{build_at, stored_next, words_stored, begun, linked, slot_built, MayBuild}
 use Rattle.seat_log.proofs.MayBuild.{begun_first, begun_later}
+use Rattle.seat_log.proofs.StepCounts.{KeepsLocks, keeps_one, keeps_then}
 
 -- only the slot of this position and the trail have changed, and the slot is being built with this
 pub record BuildsOn (c : Config) (v w : View) (position : ℕ) (b : Build) : Type 0 where
@@ -32,6 +33,7 @@ pub record BuildsOn (c : Config) (v w : View) (position : ℕ) (b : Build) : Typ
       → count_by test w.ring.slots ≡ count_by test v.ring.slots
   pub frees : count_by is_free w.trail ≡ count_by is_free v.trail
   pub backs : count_by is_won_cut w.trail ≡ count_by is_won_cut v.trail
+  pub keeps : KeepsLocks v.trail w.trail
 
 -- a step that doesn't pass a test
 pub unpassed : (test : Step → Bool) (steps : List Step) (s : Step) → test s ≡ false → count_by test (steps ++ s ∷ []) ≡ count_by test steps
@@ -54,6 +56,7 @@ builds_first c v position field x within =
       counts = λ test same. count_same v.ring k (Built b) within test (same b);
       frees = unpassed is_free v.trail _ refl;
       backs = unpassed is_won_cut v.trail _ refl;
+      keeps = keeps_one v.trail _ refl refl;
     }
 
 -- and one more
@@ -75,6 +78,7 @@ builds_more c v w position field x b within on =
       counts = λ test same. next.counts test (λ a. same a ∙ sym (ap test on.here ∙ same b)) ∙ on.counts test same;
       frees = next.frees ∙ on.frees;
       backs = next.backs ∙ on.backs;
+      keeps = keeps_then v.trail w.trail _ on.keeps next.keeps;
     }
 
 -- a list of six

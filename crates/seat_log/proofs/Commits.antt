@@ -22,8 +22,9 @@ use Rattle.mv_core.proofs.logs.Slots.{slot_mapped}
 use Rattle.mv_core.proofs.logs.Counts.{one_if, count_mapped}
 use Rattle.seat_log.specs.declared.version.Note.{Note}
 use Rattle.seat_log.specs.Notes.{Noted, committed_noted}
-use Rattle.seat_log.specs.Stands.{death_of, IsAsNoted, is_cut, is_free, is_won_cut, writes_in, Stands}
+use Rattle.seat_log.specs.Stands.{death_of, IsAsNoted, is_cut, is_free, is_won_cut, is_won_lock, writes_in, Stands}
 use Rattle.seat_log.proofs.BuildsOn.{unpassed}
+use Rattle.seat_log.proofs.StepCounts.{KeepsLocks}
 use Rattle.seat_log.proofs.SlotCounts.{count_alike, unlived}
 use Rattle.seat_log.proofs.Noting.{committed_is_log}
 use Rattle.seat_log.proofs.Ended.{HasEnded, stands_ended}
@@ -88,6 +89,7 @@ commit_ends c v inside tag word h =
       others = λ k z e none. stands_there k z e (unlived z none);
       frees = unpassed is_free v.trail _ refl;
       backs = unpassed is_won_cut v.trail _ refl;
+      locks = unpassed is_won_lock v.trail _ refl;
     }
   where
     noted_none : (dead : ℕ) → dead ≡ 0 → ◌≡◌ {A = Option ℕ} None (death_of dead)
@@ -105,7 +107,8 @@ IsLinked a b = (b ≡ a) ⊎ ((x : Version) × (note : CommitNote) × (a ≡ Liv
 -- and after SUPER was stored below some of the committed versions
 module _ (v w u : View) (f : Note → Note) (e : HasEnded v w f) (number : u.number ≡ w.number) (next : u.ring.next ≡ w.ring.next)
     (wide : length u.ring.slots ≡ length w.ring.slots) (more : (k : ℕ) → IsLinked (slot_at w.ring k) (slot_at u.ring k))
-    (frees : count_by is_free u.trail ≡ count_by is_free w.trail) (backs : count_by is_won_cut u.trail ≡ count_by is_won_cut w.trail) where
+    (frees : count_by is_free u.trail ≡ count_by is_free w.trail) (backs : count_by is_won_cut u.trail ≡ count_by is_won_cut w.trail)
+    (locks : count_by is_won_lock u.trail ≡ count_by is_won_lock w.trail) where
   -- a test that doesn't read it passes as many
   linked_count : (p : Slot → Bool)
       → ((x : Version) (note : CommitNote) → p (Live x (Committed (record note { linked = true }))) ≡ p (Live x (Committed note)))
@@ -149,13 +152,14 @@ module _ (v w u : View) (f : Note → Note) (e : HasEnded v w f) (number : u.num
         ⊎_elim (λ same. same ∙ r) (λ m. absurd (none m.0 (Committed m.1) (sym r ∙ m.2))) (more k);
     frees = frees ∙ e.frees;
     backs = backs ∙ e.backs;
+    locks = locks ∙ e.locks;
   }
 
 -- the log stands after a commit of all that was held
 pub stands_committed : (c : Config) (v w : View) (l : Noted) (time : ℕ) → Stands c v l → HasEnded v w (λ n. record n { time = time }) → 0 < l.held
     → l.built ≡ None → (commit : Commit) → w.past.mine ≡ v.past.mine ++ commit ∷ [] → length commit.writes ≡ l.held → w.past.rests ≡ v.past.rests
-    → Stands c w (committed_noted l time)
-stands_committed c v w l time k e some unbuilt commit mine writes rests =
+    → KeepsLocks v.trail w.trail → Stands c w (committed_noted l time)
+stands_committed c v w l time k e some unbuilt commit mine writes rests keeps =
     let split : writes_in (v.past.mine ++ commit ∷ []) ≡ writes_in v.past.mine + writes_in (commit ∷ []) =
     sum_by-append (λ (c : Commit). length c.writes) v.past.mine (commit ∷ []) in
     let one : writes_in (commit ∷ []) ≡ length commit.writes + 0 = sum_by-cons (λ (c : Commit). length c.writes) commit [] in
@@ -166,3 +170,4 @@ stands_committed c v w l time k e some unbuilt commit mine writes rests =
     let used = k.used in
     stands_ended c v w l (committed_noted l time) (λ n. record n { time = time }) (λ n. refl) k e (committed_is_log l time some unbuilt k.log)
     refl refl refl refl refl unbuilt refl (omega arith) (k.rests ∙ sym rests) (omega arith) (λ none. k.all_used none ∙ sym total)
+    (k.aborts ∙ sym keeps.aborts) (keeps.settled k.settled)

@@ -28,6 +28,7 @@ use Rattle.seat_log.proofs.Places.{length-at_place}
 use Rattle.seat_log.proofs.BuildsOn.{unpassed}
 use Rattle.seat_log.proofs.Stays.{stands_same}
 use Rattle.seat_log.proofs.FreedSlots.{passed}
+use Rattle.seat_log.proofs.StepCounts.{keeps_one, keeps_then}
 use Rattle.seat_log.proofs.Aborts.{unwaiting}
 use Rattle.seat_log.proofs.PlainSteps.{stands_unmarked}
 use Rattle.seat_log.proofs.Retired.{as_committed, committed_at, no_death, death_is, stands_renoted}
@@ -145,6 +146,8 @@ module _ (c : Config) (v : View) (l : Noted) (i : ℕ) (n : Note) (note : Commit
           rests = refl;
           frees = unpassed is_free w2.trail _ refl ∙ unpassed is_free w1.trail _ refl ∙ unpassed is_free v.trail _ refl;
           backs = ap (λ q. q + 1) k.backs ∙ sym won ∙ sym (unpassed is_won_cut w1.trail _ refl) ∙ sym (unpassed is_won_cut w2.trail _ refl);
+          keeps = keeps_then v.trail w1.trail _ (keeps_one v.trail _ refl refl)
+              (keeps_then w1.trail w2.trail _ (keeps_one w1.trail _ refl refl) (keeps_one w2.trail _ refl refl));
           cuts = omega arith;
           few = omega arith;
           time = a.2;
@@ -155,7 +158,8 @@ module _ (c : Config) (v : View) (l : Noted) (i : ℕ) (n : Note) (note : Commit
 -- the log stands as it is after the exchange of a write-back was lost
 pub stands_cut_lost : (c : Config) (v : View) (l : Noted) (object position found : ℕ) → Stands c v l → Stands c (cut_lost c v object position found) l
 stands_cut_lost c v l object position found k =
-    stands_same c v (cut_lost c v object position found) l refl refl refl refl (unpassed is_free v.trail _ refl) (unpassed is_won_cut v.trail _ refl) k
+    stands_same c v (cut_lost c v object position found) l refl refl refl refl (unpassed is_free v.trail _ refl) (unpassed is_won_cut v.trail _ refl)
+    (keeps_one v.trail _ refl refl) k
 
 -- and the section was left
 pub stands_uncut : (c : Config) (v : View) (l : Noted) (object position found : ℕ) → Stands c v l

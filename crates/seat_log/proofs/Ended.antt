@@ -11,7 +11,8 @@ use Rattle.mv_core.specs.declared.view.View.{View}
 use Rattle.mv_core.specs.Rings.{slot_at, index_of, is_held, held_count, spare_count}
 use Rattle.seat_log.specs.declared.version.Note.{Note}
 use Rattle.seat_log.specs.Notes.{Noted, next_of, held_from, IsNoteAt, IsLog, from_place}
-use Rattle.seat_log.specs.Stands.{version_of, IsAsNoted, HasNoted, HasBuilt, cut_count, is_free, is_won_cut, writes_in, Stands}
+use Rattle.seat_log.specs.Stands.{version_of, IsAsNoted, HasNoted, HasBuilt, cut_count, is_free, is_won_cut, is_won_lock, ends_unlocking, aborts_in}
+use Rattle.seat_log.specs.Stands.{writes_in, Stands}
 use Rattle.seat_log.proofs.Places.{get_within, from_before, length-from_place}
 use Rattle.seat_log.proofs.NotedSlots.{held_at}
 
@@ -31,6 +32,7 @@ pub record HasEnded (v w : View) (f : Note → Note) : Type 0 where
   pub others : (k : ℕ) (z : Slot) → slot_at v.ring k ≡ z → ((x : Version) (st : Status) → z ≢ Live x st) → slot_at w.ring k ≡ z
   pub frees : count_by is_free w.trail ≡ count_by is_free v.trail
   pub backs : count_by is_won_cut w.trail ≡ count_by is_won_cut v.trail
+  pub locks : count_by is_won_lock w.trail ≡ count_by is_won_lock v.trail
 
 -- a version that isn't held by its note isn't by its status
 unheld : (x : Version) (st : Status) (n : Note) → IsAsNoted false n st → is_held (Live x st) ≡ false
@@ -42,7 +44,8 @@ module _ (c : Config) (v w : View) (l m : Noted) (f : Note → Note) (same : (n 
     (e : HasEnded v w f) (is_log : IsLog m) (seat : m.seat ≡ l.seat) (slots : m.slots ≡ l.slots) (freed : m.freed ≡ l.freed)
     (live : m.live ≡ from_place f (held_from l) l.live) (none : m.held ≡ 0) (built : m.built ≡ None) (backs : m.back ≡ l.back)
     (commits : m.commits ≡ length w.past.mine) (rests : m.rests ≡ w.past.rests) (used : writes_in w.past.mine ≤ next_of l)
-    (all_used : m.aborts ≡ 0 → next_of l ≡ writes_in w.past.mine) where
+    (all_used : m.aborts ≡ 0 → next_of l ≡ writes_in w.past.mine) (aborts : m.aborts ≡ aborts_in w.trail)
+    (settled : ends_unlocking false w.trail ≡ false) where
   long : length m.live ≡ length l.live
   long = ap length live ∙ length-from_place f (held_from l) l.live
 
@@ -133,15 +136,19 @@ module _ (c : Config) (v w : View) (l m : Noted) (f : Note → Note) (same : (n 
         rests = rests;
         frees = freed ∙ k.frees ∙ sym e.frees;
         backs = backs ∙ k.backs ∙ sym e.backs;
+        locks = next_is ∙ k.locks ∙ sym e.locks;
+        aborts = aborts;
+        settled = settled;
         cuts = (let old = k.cuts in let cuts = e.cuts in omega arith);
         used = omega arith;
         all_used = λ z. let a = all_used z in omega arith;
       }
 
--- what has ended has ended still after steps that leave the own log alone, and neither free a slot nor cut a chain
+-- what has ended has ended still after steps that leave the own log alone, free no slot, cut no chain and lock nothing
 pub ends_same : (v w u : View) (f : Note → Note) → HasEnded v w f → u.number ≡ w.number → u.ring ≡ w.ring
-    → count_by is_free u.trail ≡ count_by is_free w.trail → count_by is_won_cut u.trail ≡ count_by is_won_cut w.trail → HasEnded v u f
-ends_same v w u f k number ring frees backs = record {
+    → count_by is_free u.trail ≡ count_by is_free w.trail → count_by is_won_cut u.trail ≡ count_by is_won_cut w.trail
+    → count_by is_won_lock u.trail ≡ count_by is_won_lock w.trail → HasEnded v u f
+ends_same v w u f k number ring frees backs locks = record {
   number = number ∙ k.number;
   next = ap (λ r. r.next) ring ∙ k.next;
   wide = ap (λ r. length r.slots) ring ∙ k.wide;
@@ -153,4 +160,5 @@ ends_same v w u f k number ring frees backs = record {
   others = λ j z e none. ap (λ a. slot_at a j) ring ∙ k.others j z e none;
   frees = frees ∙ k.frees;
   backs = backs ∙ k.backs;
+  locks = locks ∙ k.locks;
 }

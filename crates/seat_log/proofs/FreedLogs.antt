@@ -254,6 +254,9 @@ module _ (c : Config) (v : View) (l : Noted) (k t : ℕ) (s : Stands c v l) (set
             rests = s.rests ∙ ap (λ (p : Past). p.rests) (sym past);
             frees = omega arith;
             backs = s.backs ∙ sym e.backs;
+            locks = next ∙ s.locks ∙ sym e.keeps.locks;
+            aborts = s.aborts ∙ sym e.keeps.aborts;
+            settled = e.keeps.settled s.settled;
             cuts = omega arith;
             used = subst (λ (q : Past). writes_in q.mine + l.held ≤ next_of m) (sym past) (omega arith);
             all_used = λ none. let all = s.all_used none in subst (λ (q : Past). next_of m ≡ writes_in q.mine + l.held) (sym past) (omega arith);

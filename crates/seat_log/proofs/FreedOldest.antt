@@ -27,6 +27,7 @@ use Rattle.seat_log.specs.Frees.{IsDeadNote, IsOldestSet, slots_freed}
 use Rattle.seat_log.proofs.BuildsOn.{unpassed}
 use Rattle.seat_log.proofs.FreedSlots.{passed, is_going, count_at, freeing_in, freeing_out, spare_freeing, cuts_freeing, Freed}
 use Rattle.seat_log.proofs.NotedSlots.{noted_at, apart, noted_in}
+use Rattle.seat_log.proofs.StepCounts.{keeps_one, keeps_then}
 
 -- a noted time of death, by the status
 pub dead_by : (t g : ℕ) (b : Bool) (n : Note) (st : Status) → t ≤ g → IsDeadNote t n → IsAsNoted b n st → IsDeadBy g st
@@ -149,6 +150,7 @@ module _ (c : Config) (v : View) (l : Noted) (k t : ℕ) (s : Stands c v l) (set
               let d = count_less mid (at 0) Free within is_going (ap is_going (mid_in 0 some)) refl in omega arith);
           frees = passed is_free v.trail _ refl;
           backs = unpassed is_won_cut v.trail _ refl;
+          keeps = keeps_one v.trail _ refl refl;
           gone = λ i lt. let e : i ≡ 0 = omega arith in ap (λ j. slot_at first_ring (at j)) e ∙ slot_here mid (at 0) Free within;
           going = λ i le lt. slot_else mid (at 0) (at i) Free (λ e. let z = apart c v l s i 0 (omega arith) (omega arith) e in omega arith) ∙ mid_in i lt;
           each = λ u. first_each u (slot_at v.ring u) refl;
@@ -182,6 +184,7 @@ module _ (c : Config) (v : View) (l : Noted) (k t : ℕ) (s : Stands c v l) (set
           frees =
               passed is_free w.trail _ refl ∙ (let b = e.frees in let q : count_by is_free w.trail + 1 ≡ count_by is_free v.trail + (j + 1) = omega arith in q);
           backs = unpassed is_won_cut w.trail _ refl ∙ e.backs;
+          keeps = keeps_then v.trail w.trail _ e.keeps (keeps_one w.trail _ refl refl);
           gone = λ i b.
               dite (ℕ_discrete i j)
               (λ same. ap (λ n. slot_at next_ring (at n)) same ∙ slot_here w.ring (at j) Free next_within)

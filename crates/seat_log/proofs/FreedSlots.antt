@@ -15,6 +15,7 @@ use Rattle.mv_core.specs.Rings.{slot_at, index_of, held_count, is_spare, spare_c
 use Rattle.mv_core.specs.ReclaimSteps.{freeing_slot}
 use Rattle.mv_core.proofs.logs.Counts.{one_if}
 use Rattle.seat_log.specs.Stands.{is_cut, cut_count, is_free, is_won_cut}
+use Rattle.seat_log.proofs.StepCounts.{KeepsLocks}
 
 -- a step that passes a test
 pub passed : (test : Step → Bool) (steps : List Step) (s : Step) → test s ≡ true → count_by test (steps ++ s ∷ []) ≡ count_by test steps + 1
@@ -106,6 +107,7 @@ pub record Freed (c : Config) (v w : View) (f k j : ℕ) : Type 0 where
   pub cuts : cut_count v.ring ≤ cut_count w.ring + going_count w.ring + j
   pub frees : count_by is_free w.trail ≡ count_by is_free v.trail + j
   pub backs : count_by is_won_cut w.trail ≡ count_by is_won_cut v.trail
+  pub keeps : KeepsLocks v.trail w.trail
   pub gone : (i : ℕ) → i < j → slot_at w.ring (index_of c (f + i)) ≡ Free
   pub going : (i : ℕ) → j ≤ i → i < k → slot_at w.ring (index_of c (f + i)) ≡ Freeing (f + i) f
   pub each : (t : ℕ)

@@ -20,6 +20,7 @@ use Rattle.seat_log.specs.Builds.{IsOpen, version_in, version_at, word_stored}
 use Rattle.seat_log.proofs.Places.{length-at_place, at_before, get_within}
 use Rattle.seat_log.proofs.Noting.{renoted_is_log}
 use Rattle.seat_log.proofs.BuildsOn.{unpassed}
+use Rattle.seat_log.proofs.StepCounts.{KeepsLocks, keeps_one}
 use Rattle.seat_log.proofs.NotedSlots.{places_apart}
 use Rattle.seat_log.proofs.Rebuilding.{held_note}
 
@@ -82,7 +83,8 @@ module _ (c : Config) (v : View) (l : Noted) (position word value : ℕ) (k : St
         let in_log : s < length v.ring.slots = live_within v.ring s (version_of m) Held here in
         let long = length-at_place (with_word word value) at l.live in
         let same_head : held_from (word_noted l position word value) ≡ held_from l = omega arith in
-        let next : next_of (word_noted l position word value) ≡ next_of l = omega arith in record {
+        let next : next_of (word_noted l position word value) ≡ next_of l = omega arith in
+        let keeps : KeepsLocks v.trail (data_stored c v position word value (version_of m)).trail = keeps_one v.trail _ refl refl in record {
           seat = k.seat;
           slots = k.slots;
           wide = length-set v.ring.slots s z ∙ k.wide;
@@ -131,6 +133,9 @@ module _ (c : Config) (v : View) (l : Noted) (position word value : ℕ) (k : St
           rests = k.rests;
           frees = k.frees ∙ sym (unpassed is_free v.trail _ refl);
           backs = k.backs ∙ sym (unpassed is_won_cut v.trail _ refl);
+          locks = next ∙ k.locks ∙ sym keeps.locks;
+          aborts = k.aborts ∙ sym keeps.aborts;
+          settled = keeps.settled k.settled;
           cuts = subst (λ j. l.back ≤ l.freed + j) (sym (count_same v.ring s z in_log is_cut (sym (ap is_cut here)))) k.cuts;
           used = subst (λ j. writes_in v.past.mine + l.held ≤ j) (sym next) k.used;
           all_used = λ none. next ∙ k.all_used none;

@@ -1,5 +1,6 @@
 pub mod Places
 pub mod Noting
+pub mod StepCounts
 pub mod MayBuild
 pub mod BuildsOn
 pub mod NotedSlots

@@ -12,6 +12,7 @@ use Rattle.mv_core.proofs.history.OwnEntries.{own_seen}
 use Rattle.seat_log.specs.Notes.{Noted, rest_noted}
 use Rattle.seat_log.specs.Stands.{is_free, is_won_cut, Stands}
 use Rattle.seat_log.proofs.BuildsOn.{unpassed}
+use Rattle.seat_log.proofs.StepCounts.{KeepsLocks, keeps_one}
 use Rattle.seat_log.proofs.Noting.{counted_is_log}
 use Rattle.seat_log.proofs.Stays.{stands_same}
 
@@ -23,6 +24,10 @@ rests_room starts allows c v l k known =
     let rests = k.rests in
     let few : length v.past.seen ≤ 35184372088831 = ∥∥₁_elim known le_prop (λ a. let long = a.in_time in omega arith) in
     omega arith
+
+-- a rest locks nothing and gives nothing up
+rest_keeps : (c : Config) (v : View) (word : ℕ) (h : List Entry) → KeepsLocks v.trail (rest_named c v word h).trail
+rest_keeps c v word h = keeps_one v.trail _ refl refl
 
 -- the log stands for the pass after a rest, with one more
 pub stands_rested : (c : Config) (v : View) (l : Noted) (word : ℕ) (h : List Entry) → Stands c v l → l.rests + 1 < 2 ^ 63
@@ -44,6 +49,9 @@ stands_rested c v l word h k room = record {
   rests = ap (λ n. n + 1) k.rests;
   frees = k.frees ∙ sym (unpassed is_free v.trail _ refl);
   backs = k.backs ∙ sym (unpassed is_won_cut v.trail _ refl);
+  locks = k.locks ∙ sym (rest_keeps c v word h).locks;
+  aborts = k.aborts ∙ sym (rest_keeps c v word h).aborts;
+  settled = (rest_keeps c v word h).settled k.settled;
   cuts = k.cuts;
   used = k.used;
   all_used = k.all_used;
@@ -52,4 +60,5 @@ stands_rested c v l word h k room = record {
 -- and as it is after one whose exchange was lost
 pub stands_unrested : (c : Config) (v : View) (l : Noted) (found : ℕ) (h : List Entry) → Stands c v l → Stands c (rest_lost c v found h) l
 stands_unrested c v l found h k =
-    stands_same c v (rest_lost c v found h) l refl refl refl refl (unpassed is_free v.trail _ refl) (unpassed is_won_cut v.trail _ refl) k
+    stands_same c v (rest_lost c v found h) l refl refl refl refl (unpassed is_free v.trail _ refl) (unpassed is_won_cut v.trail _ refl)
+    (keeps_one v.trail _ refl refl) k

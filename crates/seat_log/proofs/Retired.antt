@@ -26,6 +26,7 @@ use Rattle.seat_log.specs.Stands.{version_of, death_of, IsAsNoted, HasNoted, Has
 use Rattle.seat_log.proofs.Places.{length-at_place, at_before, get_within}
 use Rattle.seat_log.proofs.Noting.{renoted_is_log, counted_is_log}
 use Rattle.seat_log.proofs.BuildsOn.{unpassed}
+use Rattle.seat_log.proofs.StepCounts.{KeepsLocks, keeps_same, keeps_one}
 use Rattle.seat_log.proofs.NotedSlots.{places_apart}
 use Rattle.seat_log.proofs.Stays.{stands_same}
 
@@ -84,6 +85,7 @@ pub record Renotes (c : Config) (v w : View) (l : Noted) (n : Note) (new : Commi
   pub rests : w.past.rests ≡ v.past.rests
   pub frees : count_by is_free w.trail ≡ count_by is_free v.trail
   pub backs : back ≡ count_by is_won_cut w.trail
+  pub keeps : KeepsLocks v.trail w.trail
   pub cuts : back ≤ l.freed + cut_count (put_slot v.ring (index_of c n.position) (Live (version_of n) (Committed new)))
   pub few : back ≤ next_of l
   pub time : n.time ≡ new.time
@@ -200,6 +202,9 @@ module _ (c : Config) (v w : View) (l : Noted) (i : ℕ) (n : Note) (note new : 
         rests = k.rests ∙ sym e.rests;
         frees = k.frees ∙ sym e.frees;
         backs = e.backs;
+        locks = next ∙ k.locks ∙ sym e.keeps.locks;
+        aborts = k.aborts ∙ sym e.keeps.aborts;
+        settled = e.keeps.settled k.settled;
         cuts = e.cuts;
         used = subst (λ cs. writes_in cs + l.held ≤ next_of m) (sym e.mine) (subst (λ q. writes_in v.past.mine + l.held ≤ q) (sym next) k.used);
         all_used = λ none. next ∙ k.all_used none ∙ ap (λ cs. writes_in cs + l.held) (sym e.mine);
@@ -209,7 +214,7 @@ module _ (c : Config) (v w : View) (l : Noted) (i : ℕ) (n : Note) (note new : 
   pub stands_renoted : Stands c w (record (retired l n.position dead) { back = back })
   stands_renoted =
       stands_same c (record w { ring = put_slot v.ring (index_of c n.position) (Live (version_of n) (Committed new)) }) w m refl e.ring refl refl refl
-      refl put_stands
+      refl (keeps_same w.trail) put_stands
 
 -- a time that is a death
 pub death_is : (t : ℕ) → 0 < t → death_of t ≡ Some t
@@ -240,6 +245,7 @@ module _ (c : Config) (v : View) (l : Noted) (i : ℕ) (n : Note) (note : Commit
         rests = refl;
         frees = unpassed is_free v.trail _ refl;
         backs = k.backs ∙ sym (unpassed is_won_cut v.trail _ refl);
+        keeps = keeps_one v.trail _ refl refl;
         cuts =
             subst (λ q. l.back ≤ l.freed + q) (sym (count_same v.ring s (Live (version_of n) (Committed new)) in_range is_cut (sym (ap is_cut here)))) k.cuts;
         few = k.log.backs;
@@ -259,4 +265,4 @@ module _ (c : Config) (v : View) (l : Noted) (i : ℕ) (n : Note) (note : Commit
       let ring : put_slot v.ring s (Live (version_of n) (Committed (super_note note found))) ≡ v.ring =
       ap (put_slot v.ring s) slot ∙ (λ q. record v.ring { slots = set-get_or v.ring.slots s Free q }) in
       stands_same c v (super_loaded c v n.position (version_of n) note found seen) l refl ring refl refl (unpassed is_free v.trail _ refl)
-      (unpassed is_won_cut v.trail _ refl) k
+      (unpassed is_won_cut v.trail _ refl) (keeps_one v.trail _ refl refl) k

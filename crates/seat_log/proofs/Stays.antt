@@ -16,16 +16,18 @@ use Rattle.mv_core.proofs.logs.Slots.{slot_here, slot_else, slot_within}
 use Rattle.mv_core.proofs.logs.Counts.{count_same, count_less, held_more}
 use Rattle.seat_log.specs.declared.version.Note.{Note}
 use Rattle.seat_log.specs.Notes.{Noted, next_of, held_from, built_list, IsNextOf, held_noted}
-use Rattle.seat_log.specs.Stands.{version_of, IsAsNoted, HasNoted, HasBuilt, is_cut, cut_count, is_free, is_won_cut, writes_in, Stands}
+use Rattle.seat_log.specs.Stands.{version_of, IsAsNoted, HasNoted, HasBuilt, is_cut, cut_count, is_free, is_won_cut, is_won_lock, writes_in, Stands}
 use Rattle.seat_log.proofs.Places.{push_before}
 use Rattle.seat_log.proofs.Noting.{built_next, held_is_log}
 use Rattle.seat_log.proofs.BuildsOn.{unpassed}
+use Rattle.seat_log.proofs.FreedSlots.{passed}
+use Rattle.seat_log.proofs.StepCounts.{KeepsLocks, aborts_kept, ends_last}
 
--- after steps that leave the own log, its commits and its rests alone, and neither free a slot nor cut a chain
+-- after steps that leave the own log, its commits and its rests alone, free no slot, cut no chain, lock nothing and give nothing up
 pub stands_same : (c : Config) (v w : View) (l : Noted) → w.number ≡ v.number → w.ring ≡ v.ring → w.past.mine ≡ v.past.mine
     → w.past.rests ≡ v.past.rests → count_by is_free w.trail ≡ count_by is_free v.trail
-    → count_by is_won_cut w.trail ≡ count_by is_won_cut v.trail → Stands c v l → Stands c w l
-stands_same c v w l number ring mine rests frees backs k = record {
+    → count_by is_won_cut w.trail ≡ count_by is_won_cut v.trail → KeepsLocks v.trail w.trail → Stands c v l → Stands c w l
+stands_same c v w l number ring mine rests frees backs keeps k = record {
   seat = k.seat ∙ sym number;
   slots = k.slots;
   wide = subst (λ (r : Ring). length r.slots ≡ c.slots) (sym ring) k.wide;
@@ -42,6 +44,9 @@ stands_same c v w l number ring mine rests frees backs k = record {
   rests = k.rests ∙ sym rests;
   frees = k.frees ∙ sym frees;
   backs = k.backs ∙ sym backs;
+  locks = k.locks ∙ sym keeps.locks;
+  aborts = k.aborts ∙ sym keeps.aborts;
+  settled = keeps.settled k.settled;
   cuts = subst (λ (r : Ring). l.back ≤ l.freed + cut_count r) (sym ring) k.cuts;
   used = subst (λ cs. writes_in cs + l.held ≤ next_of l) (sym mine) k.used;
   all_used = λ none. k.all_used none ∙ ap (λ cs. writes_in cs + l.held) (sym mine);
@@ -79,7 +84,9 @@ module _ (c : Config) (v : View) (l : Noted) (n : Note) (k : Stands c v l) (buil
       let old_next = k.next in
       let spared : spare_count (put_slot v.ring s z) + 1 ≡ spare_count v.ring = count_less v.ring s z within is_spare (ap is_spare here) refl in
       let used_before = k.used in
-      let spare_before = k.spare in record {
+      let spare_before = k.spare in
+      let won : count_by is_won_lock (head_locked c v inside n.object n.previous n.position).trail ≡ count_by is_won_lock v.trail + 1 =
+      passed is_won_lock v.trail _ refl in record {
         seat = k.seat;
         slots = k.slots;
         wide = length-set v.ring.slots s z ∙ k.wide;
@@ -119,6 +126,9 @@ module _ (c : Config) (v : View) (l : Noted) (n : Note) (k : Stands c v l) (buil
         rests = k.rests;
         frees = k.frees ∙ sym (unpassed is_free v.trail _ refl);
         backs = k.backs ∙ sym (unpassed is_won_cut v.trail _ refl);
+        locks = (let old = k.locks in let one = won in omega arith);
+        aborts = k.aborts ∙ sym (aborts_kept v.trail _ refl);
+        settled = ends_last v.trail _;
         cuts = subst (λ m. l.back ≤ l.freed + m) (sym (count_same v.ring s z within is_cut (sym (ap is_cut here)))) k.cuts;
         used = (omega arith);
         all_used = λ none. let all = k.all_used none in (omega arith);

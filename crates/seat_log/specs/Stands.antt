@@ -1,10 +1,10 @@
 -- The log stands for the pass: every note in it is a fact of the pass's view.
-use Rattle.std.specs.Prelude.{◌≡◌, ◌≢◌, ℕ, zero, suc, ◌+◌, ◌<◌, ◌≤◌, ◌&&◌, nat_le, Bool, true, false, List, length}
+use Rattle.std.specs.Prelude.{◌≡◌, ◌≢◌, ℕ, zero, suc, ◌+◌, ◌<◌, ◌≤◌, ◌&&◌, not, nat_le, Bool, true, false, cond, List, [], ◌∷◌, length}
 use Rattle.std.specs.Prelude.{map, count_by, sum_by, Option, Some, None, is_some}
 use Rattle.mv_history.specs.declared.Commit.{Commit}
 use Rattle.mv_history.specs.declared.Step.{Step}
 use Rattle.mv_history.specs.declared.StepKind.{StepKind}
-use Rattle.mv_history.specs.declared.StepKind.TheVariants.{StoreFree, CutHead}
+use Rattle.mv_history.specs.declared.StepKind.TheVariants.{LockHead, UnlockHead, StoreFree, CutHead}
 use Rattle.mv_layout.specs.declared.Config.{Config}
 use Rattle.mv_layout.specs.Words.{unset_of}
 use Rattle.mv_core.specs.declared.ring.Ring.{Ring}
@@ -84,13 +84,46 @@ is_free s = is_free_kind s.kind
 abbrev pub is_won_cut : Step → Bool
 is_won_cut s = is_cut_kind s.kind && is_some s.stored
 
+-- whether it is an exchange of HEAD that locks an object
+abbrev pub is_lock_kind : StepKind → Bool
+is_lock_kind LockHead = true
+is_lock_kind _ = false
+
+-- an exchange that locked an object: it was won, and so stored something
+abbrev pub is_won_lock : Step → Bool
+is_won_lock s = is_lock_kind s.kind && is_some s.stored
+
+-- whether it is a store of HEAD that gives a locked object up
+abbrev pub is_unlock_kind : StepKind → Bool
+is_unlock_kind UnlockHead = true
+is_unlock_kind _ = false
+
+-- a step that gives a locked object up
+abbrev pub is_unlock : Step → Bool
+is_unlock s = is_unlock_kind s.kind
+
+-- whether the last of these steps gives an object up; where there are none, as told
+abbrev pub ends_unlocking : Bool → List Step → Bool
+ends_unlocking before [] = before
+ends_unlocking before (s ∷ steps) = ends_unlocking (is_unlock s) steps
+
+-- how many of these steps give an object up and don't follow one that does, where `before` tells that of the step before them
+abbrev pub unlocks_after : Bool → List Step → ℕ
+unlocks_after before [] = 0
+unlocks_after before (s ∷ steps) = cond (is_unlock s && not before) 1 0 + unlocks_after (is_unlock s) steps
+
+-- The aborts among a seat's steps, of sections that held something. Such an abort gives up its objects one right after the other, and then
+-- makes two steps of other kinds: so there is one for each step that gives an object up and doesn't follow another that does.
+abbrev pub aborts_in : List Step → ℕ
+aborts_in steps = unlocks_after false steps
+
 -- how many writes these commits have
 abbrev pub writes_in : List Commit → ℕ
 writes_in cs = sum_by (λ (c : Commit). length c.writes) cs
 
 -- The log stands for the pass: its live versions are those of the view's log, at their positions, and its counts are those of the
--- view. Every position that was ever in a chain is of a write of a commit, held, or of an abort; so where there was no abort they
--- are as many as these.
+-- view. Each position that was ever in a chain was put there by a won exchange that locked, and by no other; so they are as many as
+-- these. Each is of a write of a commit, held, or of an abort. No abort is under way.
 pub record Stands (c : Config) (v : View) (l : Noted) : Type 0 where
   pub seat : l.seat ≡ v.number
   pub slots : l.slots ≡ c.slots
@@ -109,5 +142,8 @@ pub record Stands (c : Config) (v : View) (l : Noted) : Type 0 where
   pub frees : l.freed ≡ count_by is_free v.trail
   pub backs : l.back ≡ count_by is_won_cut v.trail
   pub cuts : l.back ≤ l.freed + cut_count v.ring
+  pub locks : next_of l ≡ count_by is_won_lock v.trail
+  pub aborts : l.aborts ≡ aborts_in v.trail
+  pub settled : ends_unlocking false v.trail ≡ false
   pub used : writes_in v.past.mine + l.held ≤ next_of l
   pub all_used : l.aborts ≡ 0 → next_of l ≡ writes_in v.past.mine + l.held

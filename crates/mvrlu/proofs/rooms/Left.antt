@@ -15,13 +15,13 @@ use Rattle.mv_core.specs.Known.{Known}
 use Rattle.mv_core.proofs.logs.Counts.{one_if}
 use Rattle.seat_log.specs.Notes.{Noted}
 use Rattle.seat_log.specs.Stands.{is_free, Stands}
-use Rattle.log_reclaim.specs.Parts.{NamesNoCommit, Reclaims, Shrinks, grace_load}
+use Rattle.log_reclaim.specs.Parts.{IsReclaimKind, Reclaims, Shrinks, grace_load}
 use Rattle.log_reclaim.specs.Rounds.{FreesFirst}
 use Rattle.mvrlu.specs.Placed.{Placed, seat_from, IsIdle}
 use Rattle.mvrlu.proofs.Trails.{made as made_since, none_named}
 use Rattle.mvrlu.proofs.Continuing.{continues, placed_on}
 
-no_name : (k : StepKind) → NamesNoCommit k → is_commit_exchange k ≡ false
+no_name : (k : StepKind) → IsReclaimKind k → is_commit_exchange k ≡ false
 no_name NameCommit h = absurd h
 no_name _ h = refl
 
@@ -48,7 +48,7 @@ module _ (starts : State → Type 0) (allows : List ℕ → State → Writes →
   prepared = record {
     continues = continues p q config table made number_is (ap (λ (x : View). x.start) reclaims.rest) base_is reclaims.seen reclaims.trail;
     mine = reclaims.mine;
-    names_no_commit = ap commit_exchanges trail_is ∙ none_named NamesNoCommit no_name made reclaims.kinds;
+    names_no_commit = ap commit_exchanges trail_is ∙ none_named IsReclaimKind no_name made reclaims.kinds;
   }
 
   -- the slots that the call freed, by one step each

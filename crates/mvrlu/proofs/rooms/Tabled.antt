@@ -25,6 +25,8 @@ tabled starts allows p idle t is counts =
       back = counts.back;
       freed = counts.freed;
       live = (let live = ap (λ (x : LogTable). x.live) is in omega arith);
+      locks = counts.locks;
+      aborts = counts.aborts;
       used = (let all = counts.used in omega arith);
       all_used = λ e. let all = counts.all_used e in omega arith;
     }

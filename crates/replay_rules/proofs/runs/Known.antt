@@ -2,6 +2,7 @@
 use Rattle.std.proofs.Common.{◌≡◌, ◌≢◌, ◌⊎◌, ℕ, ◌<◌, ◌≤◌, ◌^◌, suc, ◌==◌, ◌&&◌, ltb, leb, get_or, List, [], ◌∷◌, ◌++◌, Bool, true, false, refl, ap}
 use Rattle.std.proofs.Common.{arith, inl, inr, if◌then◌else◌, eq-eqb, lt-ltb, le-ltb, le-leb, length}
 use Rattle.std.proofs.lemmas.Bool.{cases_lt, lt-leb}
+use Rattle.std.proofs.lemmas.List.Elements.{All-nil, All-cons}
 use Rattle.mv_history.specs.declared.Step.{Step}
 use Rattle.mv_core.proofs.Terms.{Config, Checked, parts_of, Place}
 use Rattle.mv_core.specs.declared.view.View.{View}
@@ -11,7 +12,7 @@ use Rattle.mv_core.proofs.logs.Links.{next_small}
 use Rattle.mv_core.specs.Known.{Known}
 use Rattle.mv_core.specs.MoveLaws.{Holds}
 use Rattle.mv_core.proofs.frames.Turning.{known_of}
-use Rattle.seat_log.proofs.PlainSteps.{LeavesLog, stands_left, one_leaves}
+use Rattle.seat_log.proofs.PlainSteps.{LeavesLog, IsPlain, one_plain, stands_plain}
 use Rattle.replay_rules.specs.declared.seats.Version.{Version}
 use Rattle.replay_rules.specs.States.{any_commit, any_start, zeros, Made, state_of, AreMade}
 use Rattle.replay_rules.proofs.Replays.{made_behind, holds_behind}
@@ -98,14 +99,20 @@ module _ (c : Config) (k : Checked c) (n : ℕ) (made : List Made) (each : AreMa
   pub word_small : (p : Place) → (state_of c made).memory p < 2 ^ 64
   word_small p = (holds_behind c k made each).words p
 
--- the notes stand for the view after a step that leaves the log alone
-pub logs_left : (c : Config) (v w : View) (log : List Version) (freed from : ℕ) → w.number ≡ v.number → w.ring ≡ v.ring → w.past.mine ≡ v.past.mine
-    → w.past.rests ≡ v.past.rests → (s : Step) → w.trail ≡ v.trail ++ s ∷ [] → LeavesLog s.kind → Logs c v log freed from → Logs c w log freed from
-logs_left c v w log freed from number ring mine rests s trail leaves k = record {
+-- the notes stand for the view after a plain step
+pub logs_plain : (c : Config) (v w : View) (log : List Version) (freed from : ℕ) → w.number ≡ v.number → w.ring ≡ v.ring → w.past.mine ≡ v.past.mine
+    → w.past.rests ≡ v.past.rests → (s : Step) → w.trail ≡ v.trail ++ s ∷ [] → IsPlain s → Logs c v log freed from → Logs c w log freed from
+logs_plain c v w log freed from number ring mine rests s trail plain k = record {
   noted = k.noted;
-  stands = stands_left c v w k.noted k.stands number ring mine rests (s ∷ []) trail (one_leaves s leaves);
+  stands = stands_plain c v w k.noted k.stands number ring mine rests (s ∷ []) trail (All-cons IsPlain s [] plain (All-nil IsPlain));
   is = k.is;
 }
+
+-- and after one of a kind that leaves the log alone
+pub logs_left : (c : Config) (v w : View) (log : List Version) (freed from : ℕ) → w.number ≡ v.number → w.ring ≡ v.ring → w.past.mine ≡ v.past.mine
+    → w.past.rests ≡ v.past.rests → (s : Step) → w.trail ≡ v.trail ++ s ∷ [] → LeavesLog s.kind → Logs c v log freed from → Logs c w log freed from
+logs_left c v w log freed from number ring mine rests s trail leaves k =
+    logs_plain c v w log freed from number ring mine rests s trail (one_plain s leaves) k
 
 -- lists as long as one another with the same elements
 pub same_list : {A : Type 0} (d : A) (xs ys : List A) → length xs ≡ length ys → ((i : ℕ) → i < length xs → get_or xs i d ≡ get_or ys i d) → xs ≡ ys

@@ -44,7 +44,7 @@ use Rattle.replay_rules.proofs.runs.Sections.{seat_with, Logs, InSection, MayHol
 use Rattle.replay_rules.proofs.runs.Standing.{HasFields, Builds, LocksAt, StepsSo}
 use Rattle.replay_rules.proofs.runs.Standing.{GoesSo, by_step, by_end}
 use Rattle.replay_rules.proofs.runs.Stepping.{IsOfKind, view_by, next_is}
-use Rattle.replay_rules.proofs.runs.Known.{if_so, eqb_ne, ltb_lt, ltb_ge, and_left, number_is, knows, next_low, logs_left}
+use Rattle.replay_rules.proofs.runs.Known.{if_so, eqb_ne, ltb_lt, ltb_ge, and_left, number_is, knows, next_low, logs_plain}
 use Rattle.replay_rules.proofs.runs.LogFacts.{noted_long, next_long, held_are, first_held, held_in_log, stands_whole}
 use Rattle.replay_rules.proofs.runs.Fields.{field_range, field_small, field_fits, has_next, has_first, whole_words, has_link}
 use Rattle.replay_rules.proofs.runs.Helping.{rests_in}
@@ -290,7 +290,7 @@ module _ (c : Config) (k : Checked c) (n : ℕ) (lt : n < c.seats) (made : List 
         let seat_is : learned task (s.memory (Head version.object)) seat ≡ seat = ap
         (λ x. record seat { log = applied (if x then Pushed version else Kept) log }) there in
         let still = section_stays c v B log freed from time inside refl refl refl
-        (logs_left c v B log freed from refl refl refl refl _ refl (refl, refl) inside.logs) in
+        (logs_plain c v B log freed from refl refl refl refl _ refl (refl, refl, refl, refl) inside.logs) in
         let keep = builds_stay c v B i log from o version at refl refl builds in
         let cleared = builds_stay c v B i log from o version at refl refl builds in
         let goes : GoesSo c n B log freed from time call sweep

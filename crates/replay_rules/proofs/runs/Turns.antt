@@ -14,6 +14,7 @@ use Rattle.mv_layout.specs.Cells.{Shows}
 use Rattle.seat_log.specs.Notes.{nothing_noted}
 use Rattle.seat_log.specs.Stands.{is_free, is_won_cut}
 use Rattle.seat_log.proofs.BuildsOn.{unpassed}
+use Rattle.seat_log.proofs.StepCounts.{KeepsLocks, keeps_same, keeps_one, keeps_then}
 use Rattle.seat_log.proofs.Beginning.{stands_new}
 use Rattle.seat_log.proofs.Stays.{stands_same}
 use Rattle.replay_rules.specs.declared.plan.Call.TheVariants.{Enter}
@@ -253,10 +254,11 @@ record IsNew (c : Config) (n : ℕ) (v : View) : Type 0 where
   rests : v.past.rests ≡ 0
   frees : count_by is_free v.trail ≡ 0
   cuts : count_by is_won_cut v.trail ≡ 0
+  keeps : KeepsLocks [] v.trail
 
 new_made : (c : Config) (count n : ℕ) → IsNew c n ((with_made c count (opening_of c (zeros c))).seats n)
 new_made c zero n =
-    record { number = refl; phase = refl; scan = refl; ring = refl; mine = refl; rests = refl; frees = refl; cuts = refl }
+    record { number = refl; phase = refl; scan = refl; ring = refl; mine = refl; rests = refl; frees = refl; cuts = refl; keeps = keeps_same [] }
 new_made c (suc count) n =
     let s = with_made c count (opening_of c (zeros c)) in
     let first = new_made c count 0 in
@@ -269,9 +271,10 @@ new_made c (suc count) n =
       rests = first.rests;
       frees = unpassed is_free (s.seats 0).trail _ refl ∙ first.frees;
       cuts = unpassed is_won_cut (s.seats 0).trail _ refl ∙ first.cuts;
+      keeps = keeps_then [] (s.seats 0).trail _ first.keeps (keeps_one (s.seats 0).trail _ refl refl);
     } in
     set_at_all (IsNew c) (set_at s.seats 0 (made_one c (s.seats 0))) (s.seats 0).made (newly_made c (s.seats 0))
-    (record { number = refl; phase = refl; scan = refl; ring = refl; mine = refl; rests = refl; frees = refl; cuts = refl })
+    (record { number = refl; phase = refl; scan = refl; ring = refl; mine = refl; rests = refl; frees = refl; cuts = refl; keeps = keeps_same [] })
     (λ t _. set_at_all (IsNew c) s.seats 0 (made_one c (s.seats 0)) maker (λ u _. new_made c count u) t) n
 
 -- the notes of a seat of a new domain stand for its view
@@ -280,7 +283,8 @@ new_logs c k n lt v new =
     let old = stands_new c (zeros c) n k lt in record {
       noted = nothing_noted n c.slots;
       stands = stands_same c (starting_view c (zeros c) n) v (nothing_noted n c.slots) (new.number ∙ old.seat) (new.ring ∙ sym (begins n).0)
-          (new.mine ∙ sym (begins n).1) (new.rests ∙ sym (begins n).2) (new.frees ∙ old.frees) (new.cuts ∙ old.backs) old;
+          (new.mine ∙ sym (begins n).1) (new.rests ∙ sym (begins n).2) (new.frees ∙ old.frees) (new.cuts ∙ old.backs)
+          (record { locks = new.keeps.locks ∙ old.locks; aborts = new.keeps.aborts ∙ old.aborts; settled = λ _. new.keeps.settled refl }) old;
       is = record { live = refl; gone = refl; within = omega arith; unbuilt = refl; held = refl; few = omega arith };
     }
   where

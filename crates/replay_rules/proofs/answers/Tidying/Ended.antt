@@ -1,11 +1,17 @@
 -- The log behind a tidy, by that before it.
-use Rattle.std.proofs.Common.{◌≡◌, ℕ, ◌+◌, ◌-◌, ◌≤◌, List, length, None, sym, ap, ◌∙◌, subst, arith, slice_get}
+use Rattle.std.proofs.Common.{◌≡◌, ℕ, ◌+◌, ◌-◌, false, List, length, None, refl, sym, ap, ◌∙◌, subst, arith, slice_get}
+use Rattle.std.specs.Prelude.{◌&&◌, is_some}
+use Rattle.std.proofs.lemmas.List.Elements.{All-weaker}
+use Rattle.mv_history.specs.declared.Step.{Step}
+use Rattle.mv_history.specs.declared.StepKind.{StepKind}
+use Rattle.mv_history.specs.declared.StepKind.TheVariants.{LockHead, UnlockHead, NameCommit}
 use Rattle.mv_core.proofs.Terms.{Config}
 use Rattle.mv_core.specs.declared.view.View.{View}
 use Rattle.mv_core.specs.Known.{Known}
-use Rattle.seat_log.specs.Notes.{Noted, IsLog}
-use Rattle.seat_log.specs.Stands.{Stands, writes_in}
-use Rattle.log_reclaim.specs.Parts.{Reclaims, Shrinks, DiesFrom}
+use Rattle.seat_log.specs.Notes.{Noted}
+use Rattle.seat_log.specs.Stands.{Stands, is_lock_kind, is_unlock_kind, is_won_lock, is_unlock}
+use Rattle.seat_log.proofs.StepCounts.{keeps_more}
+use Rattle.log_reclaim.specs.Parts.{IsReclaimKind, Reclaims, Shrinks, DiesFrom}
 use Rattle.log_reclaim.proofs.Idle.{still_of}
 use Rattle.replay_rules.specs.declared.seats.Version.{Version}
 use Rattle.replay_rules.specs.States.{any_commit, any_start}
@@ -15,44 +21,12 @@ use Rattle.replay_rules.proofs.runs.Rounds.{note_is}
 use Rattle.replay_rules.proofs.answers.Tidying.Further.{further_number}
 use Rattle.replay_rules.proofs.answers.Tidying.Far.{HasCome, note_in}
 
--- the log with another count of aborts stands for the view, where that is in range
-stands_counted : (c : Config) (w : View) (m : Noted) (aborts : ℕ) → Stands c w m → m.commits + aborts + m.held ≤ m.freed + length m.live
-    → (aborts ≡ 0 → m.freed + length m.live ≡ writes_in w.past.mine + m.held) → Stands c w (record m { aborts = aborts })
-stands_counted c w m aborts k sets used =
-    let g = k.log in
-    let log : IsLog (record m { aborts = aborts }) = record {
-      seat = g.seat;
-      slots = g.slots;
-      room = g.room;
-      held = g.held;
-      notes = record { position = g.notes.position; first = g.notes.first; run = g.notes.run; held = g.notes.held };
-      built = g.built;
-      positions = g.positions;
-      sets = sets;
-      backs = g.backs;
-      rests = g.rests;
-    } in
-    record {
-      seat = k.seat;
-      slots = k.slots;
-      wide = k.wide;
-      log = log;
-      next = k.next;
-      held = k.held;
-      live = k.live;
-      all = k.all;
-      none_freeing = k.none_freeing;
-      builds = k.builds;
-      built = k.built;
-      spare = k.spare;
-      commits = k.commits;
-      rests = k.rests;
-      frees = k.frees;
-      backs = k.backs;
-      cuts = k.cuts;
-      used = k.used;
-      all_used = used;
-    }
+-- a kind of step that reclaiming may make locks nothing and gives nothing up
+reclaim_kind : (kind : StepKind) → IsReclaimKind kind → (is_lock_kind kind ≡ false) × (is_unlock_kind kind ≡ false)
+reclaim_kind NameCommit is = absurd is
+reclaim_kind LockHead is = absurd is
+reclaim_kind UnlockHead is = absurd is
+reclaim_kind _ is = (refl, refl)
 
 module _ (c : Config) (v0 w : View) (log : List Version) (freed from began : ℕ) (k : HasCome c v0 w log freed from began)
     (rests : RestsAt c w log freed from None) where
@@ -61,15 +35,6 @@ module _ (c : Config) (v0 w : View) (log : List Version) (freed from began : ℕ
 
   abbrev pub after_noted : Noted
   after_noted = record rests.2.noted { aborts = k.rests.2.noted.aborts }
-
-  same_next : rests.2.noted.freed + length rests.2.noted.live ≡ k.rests.2.noted.freed + length k.rests.2.noted.live
-  same_next =
-      let long = noted_long c rests.2.noted log freed from rests.2.is in
-      let was = noted_long c k.rests.2.noted k.old began from k.rests.2.is in
-      let gone = rests.2.is.gone in
-      let left = k.rests.2.is.gone in
-      let same = k.same.long in
-      omega (arith, long, was, gone, left, same)
 
   same_held : rests.2.noted.held ≡ k.rests.2.noted.held
   same_held =
@@ -81,16 +46,18 @@ module _ (c : Config) (v0 w : View) (log : List Version) (freed from began : ℕ
   same_commits : rests.2.noted.commits ≡ k.rests.2.noted.commits
   same_commits = rests.2.stands.commits ∙ ap length k.further.mine ∙ sym k.rests.2.stands.commits
 
+  -- no step of a tidy gives an object up, so no more were aborted
+  same_aborts : rests.2.noted.aborts ≡ k.rests.2.noted.aborts
+  same_aborts =
+      let f = k.further in
+      let kept = keeps_more v0.trail w.trail k.made f.trail
+      (All-weaker (λ (s : Step). IsReclaimKind s.kind) (λ s. is_won_lock s ≡ false)
+      (λ s is. ap (λ b. b && is_some s.stored) (reclaim_kind s.kind is).0) k.made f.kinds)
+      (All-weaker (λ (s : Step). IsReclaimKind s.kind) (λ s. is_unlock s ≡ false) (λ s is. (reclaim_kind s.kind is).1) k.made f.kinds) in
+      rests.2.stands.aborts ∙ kept.aborts ∙ sym k.rests.2.stands.aborts
+
   pub after_stands : Stands c w after_noted
-  after_stands =
-      let sets = k.rests.2.stands.log.sets in
-      let next = same_next in
-      let held = same_held in
-      let commits = same_commits in
-      stands_counted c w rests.2.noted k.rests.2.noted.aborts rests.2.stands (omega (arith, sets, next, held, commits))
-      (λ none.
-      next ∙ k.rests.2.stands.all_used none
-      ∙ (λ i. writes_in (sym k.further.mine i) + sym held i))
+  after_stands = subst (λ (n : ℕ). Stands c w (record rests.2.noted { aborts = n })) same_aborts rests.2.stands
 
   pub after_shrinks : Shrinks before_noted after_noted (freed - began)
   after_shrinks =

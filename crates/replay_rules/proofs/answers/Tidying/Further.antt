@@ -5,7 +5,7 @@ use Rattle.mv_history.specs.declared.Step.{Step}
 use Rattle.mv_core.specs.declared.view.View.{View}
 use Rattle.mv_core.specs.HistoryFacts.{BeginsWith}
 use Rattle.mv_core.proofs.history.Fronts.{begins_by, begins_long}
-use Rattle.log_reclaim.specs.Parts.{NamesNoCommit}
+use Rattle.log_reclaim.specs.Parts.{IsReclaimKind}
 
 -- A view came from another one by these steps, none of which names a commit: what was seen is only longer, the own commits are as before, the
 -- watermark isn't lower, and nothing else has changed but where the seat is and its log.
@@ -14,7 +14,7 @@ pub record Further (v w : View) (made : List Step) : Type 0 where
   pub mine : w.past.mine ≡ v.past.mine
   pub grace : v.grace ≤ w.grace
   pub trail : w.trail ≡ v.trail ++ made
-  pub kinds : All (λ s. NamesNoCommit s.kind) made
+  pub kinds : All (λ s. IsReclaimKind s.kind) made
   pub rest : w ≡ record v {
     past = w.past;
     phase = w.phase;
@@ -35,7 +35,7 @@ further_none v = record {
   mine = refl;
   grace = (let e : v.grace ≤ v.grace = omega arith in e);
   trail = sym (append-nil v.trail);
-  kinds = All-nil (λ s. NamesNoCommit s.kind);
+  kinds = All-nil (λ s. IsReclaimKind s.kind);
   rest = refl;
 }
 
@@ -46,7 +46,7 @@ further_on u v w made more a b = record {
   mine = b.mine ∙ a.mine;
   grace = (let first = a.grace in let then = b.grace in omega (arith, first, then));
   trail = b.trail ∙ ap (λ l. l ++ more) a.trail ∙ append_assoc u.trail made more;
-  kinds = All-append (λ s. NamesNoCommit s.kind) made more a.kinds b.kinds;
+  kinds = All-append (λ s. IsReclaimKind s.kind) made more a.kinds b.kinds;
   rest = b.rest
       ∙ ap
       (λ (x : View).
@@ -67,7 +67,7 @@ further_on u v w made more a b = record {
 
 -- one step was made
 pub further_one : (v w : View) (s : Step) → BeginsWith w.past.seen v.past.seen → w.past.mine ≡ v.past.mine → v.grace ≤ w.grace
-    → w.trail ≡ v.trail ++ s ∷ [] → NamesNoCommit s.kind
+    → w.trail ≡ v.trail ++ s ∷ [] → IsReclaimKind s.kind
     → w ≡ record v {
       past = w.past;
       phase = w.phase;
@@ -86,7 +86,7 @@ further_one v w s seen mine grace trail kind rest = record {
   mine = mine;
   grace = grace;
   trail = trail;
-  kinds = All-cons (λ s. NamesNoCommit s.kind) s [] kind (All-nil (λ s. NamesNoCommit s.kind));
+  kinds = All-cons (λ s. IsReclaimKind s.kind) s [] kind (All-nil (λ s. IsReclaimKind s.kind));
   rest = rest;
 }
 

@@ -4,6 +4,7 @@ use Rattle.mv_core.specs.Passes.{view, config_of}
 use Rattle.mv_core.specs.EnterSteps.{low_loaded, mark_stored, time_loaded}
 use Rattle.seat_log.specs.Stands.{is_free, is_won_cut, Stands}
 use Rattle.seat_log.proofs.BuildsOn.{unpassed}
+use Rattle.seat_log.proofs.StepCounts.{keeps_one}
 use Rattle.seat_log.proofs.Stays.{stands_same}
 use Rattle.runtime_tests.proofs.first_logs.begin.Goals as goal
 
@@ -18,11 +19,12 @@ returns-clause-stands g c =
     let one : Stands d v l =
     subst (λ (x : View). Stands d x l) (sym c.load_low-low.ensures.view)
     (stands_same d u (low_loaded d u c.load_low-low.result) l refl refl refl refl (unpassed is_free u.trail _ refl) (unpassed is_won_cut u.trail _ refl)
+    (keeps_one u.trail _ refl refl)
     c.requires.stands) in
     let two : Stands d w l =
     subst (λ (x : View). Stands d x l) (sym c.store_mark.ensures.view)
     (stands_same d v (mark_stored d v c.clock_time.result) l refl refl refl refl (unpassed is_free v.trail _ refl)
-    (unpassed is_won_cut v.trail _ refl) one) in
+    (unpassed is_won_cut v.trail _ refl) (keeps_one v.trail _ refl refl) one) in
     subst (λ (x : View). Stands d x l) (sym time.2)
     (stands_same d w (time_loaded d w c.load_time.result time.0) l refl refl refl refl (unpassed is_free w.trail _ refl)
-    (unpassed is_won_cut w.trail _ refl) two)
+    (unpassed is_won_cut w.trail _ refl) (keeps_one w.trail _ refl refl) two)

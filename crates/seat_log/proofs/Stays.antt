@@ -85,7 +85,7 @@ module _ (c : Config) (v : View) (l : Noted) (n : Note) (k : Stands c v l) (buil
       let spared : spare_count (put_slot v.ring s z) + 1 ≡ spare_count v.ring = count_less v.ring s z within is_spare (ap is_spare here) refl in
       let used_before = k.used in
       let spare_before = k.spare in
-      let won : count_by is_won_lock (head_locked c v inside n.object n.previous n.position).trail ≡ count_by is_won_lock v.trail + 1 =
+      let won : count_by is_won_lock (head_locked c v n.object n.previous n.position n.words).trail ≡ count_by is_won_lock v.trail + 1 =
       passed is_won_lock v.trail _ refl in record {
         seat = k.seat;
         slots = k.slots;

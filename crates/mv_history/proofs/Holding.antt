@@ -1,13 +1,14 @@
 -- What a section reads after a lock or a write.
-use Rattle.std.proofs.Common.{◌≡◌, ◌≢◌, ℕ, ◌≤◌, Bool, true, false, cond, eqb, not, ◌||◌, List, [], ◌∷◌, ◌++◌, length, set, refl, sym, ap, ◌∙◌, arith}
+use Rattle.std.proofs.Common.{◌≡◌, ◌≢◌, ℕ, ◌+◌, ◌≤◌, eq-eqb, Bool, true, false, cond, eqb, not, ◌||◌, List, [], ◌∷◌, ◌++◌, length, set, refl, sym, ap, ◌∙◌, arith}
 use Rattle.std.proofs.lemmas.List.{set-set, set_comm, set-get_or}
 use Rattle.std.proofs.lemmas.Bool.{not-true, and_parts}
 use Rattle.std.proofs.lemmas.Bool.Decides.{nat_tests}
 use Rattle.mv_history.specs.State.{State, Writes, written, touches, rewritten}
 use Rattle.mv_history.specs.Legal.{are_distinct}
-use Rattle.mv_history.specs.Meaning.{InSection, Holds, snapshot_of, state_of, words_at}
-use Rattle.mv_history.specs.Calls.{IsAsBefore, Locks, Rewrites}
-use Rattle.mv_history.proofs.Writing.{written-append}
+use Rattle.mv_history.specs.Meaning.{InSection, Holds, Lacks, snapshot_of, state_of, words_at}
+use Rattle.mv_history.specs.Calls.{IsAsBefore, Locks, LocksWith, Rewrites}
+use Rattle.mv_history.proofs.Steps.{Continues-Continues}
+use Rattle.mv_history.proofs.Writing.{written-append, touches-append}
 use Rattle.mv_history.proofs.Snapshots.{snapshot_of-later}
 
 -- an object that is not written later may be set after all of them
@@ -36,6 +37,37 @@ written-rewritten s (w ∷ ws) o words d t = go (eqb w.0 o) refl t (written-rewr
         let apart : touches ws o ≡ false = ap (touches ws) (sym same) ∙ not-true (touches ws w.0) parts.0 in
         written-set_other s ws o words apart ∙ sym (set-set (written s ws) o w.1 words)
         ∙ ap (λ u. set u o words) (sym (written-set_other s ws o w.1 apart) ∙ ap (λ n. written (set s n w.1) ws) (sym same))
+
+-- the words of the last write are others
+pub rewritten-last : (ws : Writes) (o : ℕ) (old words : List ℕ) → touches ws o ≡ false → rewritten (ws ++ (o, old) ∷ []) o words ≡ ws ++ (o, words) ∷ []
+rewritten-last [] o old words lacks = ap (λ b. cond b ((o, words) ∷ []) ((o, old) ∷ [])) (eq-eqb o o refl)
+rewritten-last (w ∷ ws) o old words lacks =
+    let apart : eqb w.0 o ≡ false = grind (arith, nat_tests) in
+    let later : touches ws o ≡ false = grind (arith, nat_tests) in
+    ap (λ b. cond b ((o, words) ∷ (ws ++ (o, old) ∷ [])) (w ∷ rewritten (ws ++ (o, old) ∷ []) o words)) apart
+    ∙ ap (λ u. w ∷ u) (rewritten-last ws o old words later)
+
+-- an object that was locked is held
+pub locks-holds : (a b : InSection) (o : ℕ) → (Holds a o → b ≡ a) → (Lacks a o → Locks a b o) → Holds b o
+locks-holds a b o again new = go (touches a.own o) refl
+  where
+    go : (t : Bool) → touches a.own o ≡ t → Holds b o
+    go true e = ap (λ (s : InSection). touches s.own o) (again e) ∙ e
+    go false e =
+        let last : eqb o o ≡ true = eq-eqb o o refl in
+        ap (λ u. touches u o) (new e).own ∙ touches-append a.own ((o, words_at (state_of a) o) ∷ []) o
+        ∙ ap (λ t. t || (eqb o o || false)) e ∙ ap (λ t. t || false) last
+
+-- a lock, and then a write, is a lock with these words
+pub locks-rewrites : (a b c : InSection) (o : ℕ) (words : List ℕ) → Lacks a o → Locks a b o → Rewrites b c o words → LocksWith a c o words
+locks-rewrites a b c o words lacks p q = record {
+  continues = Continues-Continues p.continues q.seat.continues;
+  mine = q.seat.mine ∙ p.mine;
+  rests = q.seat.rests ∙ p.rests;
+  spare = ap (λ n. n + 1) q.seat.spare ∙ p.spare;
+  at = q.at ∙ p.at;
+  own = q.own ∙ ap (λ u. rewritten u o words) p.own ∙ rewritten-last a.own o (words_at (state_of a) o) words lacks;
+}
 
 -- a section that is as before reads what it read
 pub state_of-as_before : (a b : InSection) → a.at ≤ length a.seat.seen → IsAsBefore a b → state_of b ≡ state_of a

@@ -70,14 +70,18 @@ IsSetFull s = length s.own ≡ s.seat.write_max
 abbrev pub IsLogFull : InSection → Type 0
 IsLogFull s = s.seat.spare ≡ 0
 
--- the object joins those that are held, with the words that the section reads
-pub record Locks (old new : InSection) (object : ℕ) : Type 0 where
+-- the object joins those that are held, with these words
+pub record LocksWith (old new : InSection) (object : ℕ) (words : List ℕ) : Type 0 where
   pub continues : Continues old.seat new.seat
   pub mine : new.seat.mine ≡ old.seat.mine
   pub rests : new.seat.rests ≡ old.seat.rests
   pub spare : new.seat.spare + 1 ≡ old.seat.spare
   pub at : new.at ≡ old.at
-  pub own : new.own ≡ old.own ++ (object, words_at (state_of old) object) ∷ []
+  pub own : new.own ≡ old.own ++ (object, words) ∷ []
+
+-- with the words that the section reads
+abbrev pub Locks : InSection → InSection → ℕ → Type 0
+Locks old new object = LocksWith old new object (words_at (state_of old) object)
 
 -- the held object gets these words
 pub record Rewrites (old new : InSection) (object : ℕ) (words : List ℕ) : Type 0 where

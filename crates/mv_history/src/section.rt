@@ -4,7 +4,7 @@ ghost use Rattle.mv_history.specs.State.{touches};
 ghost use Rattle.mv_history.specs.Drift.{IsFit};
 ghost use Rattle.mv_history.specs.Trail.{commit_exchanges, IsOneWon, IsOneLost};
 ghost use Rattle.mv_history.specs.Meaning.{Seat, InSection, snapshot_of, state_of, Holds, Lacks, IsWorn, IsSeat, IsSection};
-ghost use Rattle.mv_history.specs.Calls.{call_trail, IsAsBefore, GoesOn, IsSetFull, IsLogFull, Locks, Rewrites, Leaves, Commits, IsStale, Overtakes};
+ghost use Rattle.mv_history.specs.Calls.{call_trail, IsAsBefore, GoesOn, IsSetFull, IsLogFull, Locks, LocksWith, Rewrites, Leaves, Commits, IsStale, Overtakes};
 
 use crate::answers::{CommitAnswer, LockAnswer};
 use crate::history::{Tag, Words};
@@ -100,6 +100,37 @@ pub trait Section: View + Sized {
         ensures held { result ≡ Held → Lacks (section self.old) object → Locks (section self.old) (section self.new) object }
 
         ensures log_full_only { result ≡ LogFull → may_refuse };
+
+    /// Tries to hold an object, with these words. The answers are tried in the order of `try_lock`:
+    ///
+    /// - `Held` where the object is held already, which gets these words.
+    /// - The refusals come as those of `try_lock`, and leave the section as before.
+    /// - Else `Held`: the object joins those that are held, with these words, and the log has one free
+    ///   slot less.
+    fn try_lock_with(&mut self, object: u32, words: Words) -> LockAnswer
+        requires { object < length (Self.state self.old) }
+        ensures goes_on { GoesOn (section self.old) (section self.new) }
+        ensures refused { result ≢ Held → IsAsBefore (section self.old) (section self.new) }
+
+        // The answers in their order.
+        ensures again { Holds (section self.old) object → (result ≡ Held) × Rewrites (section self.old) (section self.new) object words }
+        ensures set_full { (result ≡ SetFull) ↔ (Lacks (section self.old) object × IsSetFull (section self.old)) }
+        ensures log_full { (result ≡ LogFull) ↔ (Lacks (section self.old) object × ¬ IsSetFull (section self.old) × IsLogFull (section self.old)) }
+        ensures busy { (seat : ℕ) → result ≡ Busy seat →
+            may_refuse × (seat ≢ (section self.old).seat.number) × found_held (section self.old) (section self.new) object seat }
+        ensures stale { (time : ℕ) → result ≡ Stale time → may_refuse × IsStale (section self.new) object time }
+        ensures held { result ≡ Held → Lacks (section self.old) object → LocksWith (section self.old) (section self.new) object words }
+
+        ensures log_full_only { result ≡ LogFull → may_refuse }
+    {
+        match self.try_lock(object) {
+            LockAnswer::Held => {
+                self.write(object, words);
+                LockAnswer::Held
+            }
+            refusal => refusal,
+        }
+    }
 
     /// Gives a held object these words, in this section alone. It never refuses.
     fn write(&mut self, object: u32, words: Words)

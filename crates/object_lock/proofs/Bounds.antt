@@ -1,7 +1,7 @@
 -- How many steps the parts of a lock make together, and what they leave of the notes.
-use Rattle.std.proofs.Common.{◌≡◌, ℕ, ◌+◌, ◌<◌, ◌≤◌, ap, sym, subst, arith}
+use Rattle.std.proofs.Common.{◌≡◌, ℕ, ◌+◌, ◌<◌, ◌≤◌, List, Option, Some, None, ap, sym, subst, arith}
 use Rattle.seat_log.specs.Notes.{Noted, held_noted, cleared}
-use Rattle.object_lock.specs.Locks.{HoldsObject}
+use Rattle.object_lock.specs.Locks.{HoldsObject, most_to_start, most_to_lock}
 
 -- a won first exchange
 pub won_bound : (a b : ℕ) → b ≡ a + 1 → b ≤ a + 5
@@ -24,12 +24,14 @@ pub cleared_lost_bound : (a b d e : ℕ) → b ≡ a + 1 → d ≡ b + 1 → e �
 cleared_lost_bound a b d e one next two = omega arith
 
 -- both parts
-pub both_bound : (a b d : ℕ) → b ≤ a + 19 → d ≤ b + 5 → d ≤ a + 24
-both_bound a b d begun ended = omega arith
+pub both_bound : (given : Option (List ℕ)) (a b d : ℕ) → b ≤ a + most_to_start given → d ≤ b + 5 → d ≤ a + most_to_lock given
+both_bound None a b d begun ended = omega arith
+both_bound (Some words) a b d begun ended = omega arith
 
 -- the first part alone
-pub begun_bound : (a b : ℕ) → b ≤ a + 19 → b ≤ a + 24
-begun_bound a b begun = omega arith
+pub begun_bound : (given : Option (List ℕ)) (a b : ℕ) → b ≤ a + most_to_start given → b ≤ a + most_to_lock given
+begun_bound None a b begun = omega arith
+begun_bound (Some words) a b begun = omega arith
 
 -- a log that holds fewer than it may holds no more than it may with one more
 pub few_held : (l m : Noted) (most : ℕ) → m ≡ held_noted l → l.held < most → m.held ≤ most

@@ -1,6 +1,6 @@
 -- A version was built, or HEAD exchanged: what the next part of a lock asks, and how its outcome is that of both.
 use Rattle.std.proofs.Common.{◌≡◌, ℕ, ◌+◌, ◌<◌, ◌≤◌, ◌==◌, if◌then◌else◌, true, false, List, [], ◌∷◌, refl, sym}
-use Rattle.std.proofs.Common.{ap, ◌∙◌, subst, ⊎_elim, inl, inr, arith}
+use Rattle.std.proofs.Common.{ap, ◌∙◌, subst, ⊎_elim, inl, inr, arith, Option, Some, None}
 use Rattle.mv_history.specs.declared.answers.LockAnswer.{LockAnswer}
 use Rattle.mv_layout.specs.declared.Config.{Config}
 use Rattle.mv_core.specs.declared.view.View.{View}
@@ -15,14 +15,15 @@ use Rattle.seat_log.specs.Stands.{Stands}
 use Rattle.seat_log.specs.Builds.{slot_built, build_cost}
 use Rattle.version_chain.specs.Walks.{MayWalk, inside_of, section_in, time_at}
 use Rattle.version_chain.specs.Reads.{words_in}
-use Rattle.object_lock.specs.Tops.{Tries}
-use Rattle.object_lock.specs.Locks.{lost_step, HoldsObject, IsBuiltFor, OneOutcome, FewOutcome}
+use Rattle.object_lock.specs.Tops.{Tries, most_to_look}
+use Rattle.object_lock.specs.Locks.{lost_step, HoldsObject, built_words, IsBuiltFor, OneOutcome, FewOutcome, most_to_start}
 use Rattle.object_lock.proofs.BuildTrails.{BuildsBy, builds_slot}
 use Rattle.object_lock.proofs.Holding.{Carries, own_kept, outcome_before, lost_tries, lost_carries, built_may, built_carries, built_tries, built_walk}
 
 -- the words that a section reads stay with its section and what was seen
-pub words_carried : (c : Config) (v w : View) (object : ℕ) → Carries c v w → words_in c w object ≡ words_in c v object
-words_carried c v w object k = λ i. words_of c (k.start i) (k.seen i) (time_in (inside_of (k.phase i))) object
+pub words_stay : (c : Config) (v w : View) (object : ℕ) → w.start ≡ v.start → w.past.seen ≡ v.past.seen → w.phase ≡ v.phase
+    → words_in c w object ≡ words_in c v object
+words_stay c v w object start seen phase = λ i. words_of c (start i) (seen i) (time_in (inside_of (phase i))) object
 
 -- where a lock may be put
 pub lock_carried : (v w : View) (object previous : ℕ) → w.walk ≡ v.walk → w.phase ≡ v.phase → StandsToLock v (section_in v) object previous
@@ -33,7 +34,7 @@ lock_carried v w object previous walk phase =
 
 module _ (c : Config) (v w : View) (l m : Noted) (object previous position : ℕ) (words : List ℕ) (may : MayWalk v) (s : Stands c v l) (t : Stands c w m)
     (noted : m ≡ built_noted l (next_note l object previous words))
-    (built : w ≡ slot_built c v (next_of l) (first_of l) previous words) (at : position ≡ next_of l) (words_are : words ≡ words_in c v object) where
+    (built : w ≡ slot_built c v (next_of l) (first_of l) previous words) (at : position ≡ next_of l) where
   stores : BuildsBy v w (build_cost (next_of l) (first_of l))
   stores = subst (λ (u : View). BuildsBy v u (build_cost (next_of l) (first_of l))) (sym built) (builds_slot c (next_of l) v (first_of l) previous words)
 
@@ -48,16 +49,11 @@ module _ (c : Config) (v w : View) (l m : Noted) (object previous position : ℕ
   pub first_tries : (before after : ℕ) → after ≡ before + build_cost (next_of l) (first_of l) → Tries v w before after []
   first_tries = built_tries c v w (build_cost (next_of l) (first_of l)) stores
 
-  pub first_is : IsBuiltFor m position object previous (words_in c w object)
-  first_is = (
-    next_note l object previous words,
-    ap (λ (q : Noted). q.built) noted,
-    sym at,
-    refl,
-    refl,
-    words_are
-        ∙ sym (words_carried c v w object first_carries),
-  )
+  pub first_words : built_words m ≡ words
+  first_words = ap built_words noted
+
+  pub first_is : IsBuiltFor m position object previous (built_words m)
+  first_is = (next_note l object previous words, ap (λ (q : Noted). q.built) noted, sym at, refl, refl, sym first_words)
 
   pub first_lock : StandsToLock v (section_in v) object previous → StandsToLock w (section_in w) object previous
   first_lock = lock_carried v w object previous (built_walk c v w (build_cost (next_of l) (first_of l)) stores) (first_carries.phase)
@@ -69,20 +65,20 @@ module _ (c : Config) (v w : View) (l m : Noted) (object previous position : ℕ
   first_few most = subst (λ (q : Noted). q.held < most) (sym noted)
 
 -- HEAD was exchanged, and another came first
-module _ (c : Config) (v w : View) (l : Noted) (object previous position : ℕ) (may : MayWalk v) (s : Stands c v l)
-    (is : IsBuiltFor l position object previous (words_in c v object)) (link : ℕ) (told : w ≡ lock_lost c v object link) where
+module _ {words : List ℕ} (c : Config) (v w : View) (l : Noted) (object previous position : ℕ) (may : MayWalk v) (s : Stands c v l)
+    (is : IsBuiltFor l position object previous words) (link : ℕ) (told : w ≡ lock_lost c v object link) where
   then_carries : Carries c v w
   then_carries = lost_carries c v w l object previous position may s is link told
 
-  pub then_is : (below : ℕ) × IsBuiltFor l position object below (words_in c w object)
-  then_is = (previous, (is.0, is.1, is.2, is.3, is.4, is.5 ∙ sym (words_carried c v w object then_carries)))
+  pub then_is : (below : ℕ) × IsBuiltFor l position object below words
+  then_is = (previous, is)
 
   pub then_master : link ≡ 0 → w.walk ≡ place.Master object
   then_master zero = ap (λ (u : View). u.walk) told ∙ sym (at_zero object link Nothing true zero)
 
   -- and it was tried once more, at a chain that was cut
   pub then_again : (x : View) (q : Noted) (answer : LockAnswer) (first second last : ℕ) → second ≡ first + 1 → link ≡ 0
-      → OneOutcome c w x q object answer second last → FewOutcome c v x q object answer first last
+      → OneOutcome c w x q object words answer second last → FewOutcome c v x q object words answer first last
   then_again x q answer first second last e zero o = (
     lost_step c object link ∷ o.0 ∷ [],
     outcome_before c v w x q object answer first second last then_carries
@@ -92,8 +88,8 @@ module _ (c : Config) (v w : View) (l : Noted) (object previous position : ℕ) 
   )
 
 -- one exchange is few
-pub one_few : (c : Config) (v w : View) (l : Noted) (object : ℕ) (answer : LockAnswer) (before after : ℕ) → OneOutcome c v w l object answer before after
-    → FewOutcome c v w l object answer before after
+pub one_few : {words : List ℕ} (c : Config) (v w : View) (l : Noted) (object : ℕ) (answer : LockAnswer) (before after : ℕ)
+    → OneOutcome c v w l object words answer before after → FewOutcome c v w l object words answer before after
 one_few c v w l object answer before after o = (o.0 ∷ [], o.1, o.2)
 
 -- how many steps a lock makes until its exchange
@@ -103,5 +99,7 @@ build_few position first = elim (first == position) as (λ b. (if b then 10 else
   | false ↦ omega arith
 ]
 
-pub start_bound : (a b d position first : ℕ) → b ≤ a + 9 → d ≡ b + build_cost position first → d ≤ a + 19
-start_bound a b d position first looks builds = let few = build_few position first in omega arith
+pub start_bound : (given : Option (List ℕ)) (a b d position first : ℕ) → b ≤ a + most_to_look given → d ≡ b + build_cost position first
+    → d ≤ a + most_to_start given
+start_bound None a b d position first looks builds = let few = build_few position first in omega arith
+start_bound (Some words) a b d position first looks builds = let few = build_few position first in omega arith

@@ -18,7 +18,6 @@ use Rattle.mv_core.specs.declared.view.LoadedClocks.{LoadedClocks}
 use Rattle.mv_core.specs.declared.view.Passed.TheVariants.{Nothing}
 use Rattle.mv_core.specs.declared.view.Walk.TheVariants as place
 use Rattle.mv_core.specs.Rings.{own_of, spare_count}
-use Rattle.mv_core.specs.Times.{words_of}
 use Rattle.mv_core.specs.Views.{time_in}
 use Rattle.mv_core.specs.declared.view.Stand.{Stand}
 use Rattle.mv_core.specs.SectionFacts.{IsPastHelp}
@@ -31,9 +30,8 @@ use Rattle.seat_log.specs.Stands.{is_won_lock, Stands}
 use Rattle.seat_log.specs.Builds.{stored_next}
 use Rattle.seat_log.proofs.Stays.{stands_locked}
 use Rattle.version_chain.specs.Walks.{MayWalk, inside_of, section_in, stand_of}
-use Rattle.version_chain.specs.Reads.{words_in}
 use Rattle.object_lock.specs.Tops.{FoundHeld, Tries}
-use Rattle.object_lock.specs.Locks.{lost_step, IsBuiltFor, CameFirst, LockMakes, KeepsOwn, Outcome, OneOutcome, LostOutcome}
+use Rattle.object_lock.specs.Locks.{lost_step, noted_words, built_words, IsBuiltFor, CameFirst, LockMakes, KeepsOwn, Outcome, OneOutcome, LostOutcome}
 use Rattle.object_lock.proofs.BuildTrails.{BuildsBy, builds_next}
 use Rattle.object_lock.proofs.Looks.{IsLocks, rest_of}
 use Rattle.object_lock.proofs.Outcomes.{tries_on}
@@ -89,32 +87,34 @@ found_before c object seat start next trail made at f = record {
 }
 
 -- what a lock makes from then on it makes in all
-pub makes_before : (c : Config) (v w x : View) (object : ℕ) (answer : LockAnswer) (made : List Step) → w.trail ≡ v.trail ++ made → w.number ≡ v.number
-    → w.phase ≡ v.phase → KeepsOwn c v w → LockMakes c w x object answer → LockMakes c v x object answer
-makes_before c v w x object Held made at number phase own makes = (makes.0 ∙ ap (λ ws. ws ++ (object, words_in c x object) ∷ []) own.0, makes.1 ∙ own.1)
-makes_before c v w x object (Busy seat) made at number phase own makes =
+pub makes_before : (c : Config) (v w x : View) (object : ℕ) (words : List ℕ) (answer : LockAnswer) (made : List Step) → w.trail ≡ v.trail ++ made → w.number ≡ v.number
+    → w.phase ≡ v.phase → KeepsOwn c v w → LockMakes c w x object words answer
+    → LockMakes c v x object words answer
+makes_before c v w x object words Held made at number phase own makes = (makes.0 ∙ ap (λ ws. ws ++ (object, words) ∷ []) own.0, makes.1 ∙ own.1)
+makes_before c v w x object words (Busy seat) made at number phase own makes =
     ((λ e. makes.0 (e ∙ sym number)), found_before c object seat v.trail w.trail x.trail made at makes.1)
-makes_before c v w x object (Stale time) made at number phase own makes = (subst (λ (p : Phase). time_in (inside_of p) < time) phase makes.0, makes.1)
-makes_before c v w x object SetFull made at number phase own makes = absurd makes
-makes_before c v w x object LogFull made at number phase own makes = absurd makes
+makes_before c v w x object words (Stale time) made at number phase own makes = (subst (λ (p : Phase). time_in (inside_of p) < time) phase makes.0, makes.1)
+makes_before c v w x object words SetFull made at number phase own makes = absurd makes
+makes_before c v w x object words LogFull made at number phase own makes = absurd makes
 
-pub outcome_before : (c : Config) (v w x : View) (l : Noted) (object : ℕ) (answer : LockAnswer) (first second third : ℕ)
-    {tried more : List Step} → Carries c v w → Tries v w first second tried → Outcome c w x l object answer second third more
-    → Outcome c v x l object answer first third (tried ++ more)
-outcome_before c v w x l object answer first second third k tries o = record {
+pub outcome_before : {words : List ℕ} (c : Config) (v w x : View) (l : Noted) (object : ℕ) (answer : LockAnswer) (first second third : ℕ)
+    {tried more : List Step} → Carries c v w → Tries v w first second tried → Outcome c w x l object words answer second third more
+    → Outcome c v x l object words answer first third (tried ++ more)
+outcome_before {words} c v w x l object answer first second third k tries o = record {
   may = o.may;
   stands = o.stands;
   unbuilt = o.unbuilt;
-  makes = makes_before c v w x object answer tries.trail.0 tries.trail.1 k.number k.phase k.own o.makes;
+  makes = makes_before c v w x object words answer tries.trail.0 tries.trail.1 k.number k.phase k.own o.makes;
+  sees = λ held. o.sees held ∙ k.seen;
   keeps = λ ne. let kept = o.keeps ne in (kept.0 ∙ k.own.0, kept.1 ∙ k.own.1);
   tries = tries_on v w x first second third tries o.tries;
 }
 
 -- an exchange of HEAD
-module _ (c : Config) (v w : View) (l : Noted) (object previous position : ℕ) (may : MayWalk v) (s : Stands c v l)
-    (is : IsBuiltFor l position object previous (words_in c v object)) where
+module _ {words : List ℕ} (c : Config) (v w : View) (l : Noted) (object previous position : ℕ) (may : MayWalk v) (s : Stands c v l)
+    (is : IsBuiltFor l position object previous words) where
   -- won: the version is held
-  module _ (told : w ≡ head_locked c v (section_in v) object previous position) (own : OneMoreWrite c v (section_in v) object w) where
+  module _ (told : w ≡ head_locked c v object previous position words) (own : OneMoreWrite c v object words w) where
     abbrev step : Step
     step = record { kind = LockHead; word = place_of c (Head object); found = Some previous; stored = Some (link_of v.number position) }
 
@@ -126,17 +126,18 @@ module _ (c : Config) (v w : View) (l : Noted) (object previous position : ℕ) 
       rest = ap (rest_of w) told;
     }
 
-    pub won_outcome : (m : Noted) (before after : ℕ) → m ≡ held_noted l → after ≡ before + 1 → OneOutcome c v w m object Held before after
+    pub won_outcome : (m : Noted) (before after : ℕ) → m ≡ held_noted l → after ≡ before + 1 → OneOutcome c v w m object words Held before after
     won_outcome m before after noted e =
-        let at : head_locked c v (section_in v) is.0.object is.0.previous is.0.position ≡ w =
-        (λ i. head_locked c v (section_in v) (is.3 i) (is.4 i) (is.2 i)) ∙ sym told in
-        let stands = stands_locked c v l is.0 (section_in v) s is.1 (is.5 ∙ ap (words_in c v) (sym is.3)) in (
+        let at : head_locked c v is.0.object is.0.previous is.0.position is.0.words ≡ w =
+        (λ i. head_locked c v (is.3 i) (is.4 i) (is.2 i) (is.5 i)) ∙ sym told in
+        let stands = stands_locked c v l is.0 s is.1 in (
           step,
-          subst (λ (k : Noted). Outcome c v w k object Held before after (step ∷ [])) (sym noted) (record {
+          subst (λ (k : Noted). Outcome c v w k object words Held before after (step ∷ [])) (sym noted) (record {
             may = may_same v w (ap (λ (u : View). u.phase) told) (ap (λ (u : View). u.clocks) told) (ap (λ (u : View). u.back) told) may;
             stands = subst (λ (u : View). Stands c u (held_noted l)) at stands;
             unbuilt = refl;
-            makes = (own.0 ∙ ap (λ ws. own_of c v.ring ++ (object, ws) ∷ []) (sym (ap (λ (u : View). words_in c u object) told)), own.1);
+            makes = own;
+            sees = λ _. ap (λ (u : View). u.past.seen) told;
             keeps = λ ne. absurd (ne refl);
             tries = subst (λ (n : ℕ). Tries v w before n (step ∷ [])) (sym e) (won_tries before);
           }),
@@ -205,20 +206,29 @@ module _ (c : Config) (v w : View) (l : Noted) (object previous position : ℕ) 
 
     -- what came first was looked at
     pub lost_all : (x : View) (q : Noted) (answer : LockAnswer) (first second last : ℕ) → second ≡ first + 1
-        → LostOutcome c w x q object link answer second last → OneOutcome c v x q object answer first last
+        → LostOutcome c w x q object link answer second last → OneOutcome c v x q object words answer first last
     lost_all x q answer first second last e o = (
       step_lost,
-      outcome_before c v from x q object answer first first last from_carries (from_tries first) (o v.trail first (ap (λ (u : View). u.trail) told) e),
+      outcome_before c v from x q object answer first first last from_carries (from_tries first) (o words v.trail first (ap (λ (u : View). u.trail) told) e),
       refl,
     )
 
--- PREV of the built version was cleared, where the walk stands at the master
-pub cleared_for : (c : Config) (v w : View) (l m : Noted) (object previous position : ℕ) → IsBuiltFor l position object previous (words_in c v object)
-    → m ≡ cleared l → Carries c v w → IsBuiltFor m position object 0 (words_in c w object)
-cleared_for c v w l m object previous position is e k =
-    let n : Note = is.0 in
-    let words : words_in c v object ≡ words_in c w object = (λ i. words_of c (sym k.start i) (sym k.seen i) (time_in (inside_of (sym k.phase i))) object) in
-    (record n { previous = 0 }, ap (λ (q : Noted). q.built) e ∙ ap without_previous is.1, is.2, is.3, refl, is.5 ∙ words)
+-- PREV of the built version was cleared: it has the words as before
+pub cleared_words : {words : List ℕ} (l m : Noted) (object previous position : ℕ) → IsBuiltFor l position object previous words → m ≡ cleared l
+    → built_words m ≡ words
+cleared_words l m object previous position is e = ap built_words e ∙ ap (λ n. noted_words (without_previous n)) is.1 ∙ is.5
+
+pub cleared_for : {words : List ℕ} (l m : Noted) (object previous position : ℕ) → IsBuiltFor l position object previous words → m ≡ cleared l
+    → IsBuiltFor m position object 0 (built_words m)
+cleared_for l m object previous position is e =
+    let n : Note = is.0 in (
+      record n { previous = 0 },
+      ap (λ (q : Noted). q.built) e ∙ ap without_previous is.1,
+      is.2,
+      is.3,
+      refl,
+      is.5 ∙ sym (cleared_words l m object previous position is e),
+    )
 
 -- stores into the slot that is being built
 module _ (c : Config) (v w : View) (n : ℕ) (b : BuildsBy v w n) where
@@ -250,8 +260,8 @@ module _ (c : Config) (v w : View) (n : ℕ) (b : BuildsBy v w n) where
   built_walk = ap (λ (u : View). u.walk) b.rest
 
 -- PREV of the built version was cleared, and HEAD exchanged once more
-module _ (c : Config) (v w x : View) (l m : Noted) (object previous position : ℕ) (may : MayWalk v) (s : Stands c v l)
-    (is : IsBuiltFor l position object previous (words_in c v object)) (t : Stands c w m) (noted : m ≡ cleared l)
+module _ {words : List ℕ} (c : Config) (v w x : View) (l m : Noted) (object previous position : ℕ) (may : MayWalk v) (s : Stands c v l)
+    (is : IsBuiltFor l position object previous words) (t : Stands c w m) (noted : m ≡ cleared l)
     (stored : w ≡ stored_next c v position 2 0) where
   stores : BuildsBy v w 1
   stores = subst (λ (u : View). BuildsBy v u 1) (sym stored) (builds_next c position v 2 0)
@@ -262,8 +272,8 @@ module _ (c : Config) (v w x : View) (l m : Noted) (object previous position : �
   pub cleared_carries : Carries c v w
   cleared_carries = built_carries c v w 1 stores (own_kept c v w l m s t (ap (λ (q : Noted). q.live) noted) (ap (λ (q : Noted). q.held) noted))
 
-  pub cleared_is : IsBuiltFor m position object 0 (words_in c w object)
-  cleared_is = cleared_for c v w l m object previous position is noted cleared_carries
+  pub cleared_is : IsBuiltFor m position object 0 (built_words m)
+  cleared_is = cleared_for l m object previous position is noted
 
   pub cleared_lock : v.walk ≡ place.Master object → StandsToLock w (section_in w) object 0
   cleared_lock at = inl (built_walk c v w 1 stores ∙ at, refl)
@@ -271,11 +281,12 @@ module _ (c : Config) (v w x : View) (l m : Noted) (object previous position : �
   pub cleared_tries : (before after : ℕ) → after ≡ before + 1 → Tries v w before after []
   cleared_tries = built_tries c v w 1 stores
 
-  pub again_won : x ≡ head_locked c w (section_in w) object 0 position → OneMoreWrite c w (section_in w) object x
+  pub again_won : x ≡ head_locked c w object 0 position (built_words m) → OneMoreWrite c w object (built_words m) x
       → (q : Noted) (first second third : ℕ) → q ≡ held_noted m → second ≡ first + 1 → third ≡ second + 1
-      → OneOutcome c v x q object Held first third
+      → OneOutcome c v x q object words Held first third
   again_won told own q first second third q_is e f =
-      let o = won_outcome c w x m object 0 position cleared_may t cleared_is told own q second third q_is f in
+      let o = subst (λ ws. OneOutcome c w x q object ws Held second third) (cleared_words l m object previous position is noted)
+      (won_outcome c w x m object 0 position cleared_may t cleared_is told own q second third q_is f) in
       (o.0, outcome_before c v w x q object Held first second third cleared_carries (cleared_tries first second e) o.1, o.2)
 
   module _ (link : ℕ) (told : x ≡ lock_lost c w object link) where
@@ -289,7 +300,8 @@ module _ (c : Config) (v w x : View) (l m : Noted) (object previous position : �
     again_first = came_first c w x m object 0 position cleared_may t cleared_is link told
 
     pub again_lost : (y : View) (q : Noted) (answer : LockAnswer) (first second third last : ℕ) → second ≡ first + 1 → third ≡ second + 1
-        → LostOutcome c x y q object link answer third last → OneOutcome c v y q object answer first last
+        → LostOutcome c x y q object link answer third last → OneOutcome c v y q object words answer first last
     again_lost y q answer first second third last e f o =
-        let all = lost_all c w x m object 0 position cleared_may t cleared_is link told y q answer second third last f o in
+        let all = subst (λ ws. OneOutcome c w y q object ws answer second last) (cleared_words l m object previous position is noted)
+        (lost_all c w x m object 0 position cleared_may t cleared_is link told y q answer second third last f o) in
         (all.0, outcome_before c v w y q object answer first second last cleared_carries (cleared_tries first second e) all.1, all.2)

@@ -14,9 +14,8 @@ use Rattle.seat_log.specs.declared.version.Note.{Note}
 use Rattle.seat_log.specs.Notes.{Noted, built_count, held_from}
 use Rattle.seat_log.specs.Stands.{Stands}
 use Rattle.seat_log.proofs.Places.{get_dropped, get_left}
-use Rattle.version_chain.specs.Reads.{words_in}
 use Rattle.object_lock.specs.Tops.{Tries, IsRefused}
-use Rattle.object_lock.specs.Locks.{HoldsObject, LockMakes, KeepsOwn, HasRoom, IsSetFull, LockAnswers}
+use Rattle.object_lock.specs.Locks.{HoldsObject, LockMakes, KeepsOwn, HasRoom, IsSetFull, AnswersWith}
 use Rattle.object_lock.proofs.Holding.{makes_before}
 use Rattle.object_lock.proofs.OwnNotes.{note_write, held_notes, own_is, own_long}
 use Rattle.object_lock.proofs.LockKinds.{none_won}
@@ -83,12 +82,12 @@ module _ (c : Config) (v x : View) (l : Noted) (object before here : ℕ) (s : S
   top_keeps = (ap (own_of c) ring, ap spare_count ring)
 
   -- a refusal at the top
-  pub top_answers : (answer : LockAnswer) → HasRoom c v → IsRefused c v x object answer → LockAnswers c v x object answer
-  top_answers Held room cause = absurd cause
-  top_answers (Busy seat) room cause = (room, cause)
-  top_answers (Stale time) room cause = (room, cause)
-  top_answers SetFull room cause = absurd cause
-  top_answers LogFull room cause = absurd cause
+  pub top_answers : (answer : LockAnswer) → HasRoom c v → IsRefused c v x object answer → (words : List ℕ) → AnswersWith c v x object words answer
+  top_answers Held room cause words = absurd cause
+  top_answers (Busy seat) room cause words = (room, cause)
+  top_answers (Stale time) room cause words = (room, cause)
+  top_answers SetFull room cause words = absurd cause
+  top_answers LogFull room cause words = absurd cause
 
   pub top_refused : (answer : LockAnswer) → IsRefused c v x object answer → answer ≢ Held
   top_refused answer cause e = subst (IsRefused c v x object) e cause
@@ -99,17 +98,27 @@ module _ (c : Config) (v w : View) (keeps : KeepsOwn c v w) where
   kept_too x k = (k.0 ∙ keeps.0, k.1 ∙ keeps.1)
 
   -- what came of an exchange of HEAD
-  all_answers : (x : View) (object : ℕ) (answer : LockAnswer) → HasRoom c v → LockMakes c v x object answer → LockAnswers c v x object answer
-  all_answers x object Held room makes = (room, makes)
-  all_answers x object (Busy seat) room makes = (room, makes)
-  all_answers x object (Stale time) room makes = (room, makes)
-  all_answers x object SetFull room makes = absurd makes
-  all_answers x object LogFull room makes = absurd makes
+  all_answers : (x : View) (object : ℕ) (words : List ℕ) (answer : LockAnswer) → HasRoom c v → LockMakes c v x object words answer
+      → AnswersWith c v x object words answer
+  all_answers x object words Held room makes = (room, makes)
+  all_answers x object words (Busy seat) room makes = (room, makes)
+  all_answers x object words (Stale time) room makes = (room, makes)
+  all_answers x object words SetFull room makes = absurd makes
+  all_answers x object words LogFull room makes = absurd makes
 
-  pub made_answers : (x : View) (object : ℕ) (answer : LockAnswer) (made : List Step) → w.trail ≡ v.trail ++ made → w.number ≡ v.number
-      → w.phase ≡ v.phase → HasRoom c v → LockMakes c w x object answer → LockAnswers c v x object answer
-  made_answers x object answer made at number phase room makes =
-      all_answers x object answer room (makes_before c v w x object answer made at number phase keeps makes)
+  pub made_answers : (x : View) (object : ℕ) (words : List ℕ) (answer : LockAnswer) (made : List Step) → w.trail ≡ v.trail ++ made → w.number ≡ v.number
+      → w.phase ≡ v.phase → HasRoom c v → LockMakes c w x object words answer → AnswersWith c v x object words answer
+  made_answers x object words answer made at number phase room makes =
+      all_answers x object words answer room (makes_before c v w x object words answer made at number phase keeps makes)
+
+-- the words of an answer that isn't `Held` don't matter
+pub answers_of : (c : Config) (v x : View) (object : ℕ) (words others : List ℕ) (answer : LockAnswer) → (answer ≡ Held → words ≡ others)
+    → AnswersWith c v x object words answer → AnswersWith c v x object others answer
+answers_of c v x object words others Held same answers = subst (λ ws. AnswersWith c v x object ws Held) (same refl) answers
+answers_of c v x object words others (Busy seat) same answers = answers
+answers_of c v x object words others (Stale time) same answers = answers
+answers_of c v x object words others SetFull same answers = answers
+answers_of c v x object words others LogFull same answers = answers
 
 -- the section holds no more than it may
 module _ (c : Config) (v w : View) (l m : Noted) (object : ℕ) (s : Stands c v l) (t : Stands c w m) (few : l.held < c.write_max) where
@@ -120,14 +129,14 @@ module _ (c : Config) (v w : View) (l m : Noted) (object : ℕ) (s : Stands c v 
       let b = own_long c w m t in
       omega arith
 
-  pub few_made : (answer : LockAnswer) → LockMakes c v w object answer → (answer ≢ Held → KeepsOwn c v w) → m.held ≤ c.write_max
-  few_made Held makes keeps =
+  pub few_made : (words : List ℕ) (answer : LockAnswer) → LockMakes c v w object words answer → (answer ≢ Held → KeepsOwn c v w) → m.held ≤ c.write_max
+  few_made words Held makes keeps =
       let long : length (own_of c w.ring) ≡ length (own_of c v.ring) + 1 =
-      ap length makes.0 ∙ length-append (own_of c v.ring) ((object, words_in c w object) ∷ []) in
+      ap length makes.0 ∙ length-append (own_of c v.ring) ((object, words) ∷ []) in
       let a = own_long c v l s in
       let b = own_long c w m t in
       omega arith
-  few_made (Busy seat) makes keeps = few_same (keeps (λ e. cc))
-  few_made (Stale time) makes keeps = few_same (keeps (λ e. cc))
-  few_made SetFull makes keeps = absurd makes
-  few_made LogFull makes keeps = absurd makes
+  few_made words (Busy seat) makes keeps = few_same (keeps (λ e. cc))
+  few_made words (Stale time) makes keeps = few_same (keeps (λ e. cc))
+  few_made words SetFull makes keeps = absurd makes
+  few_made words LogFull makes keeps = absurd makes

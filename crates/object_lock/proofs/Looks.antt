@@ -1,6 +1,6 @@
 -- What was found on top of a chain: by a load of HEAD, and of FIRST and STAMP of the version there.
 use Rattle.std.proofs.Common.{◌≡◌, ◌≢◌, ℕ, ◌+◌, ◌<◌, ◌≤◌, ◌^◌, Bool, cond, List, [], ◌∷◌, ◌++◌, length, refl, sym, ap}
-use Rattle.std.proofs.Common.{◌∙◌, subst, ⊎_elim, inr, append_assoc, append-nil, length-append, arith, false, Some, None, All}
+use Rattle.std.proofs.Common.{◌∙◌, subst, ⊎_elim, inr, append_assoc, append-nil, length-append, arith, false, Option, Some, None, All}
 use Rattle.std.proofs.lemmas.List.Elements.{All-nil, All-cons, All-append}
 use Rattle.mv_history.specs.declared.Step.{Step}
 use Rattle.mv_history.specs.declared.StepKind.{StepKind}
@@ -26,7 +26,7 @@ use Rattle.mv_core.specs.LockSteps.{StandsToLock}
 use Rattle.version_chain.specs.Walks.{MayWalk, section_in, stand_of, stand_in, time_at, with_first, StandsAtVersion}
 use Rattle.version_chain.specs.Reads.{words_in, Reads}
 use Rattle.version_chain.proofs.Standing.{stands_here}
-use Rattle.object_lock.specs.Tops.{IsUnheld, StandsOn, Looked, IsLockStep, is_lock_exchange, lock_exchanges, Tries, FoundHeld, IsRefused}
+use Rattle.object_lock.specs.Tops.{IsUnheld, StandsOn, Looked, IsLockStep, is_lock_exchange, lock_exchanges, Tries, FoundHeld, IsRefused, most_to_look}
 use Rattle.object_lock.proofs.Exchanged.{none_exchanged, exchanged_on}
 
 -- the loads of FIRST and STAMP
@@ -141,15 +141,20 @@ stands_top c v w object link inside some head packed =
     let stand = ap stand_of at in
     record { stands = at ∙ ap place.At (sym stand); link_is = ap (λ (s : Stand). s.link) stand; packed = packed some }
 
--- how many steps were made, at the master and at a version
-pub master_bound : (a b d : ℕ) → b ≡ a + 1 → d ≡ b + 6 → d ≤ a + 9
-master_bound a b d one six = omega arith
+-- how many steps were made, at the master and at a version, where the words are read and where they are given
+pub head_bound : (given : Option (List ℕ)) (a b : ℕ) → b ≡ a + 1 → b ≤ a + most_to_look given
+head_bound None a b one = omega arith
+head_bound (Some words) a b one = omega arith
 
-pub looked_bound : (a b d : ℕ) → b ≡ a + 1 → d ≡ b + 2 → d ≤ a + 9
-looked_bound a b d one two = omega arith
+pub looked_bound : (given : Option (List ℕ)) (a b d : ℕ) → b ≡ a + 1 → d ≡ b + 2 → d ≤ a + most_to_look given
+looked_bound None a b d one two = omega arith
+looked_bound (Some words) a b d one two = omega arith
 
-pub version_bound : (a b d e : ℕ) → b ≡ a + 1 → d ≡ b + 2 → e ≡ d + 6 → e ≤ a + 9
-version_bound a b d e one two six = omega arith
+pub master_bound : (given : Option (List ℕ)) (a b d : ℕ) → given ≡ None → b ≡ a + 1 → d ≡ b + 6 → d ≤ a + most_to_look given
+master_bound given a b d none one six = let nine = ap most_to_look none in omega arith
+
+pub version_bound : (given : Option (List ℕ)) (a b d e : ℕ) → given ≡ None → b ≡ a + 1 → d ≡ b + 2 → e ≡ d + 6 → e ≤ a + most_to_look given
+version_bound given a b d e none one two six = let nine = ap most_to_look none in omega arith
 
 -- HEAD was loaded
 module _ (c : Config) (v w x : View) (object link found : ℕ) (inside : Section) (some : link ≢ 0) (head : w ≡ head_loaded c v inside object link)
@@ -226,6 +231,11 @@ module _ (c : Config) (v w x : View) (object link found : ℕ) (inside : Section
       }
 
   -- and a lock may be put there, also after the words were read
+  pub stands_at_lock : (time : ℕ) → time ≡ time_at x → found ≤ time → StandsToLock x (section_in x) object link
+  stands_at_lock time time_is le =
+      let stand : Stand = record { object = object; link = link; first = Some looked.first; stamp = Some found; passed = Nothing; late = false } in
+      inr (stand, found, at_top, refl, refl, refl, (let same = time_is in omega arith))
+
   pub stands_to_lock : (y : View) → Reads LoadData x y → (time : ℕ) → time ≡ time_at x → found ≤ time → StandsToLock y (section_in y) object link
   stands_to_lock y reads time time_is le =
       let stand : Stand = record { object = object; link = link; first = Some looked.first; stamp = Some found; passed = Nothing; late = false } in

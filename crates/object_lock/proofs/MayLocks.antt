@@ -1,5 +1,5 @@
 -- A version that was built may be locked: its slot has what the log has noted.
-use Rattle.std.proofs.Common.{◌≡◌, ℕ, ◌-◌, ◌<◌, map, sym, ap, ◌∙◌, subst, arith, Some}
+use Rattle.std.proofs.Common.{◌≡◌, ℕ, ◌-◌, ◌<◌, List, [], ◌∷◌, map, refl, sym, ap, ◌∙◌, subst, arith, Option, Some}
 use Rattle.std.specs.Prelude.{unwrap_or}
 use Rattle.mv_layout.specs.declared.Config.{Config}
 use Rattle.mv_layout.specs.Words.{unset_of}
@@ -15,12 +15,16 @@ use Rattle.seat_log.specs.Notes.{Noted, IsNextOf}
 use Rattle.seat_log.specs.Stands.{IsAllStored, HasBuilt, Stands}
 use Rattle.seat_log.specs.Builds.{build_at}
 use Rattle.version_chain.specs.Walks.{MayWalk, section_in}
-use Rattle.version_chain.specs.Reads.{words_in}
-use Rattle.object_lock.specs.Locks.{HoldsObject, IsBuiltFor}
+use Rattle.object_lock.specs.Locks.{HoldsObject, stored_words, IsBuiltFor}
 use Rattle.object_lock.proofs.OwnNotes.{unheld_is}
 
-module _ (c : Config) (v : View) (l : Noted) (object previous position : ℕ) (s : Stands c v l)
-    (is : IsBuiltFor l position object previous (words_in c v object)) where
+-- words that were stored
+some_words : (ws : List ℕ) → map (λ (word : Option ℕ). unwrap_or word 0) (map Some ws) ≡ ws
+some_words [] = refl
+some_words (w ∷ ws) = ap (λ l. w ∷ l) (some_words ws)
+
+module _ {words : List ℕ} (c : Config) (v : View) (l : Noted) (object previous position : ℕ) (s : Stands c v l)
+    (is : IsBuiltFor l position object previous words) where
   abbrev n : Note
   n = is.0
 
@@ -48,8 +52,14 @@ module _ (c : Config) (v : View) (l : Noted) (object previous position : ℕ) (s
   pub first_is : (first held : ℕ) → held ≡ l.held → first ≡ position - held → first ≡ set_first v.ring
   first_is first held e f = let a = position_next in let d = s.held in omega arith
 
+  -- what was stored into its slot are the words that were noted
+  pub stored_are : stored_words (build_at c v position) ≡ words
+  stored_are =
+      let some : (build_at c v position).words ≡ map Some words = ap (λ (b : Build). b.words) build_is ∙ whole.2.words ∙ ap (map Some) is.5 in
+      ap (map (λ (word : Option ℕ). unwrap_or word 0)) some ∙ some_words words
+
   pub may_lock : (write_max : ℕ) → MayWalk v → object < c.objects → StandsToLock v (section_in v) object previous → ¬ (HoldsObject l object)
-      → l.held < write_max → MayLock c write_max v object previous position (build_at c v position) (section_in v)
+      → l.held < write_max → MayLock c write_max v object previous position (stored_words (build_at c v position)) (build_at c v position) (section_in v)
   may_lock write_max may range stands unheld few =
       let w = whole.2 in record {
         walking = may;
@@ -63,5 +73,5 @@ module _ (c : Config) (v : View) (l : Noted) (object previous position : ℕ) (s
         stamp = λ e. ap (λ (b : Build). b.stamp) build_is ∙ w.stamp (first_noted ∙ e ∙ sym is.2) ∙ ap (λ (p : ℕ). Some (unset_of p)) is.2;
         previous_is = ap (λ (b : Build). b.previous) build_is ∙ w.previous ∙ ap Some is.4;
         successor = ap (λ (b : Build). b.successor) build_is ∙ w.successor;
-        words = ap (λ (b : Build). b.words) build_is ∙ w.words ∙ ap (map Some) is.5;
+        words_are = ap (λ (b : Build). b.words) build_is ∙ w.words ∙ ap (map Some) is.5 ∙ ap (map Some) (sym stored_are);
       }

@@ -1,11 +1,11 @@
 -- What comes of a lock where another came first, and how the parts of a lock come together.
-use Rattle.std.proofs.Common.{◌≡◌, ℕ, ◌+◌, ◌<◌, ◌^◌, List, [], ◌∷◌, ◌++◌, refl, sym, ap, ◌∙◌, subst, append_assoc, length-append, arith, Some, None, All}
+use Rattle.std.proofs.Common.{◌≡◌, ◌≢◌, ℕ, ◌+◌, ◌<◌, ◌^◌, List, [], ◌∷◌, ◌++◌, refl, sym, ap, ◌∙◌, subst, append_assoc, length-append, arith, Some, None, All}
 use Rattle.std.proofs.lemmas.List.Elements.{All-nil, All-cons, All-append}
 use Rattle.mv_history.specs.declared.Entry.{Entry}
 use Rattle.mv_history.specs.declared.Step.{Step}
 use Rattle.mv_history.specs.declared.StepKind.TheVariants.{LoadFirst, LoadStamp, LockHead}
 use Rattle.mv_history.specs.declared.answers.LockAnswer.{LockAnswer}
-use Rattle.mv_history.specs.declared.answers.LockAnswer.TheVariants.{Busy, Stale}
+use Rattle.mv_history.specs.declared.answers.LockAnswer.TheVariants.{Held, Busy, Stale}
 use Rattle.mv_layout.specs.declared.Config.{Config}
 use Rattle.mv_layout.specs.declared.Place.TheVariants.{First, Stamp}
 use Rattle.mv_layout.specs.Places.{place_of}
@@ -92,9 +92,10 @@ module _ (c : Config) (v x : View) (object link found : ℕ) (may : MayWalk v) (
       let same : time_at x ≡ time_at v = ap time_at looked.view in
       ((omega arith), subst (λ (o : ℕ). IsWriteOf c x.past.seen o found) first.object_is (looked.says.write low))
 
-  pub lost_outcome : (l : Noted) (answer : LockAnswer) (before after : ℕ) → MayWalk x → Stands c v l → LockMakes c from x object answer
-      → after ≡ before + 3 → Outcome c from x (dropped l) object answer before after (lost_step c object link ∷ [])
-  lost_outcome l answer before after still s makes e =
+  pub lost_outcome : (l : Noted) (words : List ℕ) (answer : LockAnswer) (before after : ℕ) → answer ≢ Held → MayWalk x → Stands c v l
+      → LockMakes c from x object words answer → after ≡ before + 3
+      → Outcome c from x (dropped l) object words answer before after (lost_step c object link ∷ [])
+  lost_outcome l words answer before after refused still s makes e =
       let ring : x.ring ≡ v.ring = ap (λ (u : View). u.ring) looked.view in record {
         may = still;
         stands = stands_dropped c x l
@@ -102,20 +103,21 @@ module _ (c : Config) (v x : View) (object link found : ℕ) (may : MayWalk v) (
             (ap (λ (u : View). u.past.rests) looked.view) two_steps two_kinds (none_won (of_first ∷ of_stamp ∷ []) refl) s);
         unbuilt = refl;
         makes = makes;
+        sees = λ held. absurd (refused held);
         keeps = λ _. (ap (own_of c) ring, ap spare_count ring);
         tries = subst (λ (n : ℕ). Tries from x before n (lost_step c object link ∷ [])) (sym e) (looked_on before);
       }
 
   -- the answer for another log's notes and counter that are these
-  pub lost_busy : (l m : Noted) (seat before after : ℕ) → MayWalk x → Stands c v l → m ≡ dropped l → seat ≡ link_seat_of link → IsUnset found
-      → after ≡ before + 3 → Outcome c from x m object (Busy seat) before after (lost_step c object link ∷ [])
-  lost_busy l m seat before after still s is seat_is unset e =
-      subst (λ (k : Noted). Outcome c from x k object (Busy seat) before after (lost_step c object link ∷ [])) (sym is)
-      (subst (λ (q : ℕ). Outcome c from x (dropped l) object (Busy q) before after (lost_step c object link ∷ [])) (sym seat_is)
-      (lost_outcome l (Busy (link_seat_of link)) before after still s (busy_cause unset) e))
+  pub lost_busy : (l m : Noted) (words : List ℕ) (seat before after : ℕ) → MayWalk x → Stands c v l → m ≡ dropped l → seat ≡ link_seat_of link → IsUnset found
+      → after ≡ before + 3 → Outcome c from x m object words (Busy seat) before after (lost_step c object link ∷ [])
+  lost_busy l m words seat before after still s is seat_is unset e =
+      subst (λ (k : Noted). Outcome c from x k object words (Busy seat) before after (lost_step c object link ∷ [])) (sym is)
+      (subst (λ (q : ℕ). Outcome c from x (dropped l) object words (Busy q) before after (lost_step c object link ∷ [])) (sym seat_is)
+      (lost_outcome l words (Busy (link_seat_of link)) before after (λ held. cc) still s (busy_cause unset) e))
 
-  pub lost_stale : (l m : Noted) (before after : ℕ) → MayWalk x → Stands c v l → m ≡ dropped l → found < 2 ^ 63 → after ≡ before + 3
-      → Outcome c from x m object (Stale found) before after (lost_step c object link ∷ [])
-  lost_stale l m before after still s is low e =
-      subst (λ (k : Noted). Outcome c from x k object (Stale found) before after (lost_step c object link ∷ [])) (sym is)
-      (lost_outcome l (Stale found) before after still s (stale_cause low) e)
+  pub lost_stale : (l m : Noted) (words : List ℕ) (before after : ℕ) → MayWalk x → Stands c v l → m ≡ dropped l → found < 2 ^ 63 → after ≡ before + 3
+      → Outcome c from x m object words (Stale found) before after (lost_step c object link ∷ [])
+  lost_stale l m words before after still s is low e =
+      subst (λ (k : Noted). Outcome c from x k object words (Stale found) before after (lost_step c object link ∷ [])) (sym is)
+      (lost_outcome l words (Stale found) before after (λ held. cc) still s (stale_cause low) e)

@@ -1,6 +1,6 @@
 -- What is on top of an object's chain for a section that would hold the object: what it needs, what it answers, and what it leaves.
 use Rattle.std.specs.Prelude.{◌≡◌, ◌≢◌, ℕ, ◌+◌, ◌<◌, Bool, true, false, List, [], ◌∷◌, ◌++◌, length, filter, All}
-use Rattle.std.specs.Prelude.{Some, None, Result, Ok, Err}
+use Rattle.std.specs.Prelude.{Option, Some, None, unwrap_or, Result, Ok, Err}
 use Rattle.mv_history.specs.declared.Step.{Step}
 use Rattle.mv_history.specs.declared.StepKind.{StepKind}
 use Rattle.mv_history.specs.declared.StepKind.TheVariants.{LoadHead, LoadFirst, LoadStamp, LoadData, LoadMaster, StoreBuilt, LockHead}
@@ -92,7 +92,13 @@ IsRefused c v w object (Busy seat) = (seat ≢ v.number) × FoundHeld c object s
 IsRefused c v w object (Stale time) = (time_at v < time) × IsWriteOf c w.past.seen object time
 IsRefused c v w object _ = ⊥
 
--- what is on top for the section: a link at which a lock may be put, with the words that the section reads there; or why not
-abbrev pub TopAnswers : Config → View → View → ℕ → Result (ℕ × List ℕ) LockAnswer → Type 0
-TopAnswers c v w object (Ok top) = StandsToLock w (section_in w) object top.0 × (top.1 ≡ words_in c w object) × IsLinkOf c top.0
-TopAnswers c v w object (Err answer) = IsRefused c v w object answer
+-- what is on top for the section: a link at which a lock may be put, with the words that are given, or else those that the section reads there; or why not
+abbrev pub TopAnswers : Config → View → View → ℕ → Option (List ℕ) → Result (ℕ × List ℕ) LockAnswer → Type 0
+TopAnswers c v w object given (Ok top) =
+    StandsToLock w (section_in w) object top.0 × (top.1 ≡ unwrap_or given (words_in c w object)) × IsLinkOf c top.0
+TopAnswers c v w object given (Err answer) = IsRefused c v w object answer
+
+-- the most steps of a look at the top: the six words are read where none are given
+abbrev pub most_to_look : Option (List ℕ) → ℕ
+most_to_look None = 9
+most_to_look (Some words) = 3

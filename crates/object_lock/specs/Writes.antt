@@ -1,8 +1,11 @@
 -- Writing an object that a section holds: where its version is noted, and what the call leaves.
-use Rattle.std.specs.Prelude.{◌≡◌, ◌≢◌, ℕ, ◌<◌, ◌≤◌, List, ◌++◌, length, All}
+use Rattle.std.specs.Prelude.{◌≡◌, ◌≢◌, ℕ, ◌+◌, ◌<◌, ◌≤◌, List, ◌++◌, length, All}
 use Rattle.mv_history.specs.declared.Step.{Step}
 use Rattle.mv_history.specs.declared.StepKind.TheVariants.{StoreData}
+use Rattle.mv_history.specs.State.{rewritten}
+use Rattle.mv_layout.specs.declared.Config.{Config}
 use Rattle.mv_core.specs.declared.view.View.{View}
+use Rattle.mv_core.specs.Rings.{own_of, spare_count}
 use Rattle.seat_log.specs.declared.version.Note.{Note}
 use Rattle.seat_log.specs.Notes.{Noted, held_from, IsNoteAt}
 
@@ -20,3 +23,10 @@ pub record IsHeldAt (l : Noted) (object position : ℕ) : Type 0 where
 pub record Stores (v w : View) (n : ℕ) : Type 0 where
   pub rest : w ≡ record v { ring = w.ring; trail = w.trail }
   pub trail : (steps : List Step) × (w.trail ≡ v.trail ++ steps) × (length steps ≡ n) × All (λ s. s.kind ≡ StoreData) steps
+
+-- an object that is held has other words, by six stores
+pub record Rewrites (c : Config) (v w : View) (object : ℕ) (words : List ℕ) (before after : ℕ) : Type 0 where
+  pub own : own_of c w.ring ≡ rewritten (own_of c v.ring) object words
+  pub spare : spare_count w.ring ≡ spare_count v.ring
+  pub stores : Stores v w 6
+  pub cost : after ≡ before + 6

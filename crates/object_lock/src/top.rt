@@ -3,7 +3,7 @@ ghost use Rattle.std.specs.Prelude.{◌≡◌, ◌≢◌, ◌+◌, ◌<◌, ◌�
 ghost use Rattle.mv_layout.specs.Words.{link_seat_of};
 ghost use Rattle.mv_core.specs.Passes.{view, IsOf, IsSame, config_of};
 ghost use Rattle.version_chain.specs.Walks.{MayWalk, stand_in};
-ghost use Rattle.object_lock.specs.Tops.{IsUnheld, StandsOn, Looked, Tries, TopAnswers};
+ghost use Rattle.object_lock.specs.Tops.{IsUnheld, StandsOn, Looked, Tries, TopAnswers, most_to_look};
 
 use mv_core::{Pass, Shared, Steps};
 use mv_history::{LockAnswer, Protocol, Words};
@@ -31,11 +31,13 @@ pub(crate) fn stamp_at<P: Protocol, L: Ledger>(
 }
 
 // Looks at what is on top of an object that the section doesn't hold. It answers the link there, 0
-// for the master, with the words that the section reads, where a lock may be put; else why not.
+// for the master, with the given words, or else with those that the section reads there, where a
+// lock may be put; else why not. Where words are given none is read.
 pub(crate) fn top_of<P: Protocol, L: Ledger>(
     shared: &Shared<P>,
     pass: &mut Pass<P>,
     object: u32,
+    given: Option<Words>,
     steps: &mut Steps<L>,
 ) -> Result<(u64, Words), LockAnswer>
     requires of { IsOf shared.now pass.old }
@@ -44,13 +46,16 @@ pub(crate) fn top_of<P: Protocol, L: Ledger>(
     requires unheld { IsUnheld (view pass.old) object }
     ensures same { IsSame pass.old pass.new }
     ensures may { MayWalk (view pass.new) }
-    ensures answers { TopAnswers (config_of shared.now) (view pass.old) (view pass.new) object result }
+    ensures answers { TopAnswers (config_of shared.now) (view pass.old) (view pass.new) object given result }
     ensures tries { Tries (view pass.old) (view pass.new) steps.old steps.new [] }
     ensures ring { (view pass.new).ring ≡ (view pass.old).ring }
-    ensures bound { steps.new ≤ steps.old + 9 }
+    ensures bound { steps.new ≤ steps.old + most_to_look given }
 {
     let link = shared.load_head(pass, object, steps);
     if link == 0 {
+        if let Some(words) = given {
+            return Ok((0, words));
+        }
         return Ok((0, read_master(shared, pass, object, steps)));
     }
     let stamp = stamp_at(shared, pass, link, steps);
@@ -60,6 +65,9 @@ pub(crate) fn top_of<P: Protocol, L: Ledger>(
     }
     if stamp > pass.time() {
         return Err(LockAnswer::Stale { time: stamp });
+    }
+    if let Some(words) = given {
+        return Ok((link, words));
     }
     let position = link_position(link);
     Ok((link, read_version(shared, pass, seat, position, steps)))

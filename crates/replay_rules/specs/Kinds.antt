@@ -53,7 +53,7 @@ IsKindOfWalking object (LoadWord link words word) kind =
 abbrev pub IsKindOfLocking : Version → ℕ → Locking → Kind → Type 0
 IsKindOfLocking version at (Build field) kind = (build : core_build.Build) × (kind ≡ store_built at field (field_word version at field) build)
 IsKindOfLocking version at LockHead kind =
-    (build : core_build.Build) × (inside : Section) × (kind ≡ lock_head version.object version.previous at build inside)
+    (build : core_build.Build) × (inside : Section) × (kind ≡ lock_head version.object version.previous at version.words build inside)
 IsKindOfLocking version at ClearPrevious kind = (build : core_build.Build) × (kind ≡ store_built at 2 0 build)
 IsKindOfLocking version at (FoundFirst link) kind = (stand : Stand) × (kind ≡ load_first link stand)
 IsKindOfLocking version at (FoundStamp link first) kind = (stand : Stand) × (kind ≡ load_stamp link first stand)

@@ -10,10 +10,7 @@ use Rattle.mv_core.specs.declared.ring.Slot.{Slot}
 use Rattle.mv_core.specs.declared.ring.Slot.TheVariants.{Free, Built, Live, Freeing}
 use Rattle.mv_core.specs.declared.ring.Status.TheVariants.{Held}
 use Rattle.mv_core.specs.declared.view.View.{View}
-use Rattle.mv_core.specs.declared.view.Section.{Section}
 use Rattle.mv_core.specs.Rings.{slot_at, index_of, put_slot, is_held, held_count, is_spare, spare_count, set_first}
-use Rattle.mv_core.specs.Times.{words_of}
-use Rattle.mv_core.specs.Views.{time_in}
 use Rattle.mv_core.specs.LockSteps.{locked_version, head_locked}
 use Rattle.mv_core.proofs.logs.Slots.{slot_here, slot_else, slot_within}
 use Rattle.mv_core.proofs.logs.Counts.{count_same, count_less, held_more}
@@ -56,28 +53,27 @@ stands_same c v w l number ring mine rests frees backs keeps k = record {
 }
 
 -- after a won lock of the built version, with what it was built with
-module _ (c : Config) (v : View) (l : Noted) (n : Note) (inside : Section) (k : Stands c v l) (built : l.built ≡ Some n)
-    (words : n.words ≡ words_of c v.start v.past.seen (time_in inside) n.object) where
+module _ (c : Config) (v : View) (l : Noted) (n : Note) (k : Stands c v l) (built : l.built ≡ Some n) where
   abbrev s : ℕ
   s = index_of c n.position
 
   -- the version that the lock holds is the noted one
-  version_is : locked_version c v inside n.object n.previous n.position ≡ version_of n
+  version_is : locked_version v n.object n.previous n.position n.words ≡ version_of n
   version_is =
       let is = built_next l n built k.log in
       let held = k.held in
       let next = k.next in
       let first : set_first v.ring ≡ n.first = (let f = is.1 in omega arith) in
-      λ i. record { position = n.position; first = first i; object = n.object; previous = n.previous; words = sym words i }
+      λ i. record { position = n.position; first = first i; object = n.object; previous = n.previous; words = n.words }
 
-  pub stands_locked : Stands c (head_locked c v inside n.object n.previous n.position) (held_noted l)
+  pub stands_locked : Stands c (head_locked c v n.object n.previous n.position n.words) (held_noted l)
   stands_locked =
       let is : IsNextOf l n = built_next l n built k.log in
       let o : HasBuilt c v.ring (Some n) = subst (HasBuilt c v.ring) built k.built in
       let at : n.position ≡ v.ring.next = is.0 ∙ sym k.next in
       let s : ℕ = index_of c n.position in
       let here : slot_at v.ring s ≡ Built o.0 = ap (λ p. slot_at v.ring (index_of c p)) at ∙ o.1 in
-      let z : Slot = Live (locked_version c v inside n.object n.previous n.position) Held in
+      let z : Slot = Live (locked_version v n.object n.previous n.position n.words) Held in
       let z_is : z ≡ Live (version_of n) Held = ap (λ x. Live x Held) version_is in
       let within : s < length v.ring.slots = slot_within v.ring s (λ free. let f : Free ≡ Built o.0 = sym free ∙ here in absurd (cc)) in
       let live : l.live ++ built_list l.built ≡ l.live ++ n ∷ [] = ap (λ p. l.live ++ built_list p) built in
@@ -89,7 +85,7 @@ module _ (c : Config) (v : View) (l : Noted) (n : Note) (inside : Section) (k : 
       let spared : spare_count (put_slot v.ring s z) + 1 ≡ spare_count v.ring = count_less v.ring s z within is_spare (ap is_spare here) refl in
       let used_before = k.used in
       let spare_before = k.spare in
-      let won : count_by is_won_lock (head_locked c v inside n.object n.previous n.position).trail ≡ count_by is_won_lock v.trail + 1 =
+      let won : count_by is_won_lock (head_locked c v n.object n.previous n.position n.words).trail ≡ count_by is_won_lock v.trail + 1 =
       passed is_won_lock v.trail _ refl in record {
         seat = k.seat;
         slots = k.slots;

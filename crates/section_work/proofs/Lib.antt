@@ -6,3 +6,4 @@ pub mod Entering
 pub mod Stopping
 pub mod Exchanges
 pub mod Outcomes
+pub mod Planned

@@ -20,7 +20,8 @@ use Rattle.section_work.specs.OwnWrites.{with_locks, with_writes, objects_of}
 use Rattle.section_work.specs.declared.place.Place.TheVariants.{Commit as AtCommit, Read}
 use Rattle.section_work.proofs.OwnWrites.{own_from_none}
 use Rattle.section_work.proofs.Objects.{IsIn, in_right, touches-in}
-use Rattle.section_work.specs.Locking.{Rewritten, Refuses, Stops}
+use Rattle.section_work.proofs.HeldWrites.{objects_of-append}
+use Rattle.section_work.specs.Locking.{Rewritten, RefusesWith, Stops}
 use Rattle.section_work.specs.Held.{count_unheld, HasRoom}
 use Rattle.section_work.specs.declared.causes.Refusal.{Refusal}
 use Rattle.section_work.specs.declared.causes.Cause.{Cause}
@@ -39,11 +40,11 @@ use Rattle.section_work.specs.declared.attempting.Attempt.TheVariants.{Done, Aga
 use Rattle.mv_history.proofs.Committed.{before_is, after_is, allowed_there, drifts_there}
 
 -- a section that holds nothing has room for so many objects
-count_new : (os : List ℕ) → count_unheld [] os ≡ length os
+pub count_new : (os : List ℕ) → count_unheld [] os ≡ length os
 count_new [] = refl
 count_new (o ∷ os) = let more = count_new os in omega arith
 
-length_objects : (ws : Writes) → length (objects_of ws) ≡ length ws
+pub length_objects : (ws : Writes) → length (objects_of ws) ≡ length ws
 length_objects [] = refl
 length_objects (w ∷ ws) = ap suc (length_objects ws)
 
@@ -164,14 +165,16 @@ module _ {R : Type 0} (allowed : List ℕ → State → Writes → Type 0) (m : 
   -- After a lock of it was refused.
   pub stops_by : (found left : InSection) (tag : List ℕ) (ws made : Writes) (reply : R) → IsPlanned allowed m (state_of found) tag ws reply → made ≡ ws
       → (may_refuse : Type 0) (found_held : InSection → InSection → ℕ → ℕ → Type 0) (refusal : Refusal)
-      → Refuses may_refuse found_held found left (objects_of made) refusal → Stops may_refuse found_held (λ o. touches ws o ≡ true) found left refusal
+      → RefusesWith may_refuse found_held found left made refusal → Stops may_refuse found_held (λ o. touches ws o ≡ true) found left refusal
   stops_by found left tag ws made reply plan is may_refuse found_held refusal r0 =
-      let r : Refuses may_refuse found_held found left (objects_of ws) refusal =
-      subst (λ (w : Writes). Refuses may_refuse found_held found left (objects_of w) refusal) is r0 in
+      let r : RefusesWith may_refuse found_held found left ws refusal =
+      subst (λ (w : Writes). RefusesWith may_refuse found_held found left w refusal) is r0 in
       record {
-        object = r.object;
+        object = r.change.0;
         named =
-            touches-in ws r.object (subst (λ os. IsIn r.object os) (sym r.parts) (in_right r.held (r.object ∷ r.rest) r.object (inl refl)));
+            ap (λ (w : Writes). touches w r.change.0) r.parts ∙ touches-in (r.held ++ r.change ∷ r.rest) r.change.0
+            (subst (λ os. IsIn r.change.0 os) (sym (objects_of-append r.held (r.change ∷ r.rest)))
+            (in_right (objects_of r.held) (r.change.0 ∷ objects_of r.rest) r.change.0 (inl refl)));
         before = r.before;
         goes_on = r.holds.goes_on;
         refused = r.refused;

@@ -3,7 +3,7 @@ use Rattle.std.specs.Prelude.{ℕ, ◌≡◌, ◌≢◌, List, ◌∷◌, ◌++�
 use Rattle.mv_history.specs.State.{Writes, written}
 use Rattle.mv_history.specs.Meaning.{InSection, Lacks, state_of}
 use Rattle.mv_history.specs.Calls.{IsAsBefore, GoesOn, IsStale}
-use Rattle.section_work.specs.OwnWrites.{with_locks, with_writes}
+use Rattle.section_work.specs.OwnWrites.{with_locks, with_writes, objects_of}
 use Rattle.section_work.specs.Held.{HoldsMore}
 use Rattle.section_work.specs.declared.causes.Refusal.{Refusal}
 use Rattle.section_work.specs.declared.causes.Refusal.TheVariants.{Busy, Stale}
@@ -38,6 +38,18 @@ pub record Refuses (may_refuse : Type 0) (found_held : InSection → InSection �
   pub holds : HoldsMore old before held (with_locks (state_of old) old.own held)
   pub refused : IsRefused may_refuse found_held before new object refusal
   pub state : state_of new ≡ state_of old
+
+-- What a refusal leaves of a section that held nothing, where each object is locked with the words that are to be committed: it holds those
+-- before the one whose lock was refused, with these words, and can only be given up.
+pub record RefusesWith (may_refuse : Type 0) (found_held : InSection → InSection → ℕ → ℕ → Type 0) (old new : InSection) (changes : Writes)
+    (refusal : Refusal) : Type 0 where
+  pub held : Writes
+  pub change : ℕ × List ℕ
+  pub rest : Writes
+  pub parts : changes ≡ held ++ change ∷ rest
+  pub before : InSection
+  pub holds : HoldsMore old before (objects_of held) held
+  pub refused : IsRefused may_refuse found_held before new change.0 refusal
 
 -- One lock was refused, of an object for which this holds; those that were had stay.
 pub record Stops (may_refuse : Type 0) (found_held : InSection → InSection → ℕ → ℕ → Type 0) (Named : ℕ → Type 0) (old new : InSection)

@@ -6,7 +6,7 @@ use Rattle.mv_history.specs.declared.answers.Rival.{Rival as RivalEntry}
 use Rattle.mv_history.specs.Meaning.{Seat, InSection, IsWorn}
 use Rattle.mv_history.specs.Calls.{IsAsBefore, Prepares, Enters, Leaves, Commits, Overtakes}
 use Rattle.section_work.specs.OwnWrites.{objects_of}
-use Rattle.section_work.specs.Locking.{Rewritten, Refuses}
+use Rattle.section_work.specs.Locking.{Rewritten, RefusesWith}
 use Rattle.section_work.specs.Causes.{Causes}
 use Rattle.section_work.specs.declared.place.Place.TheVariants.{Commit as AtCommit, Read}
 use Rattle.section_work.specs.declared.causes.Refusal.{Refusal}
@@ -32,7 +32,7 @@ module _ {Open : Type 0} (section : Open → InSection) (as_before : Open → Op
     pub leaves : Leaves (section found) new
     pub time_is : time ≡ (section found).seat.base + (section found).at
 
-  -- some objects were locked in it, and then written
+  -- some objects were locked in it, each with the words to be committed
   pub record Holds (found locked : Open) : Type 0 where
     pub writes : Writes
     pub rewritten : Rewritten (section found) (section locked) (objects_of writes) writes
@@ -66,9 +66,9 @@ module _ {Open : Type 0} (section : Open → InSection) (as_before : Open → Op
 
   -- a lock in it was refused, and the section was given up
   pub record StopsAt (found : Open) (new : Seat) (refusal : Refusal) : Type 0 where
-    pub objects : List ℕ
+    pub writes : Writes
     pub left : Open
-    pub refuses : Refuses k.may_refuse k.found_held (section found) (section left) objects refusal
+    pub refuses : RefusesWith k.may_refuse k.found_held (section found) (section left) writes refusal
     pub leaves : Leaves (section left) new
 
   -- another section was entered, only read, and left
@@ -93,8 +93,8 @@ module _ {Open : Type 0} (section : Open → InSection) (as_before : Open → Op
   Follows found new (Again (Rival rival)) = LosesTo found new rival
   Follows found new (Again (LogFull holder)) = Leaves (section found) new
 
-  -- An attempt calls `prepare`, `enter` once, and reads. Then it leaves; or it locks, writes and tries to commit, and looks once more only
-  -- where no time is left.
+  -- An attempt calls `prepare`, `enter` once, and reads. Then it leaves; or it locks with the words to be committed and tries to commit, and looks once
+  -- more only where no time is left.
   pub record IsStepped {R : Type 0} (old new : Seat) (answer : Attempt R) : Type 0 where
     pub prepared : Seat
     pub prepares : IsPrepared k old prepared

@@ -10,7 +10,7 @@ ghost use Rattle.section_work.specs.Attempts.{Attempted, AttemptedIn, HasSpace, 
 ghost use Rattle.section_work.specs.Steps.{IsStepped, Follows, LooksOnce};
 
 use crate::causes::Cause;
-use crate::locking::rewrite;
+use crate::locking::hold_planned;
 use crate::place::Place;
 use crate::work::{Decision, Work};
 use mv_history::{CommitAnswer, Room, Section, Store};
@@ -86,7 +86,7 @@ fn late<W: Work>(work: &W, found: Decision<W::Reply, W::Plan>) -> W::Reply
     }
 }
 
-// Locks and writes what is planned in a section that holds nothing, and commits it.
+// Locks what is planned, with its words, in a section that holds nothing, and commits it.
 fn commit<W: Work, S: Store<Rules = W::Rules>>(
     section: S::Open,
     work: &W,
@@ -108,7 +108,7 @@ fn commit<W: Work, S: Store<Rules = W::Rules>>(
         Follows S.Open.section S.Open.as_before shows section (S.seat_of result.0) result.1 }
 {
     let mut section = section;
-    if let Err(refusal) = rewrite(&mut section, W::writes(&plan)) {
+    if let Err(refusal) = hold_planned(&mut section, W::writes(&plan)) {
         return (section.abort(), Attempt::Again(Cause::Lock(refusal)));
     }
     match section.try_commit(work.tag(&plan)) {

@@ -1,6 +1,6 @@
 -- The steps of a lock behind its walk: the build of its version, and the exchanges of HEAD.
 use Rattle.std.proofs.Common.{◌≡◌, ℕ, ◌+◌, ◌<◌, ◌^◌, ◌==◌, ◌&&◌, ltb, not, List, [], ◌∷◌, ◌++◌, true, false, Option}
-use Rattle.std.proofs.Common.{Some, None, All, map, refl, sym, ap, ◌∙◌, subst, arith, inl, eqb-true, eq-eqb, ne_eqb, if◌then◌else◌, mod-lt}
+use Rattle.std.proofs.Common.{Some, None, All, refl, sym, ap, ◌∙◌, subst, arith, inl, eqb-true, eq-eqb, ne_eqb, if◌then◌else◌, mod-lt}
 use Rattle.std.proofs.Common.{length-append, length-drop, drop}
 use Rattle.mv_layout.specs.Words.{link_of}
 use Rattle.mv_core.proofs.Terms.{dite, ℕ_discrete, Config, Checked, Head}
@@ -11,8 +11,6 @@ use Rattle.mv_core.specs.declared.view.Section.{Section}
 use Rattle.mv_core.specs.declared.view.Passed.TheVariants.{Nothing}
 use Rattle.mv_core.specs.declared.view.Walk.TheVariants as walk
 use Rattle.mv_core.specs.Rings.{slot_at, index_of, set_first}
-use Rattle.mv_core.specs.Times.{words_of}
-use Rattle.mv_core.specs.Views.{time_in}
 use Rattle.mv_core.specs.EnterSteps.{stored_if}
 use Rattle.mv_core.specs.LockSteps.{StandsToLock, field_place, MayLock, head_locked, lock_lost}
 use Rattle.mv_core.specs.Moves.{Moment, store_built, lock_head, IsStorable}
@@ -169,7 +167,7 @@ module _ (c : Config) (k : Checked c) (n : ℕ) (lt : n < c.seats) (made : List 
 
     -- HEAD may be exchanged for a link to the whole version
     may_lock : StandsToLock v i o version.previous → HasFields (build_at c v at) version at 10 → MayLock c c.write_max v o version.previous at
-        (build_at c v at) i
+        version.words (build_at c v at) i
     may_lock stands has =
         let first = first_held c k v log freed from inside.logs in
         let held = held_are c k v log freed from inside.logs in
@@ -185,11 +183,11 @@ module _ (c : Config) (k : Checked c) (n : ℕ) (lt : n < c.seats) (made : List 
           stamp = λ e. has.stamp (omega arith) (builds.first_is ∙ sym first ∙ e);
           previous_is = has.previous (omega arith);
           successor = has.successor (omega arith);
-          words = whole_words (build_at c v at) version at builds.wide has ∙ ap (map Some) builds.words;
+          words_are = whole_words (build_at c v at) version at builds.wide has;
         }
 
     -- the won lock: the version is held
-    won_logs : HasFields (build_at c v at) version at 10 → Logs c (head_locked c v i o version.previous at) (log ++ version ∷ []) freed from
+    won_logs : HasFields (build_at c v at) version at 10 → Logs c (head_locked c v o version.previous at version.words) (log ++ version ∷ []) freed from
     won_logs has =
         let l = inside.logs.noted in
         let is = inside.logs.is in
@@ -221,11 +219,10 @@ module _ (c : Config) (k : Checked c) (n : ℕ) (lt : n < c.seats) (made : List 
           },
         ) in
         let whole = stands_whole c v l m inside.logs.stands has_built next (omega (arith, long, size, room)) in
-        let so = stands_locked c v (record l { built = Some m }) m i whole refl
-        (builds.words ∙ ap (words_of c v.start v.past.seen (time_in i)) (sym builds.object_is)) in
+        let so = stands_locked c v (record l { built = Some m }) m whole refl in
         record {
           noted = held_noted (record l { built = Some m });
-          stands = subst (λ (x : ℕ). Stands c (head_locked c v i x version.previous at) (held_noted (record l { built = Some m }))) builds.object_is so;
+          stands = subst (λ (x : ℕ). Stands c (head_locked c v x version.previous at version.words) (held_noted (record l { built = Some m }))) builds.object_is so;
           is = record {
             live = ap (λ ns. ns ++ m ∷ []) is.live
                 ∙ ap (λ p. notes_from freed (drop freed log) ++ note_of p version ∷ []) (let d = length-drop freed log in omega (arith, at_is, d, within))
@@ -241,14 +238,14 @@ module _ (c : Config) (k : Checked c) (n : ℕ) (lt : n < c.seats) (made : List 
     -- the exchange of HEAD
     head_made : StandsToLock v i o version.previous → HasFields (build_at c v at) version at 10 → Made_so version at LockHead
     head_made stands has =
-        let kind = lock_head o version.previous at (build_at c v at) i in
+        let kind = lock_head o version.previous at version.words (build_at c v at) i in
         let task = Locks version at LockHead in
         let found = s.memory (Head o) in
         let low = low_at 10 has (omega arith) in
         let link : link_of v.number at ≡ link_to n at = ap (λ m. link_of m at) (number_is c k n made b.each) ∙ sym (link_is n at few_seats low) in
         let place : Head o ≡ Head version.object = ap Head (sym builds.object_is) in
         let of : IsOfKind c s n kind task = record {
-          is = (build_at c v at, i, ap (λ x. lock_head x version.previous at (build_at c v at) i) (sym builds.object_is));
+          is = (build_at c v at, i, ap (λ x. lock_head x version.previous at version.words (build_at c v at) i) (sym builds.object_is));
           may = may_lock stands has;
           range = subst (λ (x : ℕ). x < c.objects) (sym builds.object_is) range;
           place = place;
@@ -256,7 +253,7 @@ module _ (c : Config) (k : Checked c) (n : ℕ) (lt : n < c.seats) (made : List 
           fits = λ f _. if_so IsStorable (f == version.previous) (Some (link_to n at)) None
               (λ e. let is = link_is n at few_seats low in let seats = few_seats in omega (arith, is, seats, low)) (λ e. tt);
         } in
-        let A = head_locked c v i o version.previous at in
+        let A = head_locked c v o version.previous at version.words in
         let B = lock_lost c v o found in
         let at_head : s.memory (Head version.object) ≡ found = ap (λ p. s.memory (Head p)) builds.object_is in
         dite (ℕ_discrete found version.previous)

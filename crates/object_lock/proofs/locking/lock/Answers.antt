@@ -1,117 +1,19 @@
-use Rattle.std.proofs.Common.{◌≡◌, ℕ, true, false, [], sym, ap, ◌∙◌, subst}
-use Rattle.mv_core.specs.declared.view.View.{View}
+use Rattle.std.proofs.Common.{[], refl}
 use Rattle.mv_core.specs.Passes.{view, config_of}
-use Rattle.object_lock.specs.Locks.{AreFew, LockAnswers}
-use Rattle.object_lock.proofs.Outcomes.{tries_on}
-use Rattle.object_lock.proofs.Locked.{made_answers, kept_too}
-use Rattle.object_lock.proofs.Bounds.{both_bound, begun_bound}
-use Rattle.seat_log.proofs.OwnSlots.{same_on, of_still}
+use Rattle.object_lock.proofs.Locked.{held_none, held_some}
+use Rattle.object_lock.proofs.Looks.{none_tried}
 use Rattle.object_lock.proofs.locking.lock.Goals as goal
 
-pub returns-in-Ok-clause-tries : goal.returns-in-Ok-clause-tries
-returns-in-Ok-clause-tries g c =
-    let config = config_of c.args.shared.now in
-    let begun = c.in-Ok.ensures in
-    let ended = c.lock_end.ensures.outcome in (
-      ended.0,
-      tries_on (view c.args.pass.now) (view c.lock_start.new.pass) (view c.lock_end.new.pass) c.args.steps.now c.lock_start.new.steps
-          c.lock_end.new.steps begun.tries ended.1.tries,
-      subst (λ (o : ℕ). AreFew config o ended.0) begun.started.object_is ended.2,
-    )
+pub returns-then-holds-clause-tries : goal.returns-then-holds-clause-tries
+returns-then-holds-clause-tries g c = ([], none_tried (view c.args.pass.now) c.args.steps.now, tt)
 
-pub returns-in-Ok-clause-answers : goal.returns-in-Ok-clause-answers
-returns-in-Ok-clause-answers g c =
-    let config = config_of c.args.shared.now in
-    let v = view c.args.pass.now in
-    let w = view c.lock_start.new.pass in
-    let x = view c.lock_end.new.pass in
-    let begun = c.in-Ok.ensures in
-    let rest = begun.tries.rest in
-    let made = made_answers config v w begun.keeps x c.in-Ok.started.object c.lock_end.result begun.tries.trail.0
-    begun.tries.trail.1 (ap (λ (u : View). u.number) rest)
-    (ap (λ (u : View). u.phase) rest) begun.started.room c.lock_end.ensures.outcome.1.makes in
-    λ lacks. subst (λ (o : ℕ). LockAnswers config v x o c.lock_end.result) begun.started.object_is made
+pub returns-then-holds-clause-answers : goal.returns-then-holds-clause-answers
+returns-then-holds-clause-answers g c =
+    held_some (config_of c.args.shared.now) (view c.args.pass.now) c.args.log.now c.args.object c.requires.stands (c.if-holds.ensures.yes refl)
 
-pub returns-in-Err-clause-tries : goal.returns-in-Err-clause-tries
-returns-in-Err-clause-tries g c = ([], c.in-Err.ensures.tries, tt)
+pub returns-clause-again : goal.returns-clause-again
+returns-clause-again g c =
+    held_none (config_of c.args.shared.now) (view c.args.pass.now) c.args.log.now c.args.object c.requires.stands (c.if-holds.ensures.not refl)
 
-pub lock_start-requires-clause-of : goal.lock_start-requires-clause-of
-lock_start-requires-clause-of g c = c.requires.of
-
-pub lock_start-requires-clause-may : goal.lock_start-requires-clause-may
-lock_start-requires-clause-may g c = c.requires.may
-
-pub lock_start-requires-clause-range : goal.lock_start-requires-clause-range
-lock_start-requires-clause-range g c = c.requires.range
-
-pub lock_start-requires-clause-stands : goal.lock_start-requires-clause-stands
-lock_start-requires-clause-stands g c = c.requires.stands
-
-pub lock_start-requires-clause-unbuilt : goal.lock_start-requires-clause-unbuilt
-lock_start-requires-clause-unbuilt g c = c.requires.unbuilt
-
-pub lock_start-requires-clause-few : goal.lock_start-requires-clause-few
-lock_start-requires-clause-few g c = c.requires.few
-
-pub lock_end-requires-clause-of : goal.lock_end-requires-clause-of
-lock_end-requires-clause-of g c = of_still c.args.shared.now c.args.pass.now c.lock_start.new.pass c.in-Ok.ensures.same c.requires.of
-
-pub lock_end-requires-clause-started : goal.lock_end-requires-clause-started
-lock_end-requires-clause-started g c = c.in-Ok.ensures.started.started
-
-pub returns-in-Ok-clause-same : goal.returns-in-Ok-clause-same
-returns-in-Ok-clause-same g c = same_on c.args.pass.now c.lock_start.new.pass c.lock_end.new.pass c.in-Ok.ensures.same c.lock_end.ensures.same
-
-pub returns-in-Ok-clause-may : goal.returns-in-Ok-clause-may
-returns-in-Ok-clause-may g c = c.lock_end.ensures.outcome.1.may
-
-pub returns-in-Ok-clause-stands : goal.returns-in-Ok-clause-stands
-returns-in-Ok-clause-stands g c = c.lock_end.ensures.outcome.1.stands
-
-pub returns-in-Ok-clause-unbuilt : goal.returns-in-Ok-clause-unbuilt
-returns-in-Ok-clause-unbuilt g c = c.lock_end.ensures.outcome.1.unbuilt
-
-pub returns-in-Ok-clause-few : goal.returns-in-Ok-clause-few
-returns-in-Ok-clause-few g c = c.lock_end.ensures.few
-
-pub returns-in-Ok-clause-again : goal.returns-in-Ok-clause-again
-returns-in-Ok-clause-again g c = λ holds. let clash : true ≡ false = sym holds ∙ c.in-Ok.ensures.started.lacks in absurd (cc)
-
-pub returns-in-Ok-clause-refused : goal.returns-in-Ok-clause-refused
-returns-in-Ok-clause-refused g c = λ ne.
-    kept_too (config_of c.args.shared.now) (view c.args.pass.now) (view c.lock_start.new.pass) c.in-Ok.ensures.keeps (view c.lock_end.new.pass)
-    (c.lock_end.ensures.outcome.1.keeps ne)
-
-pub returns-in-Ok-clause-aborts : goal.returns-in-Ok-clause-aborts
-returns-in-Ok-clause-aborts g c = c.lock_end.ensures.aborts ∙ c.in-Ok.ensures.aborts
-
-pub returns-in-Ok-clause-bound : goal.returns-in-Ok-clause-bound
-returns-in-Ok-clause-bound g c =
-    both_bound c.args.steps.now c.lock_start.new.steps c.lock_end.new.steps c.in-Ok.ensures.bound c.lock_end.ensures.bound
-
-pub returns-in-Err-clause-same : goal.returns-in-Err-clause-same
-returns-in-Err-clause-same g c = c.in-Err.ensures.same
-
-pub returns-in-Err-clause-may : goal.returns-in-Err-clause-may
-returns-in-Err-clause-may g c = c.in-Err.ensures.may
-
-pub returns-in-Err-clause-stands : goal.returns-in-Err-clause-stands
-returns-in-Err-clause-stands g c = c.in-Err.ensures.stands
-
-pub returns-in-Err-clause-unbuilt : goal.returns-in-Err-clause-unbuilt
-returns-in-Err-clause-unbuilt g c = c.in-Err.ensures.unbuilt
-
-pub returns-in-Err-clause-few : goal.returns-in-Err-clause-few
-returns-in-Err-clause-few g c = c.in-Err.ensures.few
-
-pub returns-in-Err-clause-answers : goal.returns-in-Err-clause-answers
-returns-in-Err-clause-answers g c = c.in-Err.ensures.answers
-
-pub returns-in-Err-clause-refused : goal.returns-in-Err-clause-refused
-returns-in-Err-clause-refused g c = λ ne. c.in-Err.ensures.keeps
-
-pub returns-in-Err-clause-aborts : goal.returns-in-Err-clause-aborts
-returns-in-Err-clause-aborts g c = c.in-Err.ensures.aborts
-
-pub returns-in-Err-clause-bound : goal.returns-in-Err-clause-bound
-returns-in-Err-clause-bound g c = begun_bound c.args.steps.now c.lock_start.new.steps c.in-Err.ensures.bound
+pub returns-clause-answers : goal.returns-clause-answers
+returns-clause-answers g c = λ lacks. c.lock_new.ensures.answers

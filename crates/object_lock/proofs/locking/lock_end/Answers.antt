@@ -6,6 +6,7 @@ use Rattle.seat_log.specs.Notes.{Noted}
 use Rattle.seat_log.proofs.OwnSlots.{same_on, of_still}
 use Rattle.object_lock.proofs.Locked.{few_made}
 use Rattle.object_lock.proofs.Bounds.{won_bound, again_bound, lost_bound, few_held}
+use Rattle.object_lock.specs.Locks.{built_words}
 use Rattle.object_lock.proofs.locking.lock_end.Goals as goal
 
 pub returns-then-cut-clause-outcome : goal.returns-then-cut-clause-outcome
@@ -93,14 +94,14 @@ returns-then-cut-clause-few g c =
     let r = c.requires.started in
     let o = returns-then-cut-clause-outcome g c in
     few_made (config_of c.args.shared.now) (view c.args.pass.now) (view c.hold_again.new.pass) c.args.log.now c.hold_again.new.log c.args.started.object
-    r.stands o.1.stands r.few c.hold_again.result o.1.makes o.1.keeps
+    r.stands o.1.stands r.few (built_words c.args.log.now) c.hold_again.result o.1.makes o.1.keeps
 
 pub returns-else-cut-clause-few : goal.returns-else-cut-clause-few
 returns-else-cut-clause-few g c =
     let r = c.requires.started in
     let o = returns-else-cut-clause-outcome g c in
     few_made (config_of c.args.shared.now) (view c.args.pass.now) (view c.lost.new.pass) c.args.log.now c.lost.new.log c.args.started.object r.stands
-    o.1.stands r.few c.lost.result o.1.makes o.1.keeps
+    o.1.stands r.few (built_words c.args.log.now) c.lost.result o.1.makes o.1.keeps
 
 pub exchange-requires-clause-of : goal.exchange-requires-clause-of
 exchange-requires-clause-of g c = c.requires.of

@@ -7,10 +7,10 @@ use Rattle.object_lock.proofs.locking.lost.Goals as goal
 
 pub returns-then-is_unset-clause-outcome : goal.returns-then-is_unset-clause-outcome
 returns-then-is_unset-clause-outcome g c =
-    λ start first lost e.
+    λ words start first lost e.
     lost_busy (config_of c.args.shared.now) (view c.args.pass.now) (view c.stamp_at-stamp.new.pass) c.args.object c.args.link c.stamp_at-stamp.result
     c.requires.may c.requires.first c.stamp_at-stamp.ensures.looked start lost
-    c.args.log.now c.drop_built.new.log c.link_seat.result first c.stamp_at-stamp.new.steps c.stamp_at-stamp.ensures.may c.requires.stands
+    c.args.log.now c.drop_built.new.log words c.link_seat.result first c.stamp_at-stamp.new.steps c.stamp_at-stamp.ensures.may c.requires.stands
     c.drop_built.ensures c.link_seat.ensures (c.if-is_unset.ensures.0 refl) (let two = c.stamp_at-stamp.ensures.step in omega arith)
 
 pub returns-clause-outcome : goal.returns-clause-outcome
@@ -18,8 +18,8 @@ returns-clause-outcome g c =
     let low : c.stamp_at-stamp.result < 2 ^ 63 =
     dite (dec_lt c.stamp_at-stamp.result 9223372036854775808) (λ lt. lt)
     (λ high. let no_way = c.if-is_unset.ensures.1 (let h = high in omega arith) in absurd (cc)) in
-    λ start first lost e.
+    λ words start first lost e.
     lost_stale (config_of c.args.shared.now) (view c.args.pass.now) (view c.stamp_at-stamp.new.pass) c.args.object c.args.link c.stamp_at-stamp.result
     c.requires.may c.requires.first c.stamp_at-stamp.ensures.looked start lost
-    c.args.log.now c.drop_built.new.log first c.stamp_at-stamp.new.steps c.stamp_at-stamp.ensures.may c.requires.stands c.drop_built.ensures low
+    c.args.log.now c.drop_built.new.log words first c.stamp_at-stamp.new.steps c.stamp_at-stamp.ensures.may c.requires.stands c.drop_built.ensures low
     (let two = c.stamp_at-stamp.ensures.step in omega arith)

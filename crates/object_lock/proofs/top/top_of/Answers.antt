@@ -1,10 +1,11 @@
 use Rattle.std.proofs.Common.{◌≡◌, ℕ, ◌+◌, ◌<◌, ◌^◌, [], refl, sym, ◌∙◌, subst, arith, ap, inl}
 use Rattle.mv_history.specs.declared.StepKind.TheVariants.{LoadData, LoadMaster}
+use Rattle.std.specs.Prelude.{unwrap_or}
 use Rattle.mv_layout.specs.Words.{link_of}
 use Rattle.mv_core.specs.Passes.{view, config_of}
 use Rattle.version_chain.specs.Walks.{section_in}
-use Rattle.object_lock.proofs.Looks.{held_elsewhere, version_there, stands_to_lock, words_there, head_tries, looked_tries, tries_read, stands_top}
-use Rattle.object_lock.proofs.Looks.{later_commit, master_bound, looked_bound, version_bound}
+use Rattle.object_lock.proofs.Looks.{held_elsewhere, version_there, stands_to_lock, stands_at_lock, words_there, head_tries, looked_tries, tries_read, stands_top}
+use Rattle.object_lock.proofs.Looks.{later_commit, head_bound, master_bound, looked_bound, version_bound}
 use mathlib.Core.Logic.{dite}
 use native.Mathlib.Decide.{dec_lt}
 use Rattle.object_lock.specs.Tops.{Tries, FoundHeld}
@@ -55,7 +56,8 @@ returns-clause-answers g c =
           c.load_head-link.ensures.view c.stamp_at-stamp.ensures.looked y c.read_version.ensures.reads c.time.result (c.time.ensures (section_in x) may.phase)
           (let t = c.if-stamp-time.false in omega arith),
       c.read_version.ensures.words ∙ words_there config v (view c.load_head-link.new.pass) x c.args.object c.load_head-link.result _ (section_in v)
-          c.if-link-eq0.false c.load_head-link.ensures.view c.stamp_at-stamp.ensures.looked y c.read_version.ensures.reads,
+          c.if-link-eq0.false c.load_head-link.ensures.view c.stamp_at-stamp.ensures.looked y c.read_version.ensures.reads
+          ∙ ap (λ given. unwrap_or given (words_in config y c.args.object)) (sym c.in_default-given.is),
       c.load_head-link.ensures.link,
     )
 
@@ -148,7 +150,8 @@ returns-then-link-eq0-clause-answers g c =
             (ap (λ (u : View). u.walk) c.load_head-link.ensures.view),
         refl,
       ),
-      c.read_master.ensures.words ∙ sym (ap (λ (u : View). words_in (config_of c.args.shared.now) u c.args.object) read),
+      c.read_master.ensures.words ∙ sym (ap (λ (u : View). words_in (config_of c.args.shared.now) u c.args.object) read)
+          ∙ ap (λ given. unwrap_or given (words_in (config_of c.args.shared.now) (view c.read_master.new.pass) c.args.object)) (sym c.in_default.is),
       λ some. absurd (some refl),
     )
 
@@ -164,7 +167,7 @@ returns-then-link-eq0-clause-same g c =
     same_on c.args.pass.now c.load_head-link.new.pass c.read_master.new.pass c.load_head-link.ensures.same c.read_master.ensures.same
 
 pub returns-then-link-eq0-clause-bound : goal.returns-then-link-eq0-clause-bound
-returns-then-link-eq0-clause-bound g c = master_bound _ c.load_head-link.new.steps _ c.load_head-link.ensures.step c.read_master.ensures.cost
+returns-then-link-eq0-clause-bound g c = master_bound c.args.given _ c.load_head-link.new.steps _ c.in_default.is c.load_head-link.ensures.step c.read_master.ensures.cost
 
 pub returns-then-stamp-time-clause-may : goal.returns-then-stamp-time-clause-may
 returns-then-stamp-time-clause-may g c = c.stamp_at-stamp.ensures.may
@@ -178,7 +181,7 @@ returns-then-stamp-time-clause-same g c =
     same_on c.args.pass.now c.load_head-link.new.pass c.stamp_at-stamp.new.pass c.load_head-link.ensures.same c.stamp_at-stamp.ensures.same
 
 pub returns-then-stamp-time-clause-bound : goal.returns-then-stamp-time-clause-bound
-returns-then-stamp-time-clause-bound g c = looked_bound _ c.load_head-link.new.steps _ c.load_head-link.ensures.step c.stamp_at-stamp.ensures.step
+returns-then-stamp-time-clause-bound g c = looked_bound c.args.given _ c.load_head-link.new.steps _ c.load_head-link.ensures.step c.stamp_at-stamp.ensures.step
 
 pub returns-clause-may : goal.returns-clause-may
 returns-clause-may g c = c.read_version.ensures.may
@@ -196,7 +199,7 @@ returns-clause-same g c =
 
 pub returns-clause-bound : goal.returns-clause-bound
 returns-clause-bound g c =
-    version_bound _ c.load_head-link.new.steps c.stamp_at-stamp.new.steps _ c.load_head-link.ensures.step c.stamp_at-stamp.ensures.step
+    version_bound c.args.given _ c.load_head-link.new.steps c.stamp_at-stamp.new.steps _ c.in_default-given.is c.load_head-link.ensures.step c.stamp_at-stamp.ensures.step
     c.read_version.ensures.cost
 
 pub returns-then-stamp-time-clause-answers : goal.returns-then-stamp-time-clause-answers
@@ -208,3 +211,56 @@ returns-then-stamp-time-clause-answers g c =
     c.load_head-link.result c.stamp_at-stamp.result (section_in (view c.args.pass.now)) c.if-link-eq0.false c.load_head-link.ensures.view
     c.stamp_at-stamp.ensures.looked c.time.result (c.time.ensures (section_in (view c.stamp_at-stamp.new.pass)) c.stamp_at-stamp.ensures.may.phase)
     c.if-stamp-time.true low
+
+pub returns-in-Some-clause-answers : goal.returns-in-Some-clause-answers
+returns-in-Some-clause-answers g c = (
+  inl (
+    at_master (view c.load_head-link.new.pass) c.args.object c.load_head-link.result Nothing c.if-link-eq0.true
+        (ap (λ (u : View). u.walk) c.load_head-link.ensures.view),
+    refl,
+  ),
+  ap (λ given. unwrap_or given (words_in (config_of c.args.shared.now) (view c.load_head-link.new.pass) c.args.object)) (sym c.in-Some.is),
+  λ some. absurd (some refl),
+)
+
+pub returns-in-Some-clause-may : goal.returns-in-Some-clause-may
+returns-in-Some-clause-may g c =
+    may_started (config_of c.args.shared.now) (view c.args.pass.now) (view c.load_head-link.new.pass) c.args.object c.load_head-link.result
+    c.load_head-link.ensures.view c.requires.may
+
+pub returns-in-Some-clause-tries : goal.returns-in-Some-clause-tries
+returns-in-Some-clause-tries g c =
+    let w = view c.load_head-link.new.pass in
+    subst (λ (n : ℕ). Tries (view c.args.pass.now) w c.args.steps.now n []) (sym c.load_head-link.ensures.step)
+    (head_tries (config_of c.args.shared.now) (view c.args.pass.now) w c.args.object c.load_head-link.result (section_in (view c.args.pass.now))
+    c.load_head-link.ensures.view c.args.steps.now)
+
+pub returns-in-Some-clause-bound : goal.returns-in-Some-clause-bound
+returns-in-Some-clause-bound g c = head_bound c.args.given _ c.load_head-link.new.steps c.load_head-link.ensures.step
+
+pub returns-in-Some-given-clause-answers : goal.returns-in-Some-given-clause-answers
+returns-in-Some-given-clause-answers g c =
+    let config = config_of c.args.shared.now in
+    let v = view c.args.pass.now in
+    let x = view c.stamp_at-stamp.new.pass in
+    let may = c.stamp_at-stamp.ensures.may in (
+      stands_at_lock config v (view c.load_head-link.new.pass) x c.args.object c.load_head-link.result _ (section_in v) c.if-link-eq0.false
+          c.load_head-link.ensures.view c.stamp_at-stamp.ensures.looked c.time.result (c.time.ensures (section_in x) may.phase)
+          (let t = c.if-stamp-time.false in omega arith),
+      ap (λ given. unwrap_or given (words_in config x c.args.object)) (sym c.in-Some-given.is),
+      c.load_head-link.ensures.link,
+    )
+
+pub returns-in-Some-given-clause-tries : goal.returns-in-Some-given-clause-tries
+returns-in-Some-given-clause-tries g c =
+    let config = config_of c.args.shared.now in
+    let v = view c.args.pass.now in
+    let x = view c.stamp_at-stamp.new.pass in
+    subst (λ (n : ℕ). Tries v x c.args.steps.now n [])
+    (let a = c.load_head-link.ensures.step in let b = c.stamp_at-stamp.ensures.step in omega arith)
+    (looked_tries config v (view c.load_head-link.new.pass) x c.args.object c.load_head-link.result _ (section_in v) c.if-link-eq0.false
+    c.load_head-link.ensures.view c.stamp_at-stamp.ensures.looked c.args.steps.now)
+
+pub returns-in-Some-given-clause-bound : goal.returns-in-Some-given-clause-bound
+returns-in-Some-given-clause-bound g c =
+    looked_bound c.args.given _ c.load_head-link.new.steps _ c.load_head-link.ensures.step c.stamp_at-stamp.ensures.step

@@ -9,20 +9,18 @@ use Rattle.mv_layout.specs.Words.{link_of, link_seat_of}
 use Rattle.mv_core.proofs.Terms.{Config, Checked, Head}
 use Rattle.mv_core.specs.declared.ring.Build as core
 use Rattle.mv_core.specs.declared.view.View.{View}
-use Rattle.mv_core.specs.declared.view.Phase.{Phase}
 use Rattle.mv_core.specs.declared.view.Section.{Section}
 use Rattle.mv_core.specs.declared.view.Passed.TheVariants.{Nothing}
 use Rattle.mv_core.specs.declared.view.Walk as walking
 use Rattle.mv_core.specs.Rings.{own_of}
-use Rattle.mv_core.specs.Times.{words_of}
-use Rattle.mv_core.specs.Views.{time_in}
 use Rattle.mv_core.specs.WalkSteps.{IsLinkOf}
 use Rattle.mv_core.specs.LockSteps.{MayLock, head_locked, lock_lost}
 use Rattle.mv_core.specs.Moves.{Moment, lock_head}
 use Rattle.mv_core.proofs.kinds.walking.WalkOn.{at_some}
 use Rattle.mv_core.proofs.kinds.locking.lock_head.LockHead.{lock_swaps}
 use Rattle.mv_core.proofs.kinds.locking.lock_head.OwnWrites.{one_more_write}
-use Rattle.version_chain.specs.Walks.{inside_of, stand_of}
+use Rattle.version_chain.specs.Walks.{stand_of}
+use Rattle.version_chain.specs.Reads.{words_in}
 use Rattle.object_lock.specs.Locks.{lost_step, AreFew}
 use Rattle.replay_rules.specs.declared.plan.Call.TheVariants.{Lock}
 use Rattle.replay_rules.specs.declared.seats.Version.{Version}
@@ -44,7 +42,8 @@ use Rattle.replay_rules.proofs.answers.Locks.Refusals.{same_number}
 
 module _ (o : ℕ) (c : Config) (k : Checked c) (n : ℕ) (lt : n < c.seats) (made : List Made) (each : AreMade c made) (u : View)
     (notes : List Version) (state : State) (version : Version) (at : ℕ) (same : version.object ≡ o) (build : core.Build) (i : Section)
-    (may : MayLock c c.write_max ((state_of c made).seats n) version.object version.previous at build i) where
+    (may : MayLock c c.write_max ((state_of c made).seats n) version.object version.previous at version.words build i)
+    (reads : version.words ≡ words_in c ((state_of c made).seats n) version.object) where
   abbrev s : Moment
   s = state_of c made
 
@@ -59,7 +58,7 @@ module _ (o : ℕ) (c : Config) (k : Checked c) (n : ℕ) (lt : n < c.seats) (ma
 
   -- the views behind a won exchange, and behind a lost one
   abbrev won : View
-  won = head_locked c ((state_of c made).seats n) i version.object version.previous at
+  won = head_locked c ((state_of c made).seats n) version.object version.previous at version.words
 
   abbrev lost : View
   lost = lock_lost c ((state_of c made).seats n) version.object ((state_of c made).memory (Head version.object))
@@ -77,18 +76,17 @@ module _ (o : ℕ) (c : Config) (k : Checked c) (n : ℕ) (lt : n < c.seats) (ma
       → LocksSo c u won version.object refusals.Held
   won_by most tried done le few =
       let f = facts c k n made each in
-      let one = one_more_write s.seats f v (view_there c k n made each) (seated c k n made each lt).range c.write_max version.object version.previous at build
-      i may in
+      let one = one_more_write s.seats f v (view_there c k n made each) (seated c k n made each lt).range c.write_max version.object version.previous at
+      version.words build i may in
       let lacks = done.2.lacks in
       let kept = done.2.keeps in
-      let some = done.1 in
-      let words = ap (λ (ph : Phase). words_of c v.start v.past.seen (time_in (inside_of ph)) version.object) (sym may.walking.phase) in record {
+      let some = done.1 in record {
         again = λ e. let clash : true ≡ false = sym e ∙ lacks in absurd (cc);
         answers = λ _. (
           done.2.room,
           (
-            one.0 ∙ ap (λ ws. ws ++ (version.object, words_of c v.start v.past.seen (time_in i) version.object) ∷ []) kept.0
-                ∙ ap (λ ws. own_of c u.ring ++ (version.object, ws) ∷ []) words,
+            one.0 ∙ ap (λ ws. ws ++ (version.object, version.words) ∷ []) kept.0
+                ∙ ap (λ ws. own_of c u.ring ++ (version.object, ws) ∷ []) reads,
             one.1 ∙ kept.1,
           ),
         );
@@ -110,7 +108,7 @@ module _ (o : ℕ) (c : Config) (k : Checked c) (n : ℕ) (lt : n < c.seats) (ma
   module _ (ne : (state_of c made).memory (Head version.object) ≢ version.previous) where
     told : IsLinkOf c found × (found ≢ 0 → link_seat_of found ≢ v.number)
     told =
-        let r = (lock_swaps any_start any_commit c (zeros c) v c.write_max version.object version.previous at build i may (link_of v.number at) refl).1
+        let r = (lock_swaps any_start any_commit c (zeros c) v c.write_max version.object version.previous at version.words build i may (link_of v.number at) refl).1
         s.memory s.history s.seats (facts c k n made each) (view_there c k n made each) (seated c k n made each lt).range (starts c k n made each) ne
         (word_small c k n made each (Head version.object)) in
         r.2.0.2 ne
@@ -152,7 +150,7 @@ module _ (o : ℕ) (c : Config) (k : Checked c) (n : ℕ) (lt : n < c.seats) (ma
       else (if found == 0 then Goes (Locks (record version { previous = 0 }) at ClearPrevious) else Goes (Locks version at (FoundFirst found))))
 
   pub exchange_so : HasBuilt c u v version.object version.previous
-      → let w = view_by c s n (lock_head version.object version.previous at build i) in
+      → let w = view_by c s n (lock_head version.object version.previous at version.words build i) in
       Comes (LockFar o c n u w notes state) (AnswersSo c (Lock o) u w) (after_lock_head version at found)
   exchange_so built = go (found == version.previous) refl
     where

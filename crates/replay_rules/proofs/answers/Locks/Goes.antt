@@ -10,7 +10,10 @@ use Rattle.mv_core.specs.declared.view.Walk.TheVariants as walk
 use Rattle.mv_core.specs.Rings.{index_of}
 use Rattle.mv_core.specs.WalkSteps.{slot_named, IsWriteOf}
 use Rattle.mv_core.specs.Moves.{Moment, Kind, load_first, load_stamp}
-use Rattle.version_chain.specs.Walks.{stand_of}
+use Rattle.mv_core.specs.Times.{words_of}
+use Rattle.mv_core.specs.Views.{time_in}
+use Rattle.version_chain.specs.Walks.{inside_of, stand_of}
+use Rattle.version_chain.specs.Reads.{words_in}
 use Rattle.replay_rules.specs.declared.plan.Call.TheVariants.{Lock}
 use Rattle.replay_rules.specs.declared.seats.Version.{Version}
 use Rattle.replay_rules.specs.declared.seats.State.{State}
@@ -105,8 +108,11 @@ module _ (o : ℕ) (c : Config) (k : Checked c) (n : ℕ) (lt : n < c.seats) (ma
       (field_so o c k n made log freed from time u l.inside l.may.room notes state version at l.builds.at_is same field is.0 l.locks.0
       (subst (Steps (Build field)) is.1 step) l.locks.3.wide far)
   locks_so LockHead l far kind step is =
+      let reads : version.words ≡ words_in c v version.object =
+      l.builds.words
+      ∙ (λ j. words_of c v.start v.past.seen (time_in (inside_of (sym l.inside.walking.phase j))) (sym l.builds.object_is j)) in
       subst (Comes_so LockHead) (sym is.2)
-      (exchange_so o c k n lt made each u notes state version at same is.0 is.1 (subst (Steps LockHead) is.2 step).may.may far)
+      (exchange_so o c k n lt made each u notes state version at same is.0 is.1 (subst (Steps LockHead) is.2 step).may.may reads far)
   locks_so ClearPrevious l far kind step is =
       subst (Comes_so ClearPrevious) (sym is.1)
       (clear_so o c k n made log freed from time u l.inside l.may.room notes state version at l.builds.at_is same is.0 (subst (Steps ClearPrevious) is.1 step)

@@ -10,8 +10,9 @@ use Rattle.section_work.proofs.Stopping.{held_by}
 use Rattle.section_work.proofs.Outcomes.{room_as, room_for, ready_by, stops_by, done_by, stopped_in, overtaken_in, read_after, may_wider}
 use Rattle.section_work.proofs.attempting.commit.Goals as goal
 
-pub rewrite-requires : goal.rewrite-requires
-rewrite-requires g c = let p = c.requires.planned in record {
+pub hold_planned-requires : goal.hold_planned-requires
+hold_planned-requires g c = let p = c.requires.planned in record {
+  none = c.requires.space.own;
   distinct = rw c.writes.ensures p.distinct;
   within = room_as _ _ _ c.writes.ensures p.within;
   room = rw c.writes.ensures (room_for _ _ _ c.requires.space p.few);
@@ -19,8 +20,8 @@ rewrite-requires g c = let p = c.requires.planned in record {
 
 pub try_commit-requires : goal.try_commit-requires
 try_commit-requires g c =
-    let locked = g.S.Open.Section.section c.rewrite.new.section in
-    let ready = ready_by _ _ _ _ _ _ _ _ c.requires.space.own c.requires.planned c.writes.ensures c.in_default.ensures.written in
+    let locked = g.S.Open.Section.section c.hold_planned.new.section in
+    let ready = ready_by _ _ _ _ _ _ _ _ c.requires.space.own c.requires.planned c.writes.ensures c.in_default.ensures.held in
     record {
       some = ready.some;
       fit = subst (λ (t : List ℕ). IsFit g.W.Rules.Protocol.allowed (snapshot_of locked) t locked.own) (sym c.tag.ensures) ready.fit;
@@ -29,13 +30,13 @@ try_commit-requires g c =
 pub returns-in-Err : goal.returns-in-Err
 returns-in-Err g c =
     let x = stops_by _ _ _ _ _ _ _ _ c.requires.planned c.writes.ensures _ _ _ c.in-Err.ensures.refused in
-    let held = held_by _ _ _ _ c.requires.space.own c.writes.ensures _ _ _ c.in-Err.ensures.refused in
+    let held = held_by _ _ _ _ c.writes.ensures _ _ _ c.in-Err.ensures.refused in
     let goes = GoesOn-GoesOn x.goes_on x.refused.goes_on in
-    let left = subst (λ (s : Seat). Leaves (g.S.Open.Section.section c.rewrite.new.section) s) (g.met.S.Store.same_seat _) c.abort.ensures in
+    let left = subst (λ (s : Seat). Leaves (g.S.Open.Section.section c.hold_planned.new.section) s) (g.met.S.Store.same_seat _) c.abort.ensures in
     let on = Continues-Continues goes.continues left.continues in
     record {
       attempted = stopped_in _ _ _ _ _ _ _ _ _ c.requires.space.own c.requires.planned.plan x held left;
-      follows = record { objects = _; left = c.rewrite.new.section; refuses = c.in-Err.ensures.refused; leaves = left };
+      follows = record { writes = _; left = c.hold_planned.new.section; refuses = c.in-Err.ensures.refused; leaves = left };
       continues = on;
       at_most_one = left_one goes.continues goes.names_no_commit left;
       knows = g.met.W.Work.knows_on _ _ _ on c.requires.knows;
@@ -44,19 +45,19 @@ returns-in-Err g c =
 
 pub returns-in-Done : goal.returns-in-Done
 returns-in-Done g c =
-    let own = g.S.Open.Section.section c.rewrite.new.section in
+    let own = g.S.Open.Section.section c.hold_planned.new.section in
     let tagged = subst (λ (t : List ℕ). Commits own t (g.S.Open.Section.stands c.in-Done.store) c.in-Done.time) c.tag.ensures c.in-Done.ensures.done.0 in
     let made = subst (λ (s : Seat). Commits own (g.W.Work.tag_of c.args.work.now c.args.plan) s c.in-Done.time) (g.met.S.Store.same_seat _) tagged in
-    let ready = ready_by _ _ _ _ _ _ _ _ c.requires.space.own c.requires.planned c.writes.ensures c.in_default.ensures.written in
+    let ready = ready_by _ _ _ _ _ _ _ _ c.requires.space.own c.requires.planned c.writes.ensures c.in_default.ensures.held in
     let goes = ready.goes_on in
     let on = Continues-Continues goes.continues made.continues in
     record {
       attempted = done_by _ _ _ g.W.Rules.Protocol.start _ _ _ _ _ _
           (λ s b t ws r p d a. g.met.W.Work.makes c.args.work.now s b t ws r c.requires.accepts p d a)
-          (g.met.S.Open.Section.lawful c.rewrite.new.section).at (g.met.S.Store.lawful c.in-Done.store) ready made;
+          (g.met.S.Open.Section.lawful c.hold_planned.new.section).at (g.met.S.Store.lawful c.in-Done.store) ready made;
       follows = record {
-        locked = c.rewrite.new.section;
-        holds = record { writes = _; rewritten = c.in_default.ensures.written };
+        locked = c.hold_planned.new.section;
+        holds = record { writes = _; rewritten = c.in_default.ensures.held };
         tag = _;
         commits = made;
         loaded = subst (λ (s : Seat). g.S.Open.Section.loaded own s (c.in-Done.time - 1)) (g.met.S.Store.same_seat _) c.in-Done.ensures.done.1;
@@ -70,7 +71,7 @@ returns-in-Done g c =
 
 pub returns-in-Again : goal.returns-in-Again
 returns-in-Again g c =
-    let ready = ready_by _ _ _ _ _ _ _ _ c.requires.space.own c.requires.planned c.writes.ensures c.in_default.ensures.written in
+    let ready = ready_by _ _ _ _ _ _ _ _ c.requires.space.own c.requires.planned c.writes.ensures c.in_default.ensures.held in
     let again = c.in-Again.ensures.again in
     let same = again.1.seat.continues in
     let left = subst (λ (s : Seat). Leaves (g.S.Open.Section.section c.in-Again.section) s) (g.met.S.Store.same_seat _) c.abort-in-Again.ensures in
@@ -78,8 +79,8 @@ returns-in-Again g c =
     let on = Continues-Continues ready.goes_on.continues after in
     record {
       follows = record {
-        locked = c.rewrite.new.section;
-        holds = record { writes = _; rewritten = c.in_default.ensures.written };
+        locked = c.hold_planned.new.section;
+        holds = record { writes = _; rewritten = c.in_default.ensures.held };
         left = c.in-Again.section;
         stays = again.1;
         overtakes = again.2;
@@ -95,7 +96,7 @@ returns-in-Again g c =
 
 pub look_at_last-store-requires : goal.look_at_last-store-requires
 look_at_last-store-requires g c =
-    let ready = ready_by _ _ _ _ _ _ _ _ c.requires.space.own c.requires.planned c.writes.ensures c.in_default.ensures.written in
+    let ready = ready_by _ _ _ _ _ _ _ _ c.requires.space.own c.requires.planned c.writes.ensures c.in_default.ensures.held in
     let same = c.in-End.ensures.end.0 in
     let left = subst (λ (s : Seat). Leaves (g.S.Open.Section.section c.in-End.section) s) (g.met.S.Store.same_seat _) c.abort-in-End.ensures in
     record {
@@ -107,7 +108,7 @@ look_at_last-store-requires g c =
 
 pub returns : goal.returns
 returns g c =
-    let ready = ready_by _ _ _ _ _ _ _ _ c.requires.space.own c.requires.planned c.writes.ensures c.in_default.ensures.written in
+    let ready = ready_by _ _ _ _ _ _ _ _ c.requires.space.own c.requires.planned c.writes.ensures c.in_default.ensures.held in
     let same = c.in-End.ensures.end.0 in
     let left = subst (λ (s : Seat). Leaves (g.S.Open.Section.section c.in-End.section) s) (g.met.S.Store.same_seat _) c.abort-in-End.ensures in
     let last = c.look_at_last-store.ensures in
@@ -119,8 +120,8 @@ returns g c =
       follows = inr (record {
         between = _;
         ends = record {
-          locked = c.rewrite.new.section;
-          holds = record { writes = _; rewritten = c.in_default.ensures.written };
+          locked = c.hold_planned.new.section;
+          holds = record { writes = _; rewritten = c.in_default.ensures.held };
           left = c.in-End.section;
           stays = same;
           worn = c.in-End.ensures.end.1;

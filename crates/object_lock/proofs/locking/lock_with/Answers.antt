@@ -1,0 +1,20 @@
+use Rattle.std.proofs.Common.{refl}
+use Rattle.mv_core.specs.Passes.{view, config_of}
+use Rattle.object_lock.proofs.Locked.{held_none, held_some, noted_is}
+use Rattle.object_lock.proofs.locking.lock_with.Goals as goal
+
+pub write-requires-clause-held : goal.write-requires-clause-held
+write-requires-clause-held g c =
+    noted_is (config_of c.args.shared.now) (view c.args.pass.now) c.args.log.now c.args.object c.requires.stands (c.if-holds.ensures.yes refl)
+
+pub returns-then-holds-clause-tries : goal.returns-then-holds-clause-tries
+returns-then-holds-clause-tries g c =
+    held_some (config_of c.args.shared.now) (view c.args.pass.now) c.args.log.now c.args.object c.requires.stands (c.if-holds.ensures.yes refl)
+
+pub returns-then-holds-clause-answers : goal.returns-then-holds-clause-answers
+returns-then-holds-clause-answers g c =
+    held_some (config_of c.args.shared.now) (view c.args.pass.now) c.args.log.now c.args.object c.requires.stands (c.if-holds.ensures.yes refl)
+
+pub returns-clause-again : goal.returns-clause-again
+returns-clause-again g c =
+    held_none (config_of c.args.shared.now) (view c.args.pass.now) c.args.log.now c.args.object c.requires.stands (c.if-holds.ensures.not refl)

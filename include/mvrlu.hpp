@@ -166,6 +166,17 @@ public:
         return refused;
     }
 
+    /* Finds the first vacant object from `hint` on, and behind the last one from 0 on, and locks it: one whose words are all 0 in the
+     * snapshot, and which the section has not locked. `object` is its number then, and `hint` the number behind it. Refused by
+     * errc::full where no object is vacant, and else as `lock`. */
+    [[nodiscard]] std::error_code vacant(std::uint32_t &hint, std::uint32_t &object) {
+        std::int32_t status = mvrlu_vacant(held("mvrlu_vacant"), &hint, &object);
+        if (status == MVRLU_FULL) return errc::full;
+        std::error_code refused = detail::refusal(status, "mvrlu_vacant");
+        if (!refused) holds_ = true;
+        return refused;
+    }
+
     /* Gives a locked object new words. Throws errc::bad_object and errc::not_locked. */
     void write(std::uint32_t object, const words &given) {
         detail::must(mvrlu_write(held("mvrlu_write"), object, given.data()), "mvrlu_write");

@@ -37,6 +37,7 @@ extern "C" {
     fn mvrlu_raw_read(seat: &mut RawSeat, object: u32, words: &mut Words) -> i32;
     fn mvrlu_raw_read_pair(seat: &mut RawSeat, object: u32, place: u32, words: &mut [u64; 2]) -> i32;
     fn mvrlu_raw_lock(seat: &mut RawSeat, object: u32, by: &mut u64) -> i32;
+    fn mvrlu_raw_vacant(seat: &mut RawSeat, hint: &mut u32, object: &mut u32) -> i32;
     fn mvrlu_raw_write(seat: &mut RawSeat, object: u32, words: &Words) -> i32;
     fn mvrlu_raw_time(seat: &mut RawSeat, time: &mut u64) -> i32;
     fn mvrlu_raw_commit(seat: &mut RawSeat, tag: &Tag, time: &mut u64) -> i32;
@@ -167,6 +168,11 @@ impl RawSeat {
     pub(crate) fn lock(&mut self, object: u32, by: &mut u64) -> Status {
         // SAFETY: as said above.
         Status::of(unsafe { mvrlu_raw_lock(self, object, by) })
+    }
+
+    pub(crate) fn vacant(&mut self, hint: &mut u32, object: &mut u32) -> Status {
+        // SAFETY: as said above.
+        Status::of(unsafe { mvrlu_raw_vacant(self, hint, object) })
     }
 
     pub(crate) fn write(&mut self, object: u32, words: &Words) -> Status {

@@ -142,6 +142,28 @@ fn each_call_outside_gives_a_leaked_section_up() {
 }
 
 #[test]
+fn vacant_objects() {
+    let [mut first, mut second] = open_two();
+    for object in 1..OBJECTS {
+        put(&mut first, object, COUNTED);
+    }
+    put(&mut first, 14, [0; 6]);
+    let mut old = second.enter();
+    let mut section = first.enter();
+    let mut hint = 2;
+    assert_eq!((section.vacant(&mut hint), hint), (Ok(Some(14)), 15));
+    assert_eq!((section.vacant(&mut hint), hint), (Ok(Some(0)), 1));
+    assert_eq!((section.vacant(&mut hint), hint), (Ok(None), 1));
+    assert_eq!((old.vacant(&mut hint), hint), (Err(Refused::Busy { seat: 0 }), 15));
+    section.write(14, COUNTED).unwrap();
+    let time = section.commit(TAG).unwrap();
+    hint = 2;
+    assert_eq!((old.vacant(&mut hint), hint), (Err(Refused::Stale { time }), 15));
+    assert!(old.leave().is_ok());
+    assert_eq!(second.enter().vacant(&mut hint), Ok(Some(0)));
+}
+
+#[test]
 fn grace_is_held_back_by_sections() {
     let [mut first, mut second] = open_two();
     assert_eq!(first.grace(), 0);

@@ -114,6 +114,8 @@ int32_t mvrlu_raw_close(mvrlu_raw *seat);
 int32_t mvrlu_raw_prepare(mvrlu_raw *seat);
 int32_t mvrlu_raw_tidy(mvrlu_raw *seat, uint32_t *live);
 int32_t mvrlu_raw_grace(mvrlu_raw *seat, uint64_t *time);
+struct mvrlu_counts;
+int32_t mvrlu_raw_count(mvrlu_raw *seat, struct mvrlu_counts *counts);
 int32_t mvrlu_raw_enter(mvrlu_raw *seat);
 int32_t mvrlu_raw_read(mvrlu_raw *seat, uint32_t object, uint64_t words[MVRLU_WORDS]);
 int32_t mvrlu_raw_read_pair(mvrlu_raw *seat, uint32_t object, uint32_t place, uint64_t words[2]);
@@ -193,6 +195,12 @@ static inline int32_t mvrlu_prepare(mvrlu_seat *seat) { MVRLU_ON(seat, mvrlu_raw
 static inline int32_t mvrlu_tidy(mvrlu_seat *seat, uint32_t *live) {
     if (live == NULL) return MVRLU_NULL;
     MVRLU_ON(seat, mvrlu_raw_tidy(&seat->raw, live));
+}
+
+/* Tells the counts of the seat's log, as mvrlu_counts below says. */
+static inline int32_t mvrlu_count(mvrlu_seat *seat, struct mvrlu_counts *counts) {
+    if (counts == NULL) return MVRLU_NULL;
+    MVRLU_ON(seat, mvrlu_raw_count(&seat->raw, counts));
 }
 
 /* Tells a time that no section of the domain is below, now or ever: what a commit of that time or an earlier one took out of the objects

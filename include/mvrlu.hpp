@@ -171,7 +171,7 @@ public:
      * errc::full where no object is vacant, and else as `lock`. */
     [[nodiscard]] std::error_code vacant(std::uint32_t &hint, std::uint32_t &object) {
         std::int32_t status = mvrlu_vacant(held("mvrlu_vacant"), &hint, &object);
-        if (status == MVRLU_FULL) return errc::full;
+        if (status == MVRLU_FULL) return make_error_code(errc::full);
         std::error_code refused = detail::refusal(status, "mvrlu_vacant");
         if (!refused) holds_ = true;
         return refused;
@@ -261,6 +261,13 @@ public:
         std::uint32_t live = 0;
         detail::must(mvrlu_tidy(held("mvrlu_tidy"), &live), "mvrlu_tidy");
         return live;
+    }
+
+    /* The counts of the log. Throws errc::inside. */
+    mvrlu_counts count() {
+        mvrlu_counts found = {};
+        detail::must(mvrlu_count(held("mvrlu_count"), &found), "mvrlu_count");
+        return found;
     }
 
     /* A time that no section of the domain is below, now or ever: memory of the caller's own that only words named which a commit of that

@@ -84,6 +84,7 @@ void grace_is_held_back() {
     WANT(seats[0].grace() == 0);
     mvrlu::section reader = seats[1].enter();
     WANT(put(seats[0], 1, 5) == 1 && seats[0].grace() == 0);
+    WANT(seats[0].count().commits == 1 && seats[0].count().live == 1);
     reader.leave();
     WANT(seats[0].grace() == 1);
 }
@@ -99,6 +100,7 @@ void seats_move_and_close() {
     WANT_THROWN(seats[0].prepare(), mvrlu::errc::closed);
     WANT_THROWN(mvrlu::seat().tidy(), mvrlu::errc::closed);
     WANT_THROWN(mvrlu::seat().grace(), mvrlu::errc::closed);
+    WANT_THROWN(mvrlu::seat().count(), mvrlu::errc::closed);
     seats[0].close();
     other = std::move(seats[1]);
     WANT(other.is_open() && get(other, 1) == 5);

@@ -3,7 +3,7 @@
 
 pub(crate) mod sets;
 
-use crate::{Options, Tag, Words};
+use crate::{Counts, Options, Tag, Words};
 use std::ffi::c_void;
 use std::mem::size_of;
 use std::ptr::null_mut;
@@ -25,13 +25,14 @@ struct RawOptions {
     write_max: u32,
 }
 
-const _: () = assert!(size_of::<RawSeat>() == 16 && size_of::<RawOptions>() == 16);
+const _: () = assert!(size_of::<RawSeat>() == 16 && size_of::<RawOptions>() == 16 && size_of::<Counts>() == 48);
 
 extern "C" {
     fn mvrlu_raw_open(options: &RawOptions, seats: *mut RawSeat, count: usize) -> i32;
     fn mvrlu_raw_close(seat: &mut RawSeat) -> i32;
     fn mvrlu_raw_prepare(seat: &mut RawSeat) -> i32;
     fn mvrlu_raw_tidy(seat: &mut RawSeat, live: &mut u32) -> i32;
+    fn mvrlu_raw_count(seat: &mut RawSeat, counts: &mut Counts) -> i32;
     fn mvrlu_raw_grace(seat: &mut RawSeat, time: &mut u64) -> i32;
     fn mvrlu_raw_enter(seat: &mut RawSeat) -> i32;
     fn mvrlu_raw_read(seat: &mut RawSeat, object: u32, words: &mut Words) -> i32;
@@ -143,6 +144,11 @@ impl RawSeat {
     pub(crate) fn tidy(&mut self, live: &mut u32) -> Status {
         // SAFETY: as said above.
         Status::of(unsafe { mvrlu_raw_tidy(self, live) })
+    }
+
+    pub(crate) fn count(&mut self, counts: &mut Counts) -> Status {
+        // SAFETY: as said above.
+        Status::of(unsafe { mvrlu_raw_count(self, counts) })
     }
 
     pub(crate) fn grace(&mut self, time: &mut u64) -> Status {

@@ -126,10 +126,11 @@ fn what_is_given_up_is_free_and_as_it_was() {
 #[test]
 fn each_call_outside_gives_a_leaked_section_up() {
     type Call = fn(&mut Seat);
-    let calls: [(&str, Call); 4] = [
+    let calls: [(&str, Call); 5] = [
         ("prepare", |seat| seat.prepare().unwrap()),
         ("tidy", |seat| assert_eq!(seat.tidy(), 0)),
         ("grace", |seat| assert_eq!(seat.grace(), 0)),
+        ("count", |seat| assert_eq!(seat.count().aborts, 1)),
         ("enter", |seat| seat.enter().abort()),
     ];
     for (name, call) in calls {

@@ -1,5 +1,5 @@
 -- What a call on a seat in the hands of C leaves, by the number that it answers.
-use Rattle.std.specs.Prelude.{◌≡◌, ℕ, ℤ, true, false, List, [], ◌∷◌, Result, Ok, Err, Option, Some, None}
+use Rattle.std.specs.Prelude.{◌≡◌, ℕ, ℤ, true, false, List, [], ◌∷◌, Result, Ok, Err, Option, Some}
 use Rattle.mv_history.specs.declared.answers.LockAnswer.{LockAnswer}
 use Rattle.mv_history.specs.declared.answers.LockAnswer.TheVariants as lock
 use Rattle.log_reclaim.specs.declared.rounds.Tidy.{Tidy}

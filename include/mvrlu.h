@@ -69,7 +69,7 @@ typedef enum mvrlu_status {
     MVRLU_STALE = 4,        /* an object was written after the section began. Abort, and enter anew; of the sets nothing was done */
     MVRLU_SHORT = 5,        /* the log has too little room for a full write set, as its oldest one is still needed */
     MVRLU_LOG_FULL = 6,     /* lock: the log has no free slot. Abort, and prepare */
-    MVRLU_FULL = -1,        /* sets: there is no room for what is to be added */
+    MVRLU_FULL = -1,        /* vacant: no object is vacant; sets: there is no room for what is to be added */
     MVRLU_WORN = -2,        /* the last time, 2^45 - 1, was reached: no commit is possible any more. Abort */
     MVRLU_BAD_SET = -3,     /* sets: there is no set of this number: it isn't 0 to 29 */
     MVRLU_SAME_SET = -4,    /* sets: a move from a set into itself */
@@ -114,10 +114,13 @@ int32_t mvrlu_raw_close(mvrlu_raw *seat);
 int32_t mvrlu_raw_prepare(mvrlu_raw *seat);
 int32_t mvrlu_raw_tidy(mvrlu_raw *seat, uint32_t *live);
 int32_t mvrlu_raw_grace(mvrlu_raw *seat, uint64_t *time);
+struct mvrlu_counts;
+int32_t mvrlu_raw_count(mvrlu_raw *seat, struct mvrlu_counts *counts);
 int32_t mvrlu_raw_enter(mvrlu_raw *seat);
 int32_t mvrlu_raw_read(mvrlu_raw *seat, uint32_t object, uint64_t words[MVRLU_WORDS]);
 int32_t mvrlu_raw_read_pair(mvrlu_raw *seat, uint32_t object, uint32_t place, uint64_t words[2]);
 int32_t mvrlu_raw_lock(mvrlu_raw *seat, uint32_t object, uint64_t *by);
+int32_t mvrlu_raw_vacant(mvrlu_raw *seat, uint32_t *hint, uint32_t *object);
 int32_t mvrlu_raw_write(mvrlu_raw *seat, uint32_t object, const uint64_t words[MVRLU_WORDS]);
 int32_t mvrlu_raw_time(mvrlu_raw *seat, uint64_t *time);
 int32_t mvrlu_raw_commit(mvrlu_raw *seat, const uint64_t tag[4], uint64_t *time);
@@ -194,6 +197,12 @@ static inline int32_t mvrlu_tidy(mvrlu_seat *seat, uint32_t *live) {
     MVRLU_ON(seat, mvrlu_raw_tidy(&seat->raw, live));
 }
 
+/* Tells the counts of the seat's log, as mvrlu_counts below says. */
+static inline int32_t mvrlu_count(mvrlu_seat *seat, struct mvrlu_counts *counts) {
+    if (counts == NULL) return MVRLU_NULL;
+    MVRLU_ON(seat, mvrlu_raw_count(&seat->raw, counts));
+}
+
 /* Tells a time that no section of the domain is below, now or ever: what a commit of that time or an earlier one took out of the objects
  * is read by no section any more. So memory of the caller's own that such words named, and nothing else does, may be freed. Each seat
  * in a section holds the time back, at most to that of its section; where no other seat is in one during the call, the time is no earlier
@@ -225,6 +234,23 @@ static inline int32_t mvrlu_read_pair(mvrlu_seat *seat, uint32_t object, uint32_
 static inline int32_t mvrlu_lock(mvrlu_seat *seat, uint32_t object, uint64_t *by) {
     uint64_t unused = 0;
     MVRLU_ON(seat, mvrlu_raw_lock(&seat->raw, object, by == NULL ? &unused : by));
+}
+
+/* Finds the first vacant object, from `*hint` on and behind the last one from 0 on, and locks it: one whose six words are 0 in the state of
+ * the snapshot, and which the section has not locked. `*object` is its number then, and `*hint` the number behind it, where the next look may
+ * begin; any hint may be given. Writing zeros to an object makes it vacant again. MVRLU_FULL: no object of the domain is vacant, and both stay.
+ * MVRLU_BUSY, MVRLU_STALE, MVRLU_LOG_FULL, MVRLU_SET_FULL: it was found, and not locked, as mvrlu_lock says; after the first two the call may
+ * be made again in the same section, for the next vacant one. It reads each object once at most. */
+static inline int32_t mvrlu_find_vacant(mvrlu_raw *seat, uint32_t *hint, uint32_t *object) {
+    uint32_t next = *hint, found = *object;
+    int32_t status = mvrlu_raw_vacant(seat, &next, &found);
+    *hint = next;
+    *object = found;
+    return status;
+}
+static inline int32_t mvrlu_vacant(mvrlu_seat *seat, uint32_t *hint, uint32_t *object) {
+    if (hint == NULL || object == NULL) return MVRLU_NULL;
+    MVRLU_ON(seat, mvrlu_find_vacant(&seat->raw, hint, object));
 }
 
 /* Gives a locked object new words. Nobody else sees them before the commit. */

@@ -166,6 +166,17 @@ public:
         return refused;
     }
 
+    /* Finds the first vacant object from `hint` on, and behind the last one from 0 on, and locks it: one whose words are all 0 in the
+     * snapshot, and which the section has not locked. `object` is its number then, and `hint` the number behind it. Refused by
+     * errc::full where no object is vacant, and else as `lock`. */
+    [[nodiscard]] std::error_code vacant(std::uint32_t &hint, std::uint32_t &object) {
+        std::int32_t status = mvrlu_vacant(held("mvrlu_vacant"), &hint, &object);
+        if (status == MVRLU_FULL) return make_error_code(errc::full);
+        std::error_code refused = detail::refusal(status, "mvrlu_vacant");
+        if (!refused) holds_ = true;
+        return refused;
+    }
+
     /* Gives a locked object new words. Throws errc::bad_object and errc::not_locked. */
     void write(std::uint32_t object, const words &given) {
         detail::must(mvrlu_write(held("mvrlu_write"), object, given.data()), "mvrlu_write");
@@ -250,6 +261,13 @@ public:
         std::uint32_t live = 0;
         detail::must(mvrlu_tidy(held("mvrlu_tidy"), &live), "mvrlu_tidy");
         return live;
+    }
+
+    /* The counts of the log. Throws errc::inside. */
+    mvrlu_counts count() {
+        mvrlu_counts found = {};
+        detail::must(mvrlu_count(held("mvrlu_count"), &found), "mvrlu_count");
+        return found;
     }
 
     /* A time that no section of the domain is below, now or ever: memory of the caller's own that only words named which a commit of that

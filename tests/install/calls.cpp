@@ -65,6 +65,30 @@ void errors() {
     WANT(mvrlu::open({}, MVRLU_SEATS_MAX).size() == MVRLU_SEATS_MAX);
 }
 
+void vacant_objects() {
+    mvrlu::seats seats = mvrlu::open({3, 64, 4}, 2);
+    put(seats[0], 1, 5);
+    mvrlu::section section = seats[0].enter();
+    std::uint32_t hint = 1, object = 9;
+    WANT(!section.vacant(hint, object) && object == 2 && hint == 3 && section.holds());
+    mvrlu::section second = seats[1].enter();
+    std::uint32_t same = 2, other = 9;
+    WANT(second.vacant(same, other) == mvrlu::errc::busy && other == 2 && same == 3);
+    WANT(!section.vacant(hint, object) && object == 0 && hint == 1);
+    WANT(section.vacant(hint, object) == mvrlu::errc::full && object == 0 && hint == 1);
+    WANT(seats[0].is_open() && seats.size() == 2);
+}
+
+void grace_is_held_back() {
+    mvrlu::seats seats = open_two();
+    WANT(seats[0].grace() == 0);
+    mvrlu::section reader = seats[1].enter();
+    WANT(put(seats[0], 1, 5) == 1 && seats[0].grace() == 0);
+    WANT(seats[0].count().commits == 1 && seats[0].count().live == 1);
+    reader.leave();
+    WANT(seats[0].grace() == 1);
+}
+
 void seats_move_and_close() {
     mvrlu::seats seats = open_two();
     WANT(reinterpret_cast<std::uintptr_t>(seats[0].get()) % 128 == 0);
@@ -76,6 +100,7 @@ void seats_move_and_close() {
     WANT_THROWN(seats[0].prepare(), mvrlu::errc::closed);
     WANT_THROWN(mvrlu::seat().tidy(), mvrlu::errc::closed);
     WANT_THROWN(mvrlu::seat().grace(), mvrlu::errc::closed);
+    WANT_THROWN(mvrlu::seat().count(), mvrlu::errc::closed);
     seats[0].close();
     other = std::move(seats[1]);
     WANT(other.is_open() && get(other, 1) == 5);
@@ -213,6 +238,8 @@ void want_of_room_is_a_try() {
 
 int main() {
     errors();
+    vacant_objects();
+    grace_is_held_back();
     seats_move_and_close();
     a_section_may_outlive_its_seat();
     sections_end_by_themselves();

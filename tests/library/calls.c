@@ -67,31 +67,36 @@ static void all_seats_of_a_domain(void) {
 static void calls_on_a_closed_seat(void) {
     mvrlu_seat seat = {{0, NULL}, NULL, 0, {0}};
     uint64_t words[MVRLU_WORDS] = {7}, pair[2] = {7, 8}, time = 7, by = 7;
-    uint32_t live = 7;
+    uint32_t live = 7, hint = 7, object = 7;
+    mvrlu_counts counts = {7, 7, 7, 7, 7, 7};
     WANT(mvrlu_prepare(&seat), MVRLU_CLOSED);
     WANT(mvrlu_tidy(&seat, &live), MVRLU_CLOSED);
     WANT(mvrlu_grace(&seat, &time), MVRLU_CLOSED);
+    WANT(mvrlu_count(&seat, &counts), MVRLU_CLOSED);
     WANT(mvrlu_enter(&seat), MVRLU_CLOSED);
     WANT(mvrlu_read(&seat, 0, words), MVRLU_CLOSED);
     WANT(mvrlu_read_pair(&seat, 0, 0, pair), MVRLU_CLOSED);
     WANT(mvrlu_lock(&seat, 0, &by), MVRLU_CLOSED);
+    WANT(mvrlu_vacant(&seat, &hint, &object), MVRLU_CLOSED);
     WANT(mvrlu_write(&seat, 0, words), MVRLU_CLOSED);
     WANT(mvrlu_time(&seat, &time), MVRLU_CLOSED);
     WANT(mvrlu_commit(&seat, NULL, &time), MVRLU_CLOSED);
     WANT(mvrlu_abort(&seat), MVRLU_CLOSED);
     WANT(mvrlu_leave(&seat), MVRLU_CLOSED);
     WANT(mvrlu_close(&seat), MVRLU_CLOSED);
-    WANT(words[0] == 7 && pair[0] == 7 && pair[1] == 8 && time == 7 && by == 7 && live == 7, 1);
+    WANT(words[0] == 7 && pair[0] == 7 && pair[1] == 8 && time == 7 && by == 7 && live == 7 && hint == 7 && object == 7 && counts.commits == 7 && counts.live == 7, 1);
 }
 
 static void calls_outside_and_inside(void) {
     mvrlu_seat seats[2];
     uint64_t words[MVRLU_WORDS] = {0}, pair[2], time;
-    uint32_t live;
+    uint32_t live, hint = 0, object = 0;
+    mvrlu_counts counts;
     open_two(seats);
     WANT(mvrlu_read(&seats[0], 0, words), MVRLU_OUTSIDE);
     WANT(mvrlu_read_pair(&seats[0], 0, 0, pair), MVRLU_OUTSIDE);
     WANT(mvrlu_lock(&seats[0], 0, NULL), MVRLU_OUTSIDE);
+    WANT(mvrlu_vacant(&seats[0], &hint, &object), MVRLU_OUTSIDE);
     WANT(mvrlu_write(&seats[0], 0, words), MVRLU_OUTSIDE);
     WANT(mvrlu_time(&seats[0], &time), MVRLU_OUTSIDE);
     WANT(mvrlu_commit(&seats[0], NULL, NULL), MVRLU_OUTSIDE);
@@ -102,6 +107,7 @@ static void calls_outside_and_inside(void) {
     WANT(mvrlu_prepare(&seats[0]), MVRLU_INSIDE);
     WANT(mvrlu_tidy(&seats[0], &live), MVRLU_INSIDE);
     WANT(mvrlu_grace(&seats[0], &time), MVRLU_INSIDE);
+    WANT(mvrlu_count(&seats[0], &counts), MVRLU_INSIDE);
     WANT(mvrlu_leave(&seats[0]), MVRLU_OK);
     close_two(seats);
 }
@@ -257,6 +263,107 @@ static void grace_is_held_back_by_sections(void) {
     WANT(mvrlu_close(&seats[0]), MVRLU_OK);
 }
 
+static void give(mvrlu_seat *seat, uint32_t object, uint64_t word) {
+    uint64_t words[MVRLU_WORDS] = {0, 0, 0, 0, 0, word};
+    WANT(mvrlu_prepare(seat), MVRLU_OK);
+    WANT(mvrlu_enter(seat), MVRLU_OK);
+    WANT(mvrlu_lock(seat, object, NULL), MVRLU_OK);
+    WANT(mvrlu_write(seat, object, words), MVRLU_OK);
+    WANT(mvrlu_commit(seat, NULL, NULL), MVRLU_OK);
+}
+
+/* Two commits of two objects and of one, a section that held one and was aborted, and one that held nothing. */
+static void counts_of_a_log(void) {
+    mvrlu_seat seats[2];
+    mvrlu_counts counts;
+    uint32_t live = 7;
+    open_two(seats);
+    WANT(mvrlu_enter(&seats[0]), MVRLU_OK);
+    WANT(mvrlu_lock(&seats[0], 1, NULL), MVRLU_OK);
+    WANT(mvrlu_lock(&seats[0], 2, NULL), MVRLU_OK);
+    WANT(mvrlu_commit(&seats[0], NULL, NULL), MVRLU_OK);
+    commit_one(&seats[0], 2);
+    WANT(mvrlu_enter(&seats[0]), MVRLU_OK);
+    WANT(mvrlu_lock(&seats[0], 5, NULL), MVRLU_OK);
+    WANT(mvrlu_abort(&seats[0]), MVRLU_OK);
+    WANT(mvrlu_enter(&seats[0]), MVRLU_OK);
+    WANT(mvrlu_abort(&seats[0]), MVRLU_OK);
+    WANT(mvrlu_count(&seats[0], &counts), MVRLU_OK);
+    WANT(counts.commits == 2 && counts.aborts == 1 && counts.live == 4, 1);
+    WANT(counts.back == 0 && counts.freed == 0 && counts.rests == 0, 1);
+    WANT(mvrlu_tidy(&seats[0], &live), MVRLU_OK);
+    WANT(mvrlu_count(&seats[0], &counts), MVRLU_OK);
+    WANT(counts.live == live && counts.live + counts.freed == 4, 1);
+    WANT(mvrlu_count(&seats[1], &counts), MVRLU_OK);
+    WANT(counts.commits == 0 && counts.live == 0, 1);
+    close_two(seats);
+}
+
+/* All objects but 4 and 9 have a word that isn't 0, which is their last one. */
+static void vacant_objects(void) {
+    mvrlu_seat seats[2];
+    uint32_t hint = 5, object = 77, same = 0;
+    uint64_t words[MVRLU_WORDS] = {0, 0, 0, 0, 0, 1};
+    open_two(seats);
+    for (uint32_t i = 0; i < OBJECTS; i++) give(&seats[0], i, 1);
+    WANT(mvrlu_enter(&seats[1]), MVRLU_OK);
+    WANT(mvrlu_vacant(&seats[1], &hint, &object), MVRLU_FULL);
+    WANT(hint == 5 && object == 77, 1);
+    give(&seats[0], 4, 0);
+    give(&seats[0], 9, 0);
+    WANT(mvrlu_vacant(&seats[1], &hint, &object), MVRLU_FULL);
+    WANT(mvrlu_leave(&seats[1]), MVRLU_OK);
+    WANT(mvrlu_enter(&seats[0]), MVRLU_OK);
+    WANT(mvrlu_enter(&seats[1]), MVRLU_OK);
+    WANT(mvrlu_vacant(&seats[0], &hint, &object), MVRLU_OK);
+    WANT(hint == 10 && object == 9, 1);
+    WANT(mvrlu_vacant(&seats[0], &hint, &object), MVRLU_OK);
+    WANT(hint == 5 && object == 4, 1);
+    WANT(mvrlu_vacant(&seats[0], &hint, &object), MVRLU_FULL);
+    WANT(hint == 5 && object == 4, 1);
+    hint = UINT32_MAX;
+    WANT(mvrlu_vacant(&seats[1], &hint, &object), MVRLU_BUSY);
+    WANT(hint == 5 && object == 4, 1);
+    WANT(mvrlu_write(&seats[0], 9, words), MVRLU_OK);
+    WANT(mvrlu_commit(&seats[0], NULL, NULL), MVRLU_OK);
+    WANT(mvrlu_vacant(&seats[1], &hint, &object), MVRLU_STALE);
+    WANT(hint == 10 && object == 9, 1);
+    WANT(mvrlu_leave(&seats[1]), MVRLU_OK);
+    WANT(mvrlu_enter(&seats[1]), MVRLU_OK);
+    same = 8;
+    WANT(mvrlu_vacant(&seats[1], &same, &same), MVRLU_OK);
+    WANT(same, 4);
+    WANT(mvrlu_write(&seats[1], 4, words), MVRLU_OK);
+    WANT(mvrlu_abort(&seats[1]), MVRLU_OK);
+    WANT(mvrlu_enter(&seats[1]), MVRLU_OK);
+    WANT(mvrlu_vacant(&seats[1], &hint, &object), MVRLU_OK);
+    WANT(hint == 5 && object == 4, 1);
+    WANT(mvrlu_abort(&seats[1]), MVRLU_OK);
+    close_two(seats);
+}
+
+/* A vacant object is found, and the section or the log has no room for it. */
+static void vacant_objects_without_room(void) {
+    mvrlu_seat seats[2];
+    uint32_t hint = 0, object = 77;
+    open_two(seats);
+    WANT(mvrlu_enter(&seats[0]), MVRLU_OK);
+    for (uint32_t i = 0; i < WRITE_MAX; i++) WANT(mvrlu_vacant(&seats[0], &hint, &object), MVRLU_OK);
+    WANT(mvrlu_vacant(&seats[0], &hint, &object), MVRLU_SET_FULL);
+    WANT(hint == WRITE_MAX + 1 && object == WRITE_MAX, 1);
+    WANT(mvrlu_abort(&seats[0]), MVRLU_OK);
+    WANT(mvrlu_enter(&seats[1]), MVRLU_OK);
+    for (int i = 0; i < SLOTS - WRITE_MAX; i++) {
+        WANT(mvrlu_enter(&seats[0]), MVRLU_OK);
+        WANT(mvrlu_lock(&seats[0], 0, NULL), MVRLU_OK);
+        WANT(mvrlu_commit(&seats[0], NULL, NULL), MVRLU_OK);
+    }
+    WANT(mvrlu_enter(&seats[0]), MVRLU_OK);
+    WANT(mvrlu_vacant(&seats[0], &hint, &object), MVRLU_LOG_FULL);
+    WANT(mvrlu_abort(&seats[0]), MVRLU_OK);
+    close_two(seats);
+}
+
 static void closing_in_a_section_gives_up_its_locks(void) {
     mvrlu_seat seats[2];
     open_two(seats);
@@ -271,6 +378,7 @@ static void closing_in_a_section_gives_up_its_locks(void) {
 
 static void misuse_of_a_handle(void) {
     mvrlu_seat seats[2], copy;
+    uint32_t object = 0;
     open_two(seats);
     copy = seats[0];
     WANT(mvrlu_enter(&copy), MVRLU_MOVED);
@@ -283,9 +391,12 @@ static void misuse_of_a_handle(void) {
     WANT(mvrlu_read(&seats[0], 0, NULL), MVRLU_NULL);
     WANT(mvrlu_read_pair(&seats[0], 0, 0, NULL), MVRLU_NULL);
     WANT(mvrlu_write(&seats[0], 0, NULL), MVRLU_NULL);
+    WANT(mvrlu_vacant(&seats[0], NULL, &object), MVRLU_NULL);
+    WANT(mvrlu_vacant(&seats[0], &object, NULL), MVRLU_NULL);
     WANT(mvrlu_time(&seats[0], NULL), MVRLU_NULL);
     WANT(mvrlu_tidy(&seats[0], NULL), MVRLU_NULL);
     WANT(mvrlu_grace(&seats[0], NULL), MVRLU_NULL);
+    WANT(mvrlu_count(&seats[0], NULL), MVRLU_NULL);
     close_two(seats);
 }
 
@@ -305,6 +416,9 @@ int main(void) {
     commits_of_two_seats();
     a_full_log();
     grace_is_held_back_by_sections();
+    counts_of_a_log();
+    vacant_objects();
+    vacant_objects_without_room();
     closing_in_a_section_gives_up_its_locks();
     misuse_of_a_handle();
     each_status_has_a_text();

@@ -1,13 +1,12 @@
 /* Read-copy-update of memory of the caller's own: one thread replaces the record that object 0 names, and frees an old one once the time
  * of its replacement is told by mvrlu_grace; three threads read the record that their section names. A record that is freed is
- * overwritten first, so one that is read after it shows. Prints how many were replaced, freed and read, and ends with 1 where one was
- * read that is no record any more. */
+ * overwritten, and its memory isn't used again before the end, so one that is read after it shows. Prints how many were replaced and freed, and
+ * ends with 1 where one was read that was freed. */
 #include <mvrlu.h>
 #include <pthread.h>
 #include <sched.h>
 #include <stdio.h>
 #include <stdlib.h>
-#include <string.h>
 
 enum { READERS = 3, SEATS = READERS + 1 };
 #ifndef ROUNDS
@@ -22,7 +21,8 @@ typedef struct record {
 
 static mvrlu_seat seats[SEATS];
 static unsigned long reads[READERS];
-static int done, wrong;
+static int begun, done, wrong;
+static record *freed;
 
 static void must(int32_t status, const char *call) {
     if (status == MVRLU_OK) return;
@@ -51,15 +51,16 @@ static uint64_t name(mvrlu_seat *seat, const record *it) {
     return time;
 }
 
-/* Frees the records that were replaced at this time or before, in the order of their replacements, and tells how many. */
+/* Frees the records that were replaced at this time or before, in the order of their replacements, and tells how many: each is
+ * overwritten, and kept in `freed` until the end. */
 static unsigned long free_up_to(record **oldest, uint64_t time) {
-    unsigned long freed = 0;
-    for (record *it = *oldest; it != NULL && it->time <= time; it = *oldest, freed++) {
+    unsigned long count = 0;
+    for (record *it = *oldest; it != NULL && it->time <= time; it = *oldest, count++) {
         *oldest = it->next;
-        memset(it, 0, sizeof *it);
-        free(it);
+        *it = (record){0, 0, 0, freed};
+        freed = it;
     }
-    return freed;
+    return count;
 }
 
 static void *reader(void *own) {
@@ -70,10 +71,10 @@ static void *reader(void *own) {
         must(mvrlu_enter(&seats[i + 1]), "enter");
         must(mvrlu_read(&seats[i + 1], 0, words), "read");
         it = (const record *)(uintptr_t)words[0];
-        if (reads[i] % 64 == 0) sched_yield();
+        if (reads[i] % 4 == 0) sched_yield();
         if (it->check != ~it->number) __atomic_store_n(&wrong, 1, __ATOMIC_RELAXED);
         must(mvrlu_leave(&seats[i + 1]), "leave");
-        reads[i]++;
+        if (reads[i]++ == 0) __atomic_fetch_add(&begun, 1, __ATOMIC_RELEASE);
     }
     return NULL;
 }
@@ -82,13 +83,14 @@ int main(void) {
     mvrlu_options options = MVRLU_OPTIONS_INIT;
     pthread_t threads[READERS];
     record *named = record_of(0), *oldest = NULL, **newest = &oldest;
-    unsigned long freed = 0, all = 0;
+    unsigned long count = 0;
     uint64_t time = 0;
     options.objects = 1;
     must(mvrlu_open(&options, seats, SEATS), "open");
     name(&seats[0], named);
     for (size_t i = 0; i < READERS; i++)
         if (pthread_create(&threads[i], NULL, reader, (void *)(uintptr_t)i) != 0) return 1;
+    while (__atomic_load_n(&begun, __ATOMIC_ACQUIRE) < READERS) sched_yield();
     for (uint64_t number = 1; number <= ROUNDS; number++) {
         record *old = named;
         named = record_of(number);
@@ -97,14 +99,15 @@ int main(void) {
         *newest = old;
         newest = &old->next;
         must(mvrlu_grace(&seats[0], &time), "grace");
-        freed += free_up_to(&oldest, time);
+        count += free_up_to(&oldest, time);
     }
     __atomic_store_n(&done, 1, __ATOMIC_RELEASE);
-    for (size_t i = 0; i < READERS; i++) pthread_join(threads[i], NULL), all += reads[i];
+    for (size_t i = 0; i < READERS; i++) pthread_join(threads[i], NULL);
     must(mvrlu_grace(&seats[0], &time), "grace");
-    freed += free_up_to(&oldest, time);
+    count += free_up_to(&oldest, time);
+    for (record *it = freed; it != NULL; it = freed) freed = it->next, free(it);
     free(named);
     for (size_t i = 0; i < SEATS; i++) must(mvrlu_close(&seats[i]), "close");
-    printf("replaced %u, freed %lu, read %s\n", ROUNDS, freed, wrong ? "a freed one" : all > 0 ? "none that was freed" : "none");
-    return wrong || freed != ROUNDS;
+    printf("replaced %u, freed %lu, read %s\n", ROUNDS, count, wrong ? "a freed one" : "none that was freed");
+    return wrong || count != ROUNDS;
 }

@@ -61,7 +61,7 @@ pub use block::{Answer, Command, BLOCK_MAX};
 pub use errors::{Failed, Holding, Misuse, OpenError, Refused, Short, Uncommitted, Unfinished};
 pub use options::{Options, OBJECTS_MAX, SEATS_MAX, SLOTS_MAX, SLOTS_MIN, WRITE_MAX};
 pub use retry::{At, Done};
-pub use seat::{open, Seat};
+pub use seat::{open, Counts, Seat};
 pub use section::Section;
 pub use sets::{open_sets, Set, Sets, SetsOptions, SETS_OBJECTS_MAX, SETS_OBJECTS_MIN};
 

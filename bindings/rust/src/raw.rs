@@ -3,7 +3,7 @@
 
 pub(crate) mod sets;
 
-use crate::{Options, Tag, Words};
+use crate::{Counts, Options, Tag, Words};
 use std::ffi::c_void;
 use std::mem::size_of;
 use std::ptr::null_mut;
@@ -25,18 +25,20 @@ struct RawOptions {
     write_max: u32,
 }
 
-const _: () = assert!(size_of::<RawSeat>() == 16 && size_of::<RawOptions>() == 16);
+const _: () = assert!(size_of::<RawSeat>() == 16 && size_of::<RawOptions>() == 16 && size_of::<Counts>() == 48);
 
 extern "C" {
     fn mvrlu_raw_open(options: &RawOptions, seats: *mut RawSeat, count: usize) -> i32;
     fn mvrlu_raw_close(seat: &mut RawSeat) -> i32;
     fn mvrlu_raw_prepare(seat: &mut RawSeat) -> i32;
     fn mvrlu_raw_tidy(seat: &mut RawSeat, live: &mut u32) -> i32;
+    fn mvrlu_raw_count(seat: &mut RawSeat, counts: &mut Counts) -> i32;
     fn mvrlu_raw_grace(seat: &mut RawSeat, time: &mut u64) -> i32;
     fn mvrlu_raw_enter(seat: &mut RawSeat) -> i32;
     fn mvrlu_raw_read(seat: &mut RawSeat, object: u32, words: &mut Words) -> i32;
     fn mvrlu_raw_read_pair(seat: &mut RawSeat, object: u32, place: u32, words: &mut [u64; 2]) -> i32;
     fn mvrlu_raw_lock(seat: &mut RawSeat, object: u32, by: &mut u64) -> i32;
+    fn mvrlu_raw_vacant(seat: &mut RawSeat, hint: &mut u32, object: &mut u32) -> i32;
     fn mvrlu_raw_write(seat: &mut RawSeat, object: u32, words: &Words) -> i32;
     fn mvrlu_raw_time(seat: &mut RawSeat, time: &mut u64) -> i32;
     fn mvrlu_raw_commit(seat: &mut RawSeat, tag: &Tag, time: &mut u64) -> i32;
@@ -144,6 +146,11 @@ impl RawSeat {
         Status::of(unsafe { mvrlu_raw_tidy(self, live) })
     }
 
+    pub(crate) fn count(&mut self, counts: &mut Counts) -> Status {
+        // SAFETY: as said above.
+        Status::of(unsafe { mvrlu_raw_count(self, counts) })
+    }
+
     pub(crate) fn grace(&mut self, time: &mut u64) -> Status {
         // SAFETY: as said above.
         Status::of(unsafe { mvrlu_raw_grace(self, time) })
@@ -167,6 +174,11 @@ impl RawSeat {
     pub(crate) fn lock(&mut self, object: u32, by: &mut u64) -> Status {
         // SAFETY: as said above.
         Status::of(unsafe { mvrlu_raw_lock(self, object, by) })
+    }
+
+    pub(crate) fn vacant(&mut self, hint: &mut u32, object: &mut u32) -> Status {
+        // SAFETY: as said above.
+        Status::of(unsafe { mvrlu_raw_vacant(self, hint, object) })
     }
 
     pub(crate) fn write(&mut self, object: u32, words: &Words) -> Status {

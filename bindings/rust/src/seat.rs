@@ -40,6 +40,24 @@ pub struct Seat {
     raw: RawSeat,
 }
 
+/// The counts of a seat's log.
+#[repr(C)]
+#[derive(Clone, Copy, Debug, Default, PartialEq, Eq)]
+pub struct Counts {
+    /// Commits of the seat.
+    pub commits: u64,
+    /// Sections that were given up while they held something.
+    pub aborts: u64,
+    /// Versions that were written back into their objects.
+    pub back: u64,
+    /// Slots that were freed, in all.
+    pub freed: u64,
+    /// Entries of the seat that change nothing, made for room.
+    pub rests: u64,
+    /// Slots that are live now.
+    pub live: u64,
+}
+
 /// Opens a domain of objects whose words are all 0, with so many seats, 1 to [`SEATS_MAX`]. The seat at each place of the vector
 /// has the place as its number.
 ///
@@ -77,6 +95,13 @@ impl Seat {
         let mut live = 0;
         self.outside(|raw| raw.tidy(&mut live)).must_be_done();
         live
+    }
+
+    /// Tells the counts of the seat's log.
+    pub fn count(&mut self) -> Counts {
+        let mut counts = Counts::default();
+        self.outside(|raw| raw.count(&mut counts)).must_be_done();
+        counts
     }
 
     /// Tells a time that no section of the domain is below, now or ever: what a commit of that time or an earlier one took out of

@@ -95,6 +95,37 @@ impl<'seat> Section<'seat> {
         }
     }
 
+    /// Locks the first vacant object from `hint` on, and behind the last one from 0 on, and tells its number: one whose words are
+    /// all 0 in the snapshot, and which the section doesn't hold. `hint` is the number behind it then. `None` where no object of
+    /// the domain is vacant. An object is vacant again once zeros are written to it.
+    ///
+    /// # Errors
+    ///
+    /// Each [`Refused`] of the object that was found, but no misuse. The section is as it was, and `hint` is behind that object.
+    ///
+    /// ```
+    /// # fn main() -> Result<(), Box<dyn std::error::Error>> {
+    /// # let mut seats = mvrlu::open(mvrlu::Options::default(), 1)?;
+    /// let mut section = seats[0].enter();
+    /// let mut hint = 7;
+    /// assert_eq!(section.vacant(&mut hint)?, Some(7));
+    /// assert_eq!(section.vacant(&mut hint)?, Some(8));
+    /// # Ok(())
+    /// # }
+    /// ```
+    pub fn vacant(&mut self, hint: &mut u32) -> Result<Option<u32>, Refused> {
+        let mut object = 0;
+        match self.raw.vacant(hint, &mut object) {
+            Status::Done => Ok(Some(object)),
+            Status::Full => Ok(None),
+            // What refused it is told by a lock.
+            Status::Busy | Status::Stale => self.lock(object).map(|()| Some(object)),
+            Status::LogFull => Err(Refused::LogFull),
+            Status::SetFull => Err(Refused::SetFull),
+            other => other.is_unexpected(),
+        }
+    }
+
     /// Gives a locked object new words. Nobody else sees them before the commit.
     ///
     /// # Errors

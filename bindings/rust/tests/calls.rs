@@ -126,10 +126,11 @@ fn what_is_given_up_is_free_and_as_it_was() {
 #[test]
 fn each_call_outside_gives_a_leaked_section_up() {
     type Call = fn(&mut Seat);
-    let calls: [(&str, Call); 4] = [
+    let calls: [(&str, Call); 5] = [
         ("prepare", |seat| seat.prepare().unwrap()),
         ("tidy", |seat| assert_eq!(seat.tidy(), 0)),
         ("grace", |seat| assert_eq!(seat.grace(), 0)),
+        ("count", |seat| assert_eq!(seat.count().aborts, 1)),
         ("enter", |seat| seat.enter().abort()),
     ];
     for (name, call) in calls {
@@ -139,6 +140,28 @@ fn each_call_outside_gives_a_leaked_section_up() {
         call(&mut first);
         assert_eq!(second.enter().lock(5), Ok(()), "{name}");
     }
+}
+
+#[test]
+fn vacant_objects() {
+    let [mut first, mut second] = open_two();
+    for object in 1..OBJECTS {
+        put(&mut first, object, COUNTED);
+    }
+    put(&mut first, 14, [0; 6]);
+    let mut old = second.enter();
+    let mut section = first.enter();
+    let mut hint = 2;
+    assert_eq!((section.vacant(&mut hint), hint), (Ok(Some(14)), 15));
+    assert_eq!((section.vacant(&mut hint), hint), (Ok(Some(0)), 1));
+    assert_eq!((section.vacant(&mut hint), hint), (Ok(None), 1));
+    assert_eq!((old.vacant(&mut hint), hint), (Err(Refused::Busy { seat: 0 }), 15));
+    section.write(14, COUNTED).unwrap();
+    let time = section.commit(TAG).unwrap();
+    hint = 2;
+    assert_eq!((old.vacant(&mut hint), hint), (Err(Refused::Stale { time }), 15));
+    assert!(old.leave().is_ok());
+    assert_eq!(second.enter().vacant(&mut hint), Ok(Some(0)));
 }
 
 #[test]

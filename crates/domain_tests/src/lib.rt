@@ -25,6 +25,8 @@ mod moves;
 #[cfg(test)]
 mod opening;
 #[cfg(test)]
+mod owned_rows;
+#[cfg(test)]
 mod owned_seats;
 #[cfg(test)]
 mod playing;

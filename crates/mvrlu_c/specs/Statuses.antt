@@ -6,6 +6,7 @@ use Rattle.mv_history.specs.declared.answers.Room.{Room}
 use Rattle.mv_history.specs.declared.answers.Room.TheVariants as room
 use Rattle.object_seats.specs.declared.position.Misuse.{Misuse}
 use Rattle.object_seats.specs.declared.position.Misuse.TheVariants as misuse
+use Rattle.object_seats.specs.declared.position.Vacancy.{Vacancy}
 use Rattle.object_seats.specs.declared.position.CommitResult.{CommitResult}
 use Rattle.object_seats.specs.declared.position.CommitResult.TheVariants as ended
 use Rattle.mvrlu_c.specs.declared.status.Status.{Status}
@@ -54,6 +55,11 @@ status_of_lock (lock.Busy seat) = status.Busy
 status_of_lock (lock.Stale time) = status.Stale
 status_of_lock lock.SetFull = status.SetFull
 status_of_lock lock.LogFull = status.LogFull
+
+-- of a look for a vacant object
+abbrev pub status_of_vacant : Option Vacancy → Status
+status_of_vacant None = status.Full
+status_of_vacant (Some found) = status_of_lock found.lock
 
 abbrev pub status_of_room : Room → Status
 status_of_room room.Enough = status.Done

@@ -5,6 +5,7 @@ use Rattle.mv_history.specs.declared.answers.LockAnswer.TheVariants as lock
 use Rattle.log_reclaim.specs.declared.rounds.Tidy.{Tidy}
 use Rattle.object_seats.specs.declared.position.Position.{Position}
 use Rattle.object_seats.specs.declared.position.Misuse.{Misuse}
+use Rattle.object_seats.specs.declared.position.Vacancy.{Vacancy}
 use Rattle.object_seats.specs.declared.position.CommitResult.{CommitResult}
 use Rattle.object_seats.specs.declared.position.CommitResult.TheVariants as ended
 use Rattle.mvrlu_c.specs.declared.handle.MvrluSeat.{MvrluSeat}
@@ -40,6 +41,16 @@ abbrev pub refused_by : ℕ → Option (Result LockAnswer Misuse) → ℕ
 refused_by before (Some (Ok (lock.Busy seat))) = seat
 refused_by before (Some (Ok (lock.Stale time))) = time
 refused_by before other = before
+
+-- the vacant object that was found
+abbrev pub object_told : ℕ → Option (Result (Option Vacancy) Misuse) → ℕ
+object_told before (Some (Ok (Some found))) = found.object
+object_told before other = before
+
+-- where the next look for one may begin
+abbrev pub next_told : ℕ → Option (Result (Option Vacancy) Misuse) → ℕ
+next_told before (Some (Ok (Some found))) = found.next
+next_told before other = before
 
 -- the time of the entry, or of the one that came first
 abbrev pub time_told : ℕ → Option (Result CommitResult Misuse) → ℕ

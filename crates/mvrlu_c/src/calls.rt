@@ -1,13 +1,13 @@
 // The calls of C on one seat.
 ghost use Rattle.std.specs.Prelude.{◌≡◌, false, Some};
 ghost use Rattle.object_seats.specs.Calls as calls;
-ghost use Rattle.mvrlu_c.specs.Statuses.{status_of_lock, status_of_room, status_of_commit, done, told_by};
-ghost use Rattle.mvrlu_c.specs.Told.{Tells, told, pair_told, refused_by, time_told, live_told};
+ghost use Rattle.mvrlu_c.specs.Statuses.{status_of_lock, status_of_room, status_of_vacant, status_of_commit, done, told_by};
+ghost use Rattle.mvrlu_c.specs.Told.{Tells, told, pair_told, object_told, next_told, refused_by, time_told, live_told};
 
 use crate::handle::{MvrluSeat, on_open};
 use crate::status::{Status, of_commit, of_lock, of_misuse, of_room};
 use mv_history::{LockAnswer, Room};
-use object_seats::{CommitResult, Misuse, ObjectSeat};
+use object_seats::{CommitResult, Misuse, ObjectSeat, Vacancy};
 use std::alloc::Global;
 
 // The status of a call that has nothing to tell but that it was made.
@@ -47,6 +47,29 @@ fn of_locked(answer: Option<Result<LockAnswer, Misuse>>, by: &mut u64) -> Status
                 LockAnswer::Held | LockAnswer::SetFull | LockAnswer::LogFull => {}
             }
             of_lock(locked)
+        }
+    }
+}
+
+// The status of a look for a vacant object. Where one was found it is written into `object`, and where the
+// next look may begin into `hint`.
+fn of_vacant(
+    answer: Option<Result<Option<Vacancy>, Misuse>>,
+    hint: &mut u32,
+    object: &mut u32,
+) -> Status
+    ensures status { result ≡ told_by status_of_vacant answer }
+    ensures hint { hint.new ≡ next_told hint.old answer }
+    ensures object { object.new ≡ object_told object.old answer }
+{
+    match answer {
+        None => Status::Closed,
+        Some(Err(why)) => of_misuse(why),
+        Some(Ok(None)) => Status::Full,
+        Some(Ok(Some(found))) => {
+            *hint = found.next;
+            *object = found.object;
+            of_lock(found.lock)
         }
     }
 }
@@ -155,6 +178,30 @@ pub extern "C" fn mvrlu_raw_lock(
         { seat.lock(object) },
     );
     of_locked(answer, by).code()
+}
+
+/// Finds the first vacant object from `hint` on, and tries to hold it. It is written into `object`, and the
+/// number behind it into `hint`, where one was found, held or not.
+#[unsafe(no_mangle)]
+pub extern "C" fn mvrlu_raw_vacant(
+    alloc: Global,
+    seat: &mut MvrluSeat,
+    hint: &mut u32,
+    object: &mut u32,
+) -> i32
+    ensures tells { Tells status_of_vacant seat.old seat.new
+        (λ p q a. calls.TakesVacant p hint.old q a × (hint.new ≡ next_told hint.old (Some a)) × (object.new ≡ object_told object.old (Some a))) result }
+    ensures closed { seat.old.is_open ≡ false → (hint.new ≡ hint.old) × (object.new ≡ object.old) }
+{
+    let answer = on_open(
+        alloc,
+        seat,
+        *hint,
+        |seat: ObjectSeat, hint: u32|
+            ensures { calls.TakesVacant seat.position hint result.0.position result.1 }
+        { seat.vacant(hint) },
+    );
+    of_vacant(answer, hint, object).code()
 }
 
 /// Gives a held object these words. Nobody else sees them before the commit.

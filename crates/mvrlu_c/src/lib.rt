@@ -12,6 +12,7 @@
 #![tactic(auto)]
 
 mod calls;
+mod counting;
 mod handle;
 mod loose;
 mod opening;

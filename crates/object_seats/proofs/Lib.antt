@@ -1,2 +1,3 @@
 pub mod NewSeats
 pub mod Rooms
+pub mod Vacancies

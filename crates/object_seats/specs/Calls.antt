@@ -1,5 +1,5 @@
 -- What each call leaves of a seat's position, by its answer, and when it is a misuse.
-use Rattle.std.specs.Prelude.{◌≡◌, ◌≢◌, ◌↔◌, ⊤, ℕ, ◌+◌, ◌-◌, ◌<◌, ◌≤◌, List, [], length, slice_index_or, Result, Ok, Err}
+use Rattle.std.specs.Prelude.{◌≡◌, ◌≢◌, ◌↔◌, ⊤, ℕ, ◌+◌, ◌-◌, ◌<◌, ◌≤◌, List, [], length, slice_index_or, Option, Some, None, Result, Ok, Err}
 use Rattle.mv_history.specs.declared.answers.LockAnswer.{LockAnswer}
 use Rattle.mv_history.specs.declared.answers.LockAnswer.TheVariants as lock
 use Rattle.mv_history.specs.declared.answers.LogTable.{LogTable}
@@ -15,6 +15,8 @@ use Rattle.mvrlu.specs.Holding as holding
 use Rattle.mvrlu.specs.Placed.{Placed, seat_from}
 use Rattle.mvrlu.specs.Meant.{seat_of, section_in, aborts_in, aborts_parked, aborts_with}
 use Rattle.object_seats.specs.Positions.{aborts_at}
+use Rattle.object_seats.specs.Vacant.{Finds}
+use Rattle.object_seats.specs.declared.position.Vacancy.{Vacancy}
 use Rattle.object_seats.specs.declared.position.Position.{Position}
 use Rattle.object_seats.specs.declared.position.Position.TheVariants.{Outside, Inside}
 use Rattle.object_seats.specs.declared.position.Misuse.{Misuse}
@@ -97,6 +99,21 @@ Locks (Outside seat) object new (Err why) = IsOutside (Outside seat) new why
 Locks (Inside section) object new (Ok answer) =
     Has (section_in section) object × InSectionOf new (λ s. TriesLock (section_in section) s object answer)
 Locks (Inside section) object new (Err why) = ¬ Has (section_in section) object × (why ≡ misuse.Object) × StaysIn (section_in section) new
+
+-- A section looked for a vacant object from a hint on: none of the domain's is vacant, and the section is as before; or it tried to hold the
+-- first one that is, once it had seen perhaps more.
+abbrev pub Takes : InSection → ℕ → InSection → Option Vacancy → Type 0
+Takes old hint new None = Finds old hint None × made.IsAsBefore old new × made.GoesOn old new
+Takes old hint new (Some found) =
+    Finds old hint (Some found.object) × (found.next ≡ found.object + 1)
+    × ((looked : InSection) × made.IsAsBefore old looked × made.GoesOn old looked × TriesLock looked new found.object found.lock)
+
+-- `vacant`
+abbrev pub TakesVacant : Position → ℕ → Position → Result (Option Vacancy) Misuse → Type 0
+TakesVacant (Outside seat) hint new (Ok found) = ⊥
+TakesVacant (Outside seat) hint new (Err why) = IsOutside (Outside seat) new why
+TakesVacant (Inside section) hint new (Ok found) = InSectionOf new (λ s. Takes (section_in section) hint s found)
+TakesVacant (Inside section) hint new (Err why) = ⊥
 
 -- `write`: the held object has these words, and all else is as it was
 abbrev pub Writes : Position → ℕ → List ℕ → Position → Result Unit Misuse → Type 0

@@ -1,3 +1,4 @@
 pub mod Positions
+pub mod Vacant
 pub mod Calls
 pub mod Opening

@@ -11,7 +11,8 @@
 //! **The contract.** What a call of `mv_history` requires of its caller is tested here, and a call that may
 //! not be made now is a `Misuse`: it says which condition fails, and the seat is as it was, but that a
 //! section may have seen more. Every other answer is that of the call of `mvrlu`, and `Calls` says what it
-//! leaves and with which cause. Letting a seat go aborts its section, and ends the seat alone.
+//! leaves and with which cause. `vacant` is a look through the objects and one try to lock: `Vacant` in specs/
+//! says which object it finds. Letting a seat go aborts its section, and ends the seat alone.
 //!
 //! It stands on `mvrlu`.
 #![tactic(auto)]
@@ -21,7 +22,8 @@ mod opening;
 mod outside;
 mod position;
 mod seat;
+mod vacant;
 
 pub use opening::open_seats;
-pub use position::{CommitResult, Misuse};
+pub use position::{CommitResult, Misuse, Vacancy};
 pub use seat::ObjectSeat;

@@ -1,5 +1,5 @@
 // Where a seat is between two calls.
-use mv_history::{AnyRules, Rival};
+use mv_history::{AnyRules, LockAnswer, Rival};
 use mvrlu::{Parked, Seat};
 
 /// A seat outside a section, or its section.
@@ -25,6 +25,17 @@ pub enum Misuse {
     Empty,
     /// The section holds something, which is to be committed or given up.
     Holding,
+}
+
+/// An object that is vacant: all its words were 0 in the section's state, and the section didn't hold it.
+#[derive(Clone, Copy)]
+pub struct Vacancy {
+    /// Its number.
+    pub object: u32,
+    /// Where the next look may begin: behind it.
+    pub next: u32,
+    /// What the try to hold it came to.
+    pub lock: LockAnswer,
 }
 
 /// What a commit came to.

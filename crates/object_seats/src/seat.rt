@@ -8,7 +8,8 @@ use crate::inside::{
     abort_in, commit_in, leave_in, lock_in, read_in, read_pair_in, time_in, write_in,
 };
 use crate::outside::{count_in, enter_in, grace_in, prepare_in, tidy_in};
-use crate::position::{CommitResult, Misuse, Position};
+use crate::position::{CommitResult, Misuse, Position, Vacancy};
+use crate::vacant::vacant_in;
 use log_reclaim::Tidy;
 use mv_history::{AnyRules, LockAnswer, LogTable, Room, Section, Tag, Words};
 use mvrlu::Domain;
@@ -77,6 +78,19 @@ impl ObjectSeat {
     {
         let ObjectSeat { domain, position } = self;
         let (position, answer) = lock_in(&domain, position, object);
+        (ObjectSeat { domain, position }, answer)
+    }
+
+    /// Finds the first object that is vacant, from `hint` on and behind the last object from 0 on, and tries to
+    /// hold it: one whose six words are 0 in the section's state, and which the section doesn't hold. None where
+    /// no object of the domain is. An object is made vacant again by writing zeros to it. It reads each object
+    /// once at most.
+    pub fn vacant(self, hint: u32) -> (ObjectSeat, Result<Option<Vacancy>, Misuse>)
+        ensures takes { calls.TakesVacant self.position hint result.0.position result.1 }
+        ensures aborts { aborts_at result.0.position ≡ aborts_at self.position }
+    {
+        let ObjectSeat { domain, position } = self;
+        let (position, answer) = vacant_in(&domain, position, hint);
         (ObjectSeat { domain, position }, answer)
     }
 

@@ -1,5 +1,5 @@
-use Rattle.std.proofs.Common.{◌≡◌, ◌<◌, length, sym, subst, Ok}
-use Rattle.mv_history.specs.Meaning.{InSection, state_of}
+use Rattle.std.proofs.Common.{◌<◌, sym, subst, Ok}
+use Rattle.mv_history.specs.Meaning.{InSection}
 use Rattle.mvrlu.specs.Meant.{section_of, section_in}
 use Rattle.object_seats.specs.Calls.{TriesLock, Locks, Has}
 use Rattle.object_seats.specs.declared.position.Position.{Position}

@@ -1,0 +1,40 @@
+// The counts of a seat of objects, for C.
+ghost use Rattle.std.specs.Prelude.{◌≡◌, false};
+ghost use Rattle.object_seats.specs.Calls as calls;
+ghost use Rattle.mvrlu_c.specs.Statuses.{done};
+ghost use Rattle.mvrlu_c.specs.Told.{Tells};
+ghost use Rattle.mvrlu_c.specs.Counted.{counts_in};
+
+use crate::handle::{MvrluSeat, on_open};
+use crate::sets_calls::MvrluCounts;
+use crate::status::{Status, of_misuse};
+use object_seats::ObjectSeat;
+use std::alloc::Global;
+
+/// Tells the counts of the seat's log.
+#[unsafe(no_mangle)]
+pub extern "C" fn mvrlu_raw_count(
+    alloc: Global,
+    seat: &mut MvrluSeat,
+    counts: &mut MvrluCounts,
+) -> i32
+    ensures tells { Tells done seat.old seat.new (λ p q a. calls.Counts p q a × (counts.new ≡ counts_in counts.old a)) result }
+    ensures closed { seat.old.is_open ≡ false → counts.new ≡ counts.old }
+{
+    let status = match on_open(alloc, seat, (), |seat: ObjectSeat, _none: ()| seat.count()) {
+        None => Status::Closed,
+        Some(Err(why)) => of_misuse(why),
+        Some(Ok(table)) => {
+            *counts = MvrluCounts {
+                commits: table.commits,
+                aborts: table.aborts,
+                back: table.back,
+                freed: table.freed,
+                rests: table.rests,
+                live: table.live,
+            };
+            Status::Done
+        }
+    };
+    status.code()
+}

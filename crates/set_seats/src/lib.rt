@@ -21,6 +21,8 @@ mod opening;
 mod outside;
 mod seat;
 mod single;
+mod walk;
 
 pub use opening::{OpenSets, SetsFault, open_set_seats};
 pub use seat::SetSeat;
+pub use walk::{Entry, Walked};

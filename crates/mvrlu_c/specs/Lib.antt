@@ -4,5 +4,6 @@ pub mod SetReplies
 pub mod SetsBlock
 pub mod SetsOpening
 pub mod SetsTold
+pub mod SetsWalk
 pub mod Statuses
 pub mod Told

@@ -93,7 +93,8 @@ filled_room m before after n x i full =
     let some : n ≤ length m = i.some in
     record {
       written = i.written ∙ ap (λ (j : ℕ). map as_entry (take j m) ++ drop n before) full
-          ∙ ap (λ (xs : List Entry). map as_entry (take (length before) m) ++ xs) (drop_all n before (omega arith) ∙ sym (drop_all (length m) before (omega arith)));
+          ∙ ap (λ (xs : List Entry). map as_entry (take (length before) m) ++ xs)
+          (drop_all n before (omega arith) ∙ sym (drop_all (length m) before (omega arith)));
       count = omega arith;
       more = key_of_first x (drop n m) i.next_is ∙ ap (λ (j : ℕ). first_key (drop j m)) full;
     }

@@ -25,4 +25,5 @@ pub returns-clause-written : goal.returns-clause-written
 returns-clause-written g c =
     let s = g.V.View.state c.args.view.now in
     filled_all _ _ _ _
-    (subst (λ n. IsFilled (entries_in s c.args.name c.args.from) c.args.entries.now c.loop-next.entries c.loop-next.count n) c.in_default.is c.loop-next.invariant.filled)
+    (subst (λ n. IsFilled (entries_in s c.args.name c.args.from) c.args.entries.now c.loop-next.entries c.loop-next.count n) c.in_default.is
+    c.loop-next.invariant.filled)

@@ -41,5 +41,6 @@ returns g c =
             (NamesNoCommit-NamesNoCommit e.seat.continues goes.continues e.names_no_commit goes.names_no_commit) left;
       };
       continues = on;
-      known = subst (λ k. IsKnown (g.S.Store.seat_of c.leave.result) k) (sym c.fill-count.ensures.known) (known_later c.args.memo.now.known on c.requires.known);
+      known = subst (λ k. IsKnown (g.S.Store.seat_of c.leave.result) k) (sym c.fill-count.ensures.known)
+          (known_later c.args.memo.now.known on c.requires.known);
     }

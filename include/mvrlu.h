@@ -337,6 +337,20 @@ typedef struct mvrlu_command {
     uint64_t value; /* of a put; else it isn't read */
 } mvrlu_command;
 
+/* A key of a set, with its value. */
+typedef struct mvrlu_entry {
+    uint32_t key;
+    uint64_t value;
+} mvrlu_entry;
+
+/* What a walk over a set came to. */
+typedef struct mvrlu_walk {
+    uint64_t time;  /* that of the state of which all its entries are */
+    uint64_t count; /* how many entries were written */
+    uint32_t next;  /* the least key for which there was no room, from which a further walk goes on; 0 where there is none */
+    uint32_t more;  /* 1 where there is such a key, else 0 */
+} mvrlu_walk;
+
 /* The counts of a seat's log. */
 typedef struct mvrlu_counts {
     uint64_t commits; /* commits of the seat */
@@ -366,6 +380,7 @@ int32_t mvrlu_raw_sets_size(mvrlu_sets_raw *sets, uint32_t set, mvrlu_reply *rep
 int32_t mvrlu_raw_sets_move(mvrlu_sets_raw *sets, uint32_t source, uint32_t target, uint32_t key, mvrlu_reply *reply);
 int32_t mvrlu_raw_sets_pair(mvrlu_sets_raw *sets, uint32_t first, uint32_t second, uint32_t key, mvrlu_reply *reply);
 int32_t mvrlu_raw_sets_block(mvrlu_sets_raw *sets, const mvrlu_command commands[], size_t count, mvrlu_reply replies[], size_t room);
+int32_t mvrlu_raw_sets_walk(mvrlu_sets_raw *sets, uint32_t set, uint32_t from, mvrlu_entry entries[], size_t room, mvrlu_walk *walk);
 
 /* Whether nothing was done, and the same call may go through when it is made again. */
 static inline int mvrlu_may_retry(int32_t status) {
@@ -470,6 +485,15 @@ static inline int32_t mvrlu_sets_pair(mvrlu_sets *sets, uint32_t first, uint32_t
 static inline int32_t mvrlu_sets_block(mvrlu_sets *sets, const mvrlu_command commands[], size_t count, mvrlu_reply replies[]) {
     if (commands == NULL || replies == NULL) return MVRLU_NULL;
     MVRLU_ON(sets, mvrlu_raw_sets_block(&sets->raw, commands, count, replies, count));
+}
+
+/* Walks over the set in one state: writes its entries whose key is not below `from`, in rising order, as many as there are or as there is
+ * `room` for, and leaves the rest of the room as it was. `walk` tells their number, the time of the state, and the key for which there was
+ * no room; a further walk from it is of a later state. No set has more than MVRLU_SETS_OBJECTS_MAX entries. It takes memory for `room`
+ * entries until it returns. A status below MVRLU_OK leaves `entries` and `walk` as they were. MVRLU_BAD_SET, MVRLU_NO_MEMORY. */
+static inline int32_t mvrlu_sets_walk(mvrlu_sets *sets, uint32_t set, uint32_t from, mvrlu_entry entries[], size_t room, mvrlu_walk *walk) {
+    if (entries == NULL || walk == NULL) return MVRLU_NULL;
+    MVRLU_ON(sets, mvrlu_raw_sets_walk(&sets->raw, set, from, entries, room, walk));
 }
 
 static inline const char *mvrlu_strerror(int32_t status) {

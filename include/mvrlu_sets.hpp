@@ -102,6 +102,12 @@ private:
     std::size_t size_ = 0;
 };
 
+/* Some of the entries of a set, all of one state. */
+struct walk {
+    std::vector<mvrlu_entry> entries; /* each a key with its value, by rising keys */
+    std::optional<std::uint32_t> next; /* the least key for which there was no room */
+};
+
 /* A seat of a domain of sets, for one thread at a time. It closes itself, moves, and is not copied. One that was made by no `open_sets`,
  * and one that was moved from, is closed; each call on a closed seat but `close` throws errc::closed. Each call throws errc::bad_set
  * where a set isn't one of the thirty. */
@@ -156,6 +162,23 @@ public:
         read("mvrlu_sets_pair",
              [=](mvrlu_sets *seat, mvrlu_reply *to) { return mvrlu_sets_pair(seat, number(first), number(second), key, to); });
         return {told_.value != 0, told_.second != 0};
+    }
+
+    /* The entries of a set whose key is not below `from`, by rising keys, at most so many of them and all of one state, which `last`
+     * tells. A further walk, from its `next`, is of a later state. Throws errc::no_memory and std::bad_alloc. */
+    [[nodiscard]] mvrlu::walk walk(set in, std::uint32_t from, std::size_t at_most) {
+        mvrlu_sets *seat = held("mvrlu_sets_walk");
+        mvrlu::walk found;
+        mvrlu_walk told{};
+        mvrlu_entry none{};
+        found.entries.resize(at_most);
+        mvrlu_entry *room = at_most == 0 ? &none : found.entries.data();
+        detail::must(mvrlu_sets_walk(seat, number(in), from, room, at_most, &told), "mvrlu_sets_walk");
+        found.entries.resize(static_cast<std::size_t>(told.count));
+        if (told.more != 0) found.next = told.next;
+        told_ = mvrlu_reply{};
+        told_.time = told.time;
+        return found;
     }
 
     /* Adds a key, with the value 0. Like the other three changes it is tried at most `limit` times, and the thread yields between two;

@@ -33,6 +33,7 @@ strict=(-std=c11 -Wall -Wextra -Werror -Iinclude)
 calls='calls: '
 sets='sets: '
 moves='moves 100000 beside pairs 100000, none wrong'
+walks='walks 30000, each of one state'
 bank='transfers 100000, each sum 64000'
 grace='replaced 20000, freed 20000, read none that was freed'
 under=()
@@ -44,8 +45,15 @@ for compiler in gcc clang; do
     expect "grace by $compiler" "$grace" "$compiler" "${strict[@]}" -O2 tests/library/grace.c
     expect "calls on sets by $compiler" "$sets" "$compiler" "${strict[@]}" -O2 tests/library/sets_calls.c
     expect "moves by $compiler" "$moves" "$compiler" "${strict[@]}" -O2 tests/library/sets_moves.c
-    run=$((run + 5))
+    expect "walks by $compiler" "$walks" "$compiler" "${strict[@]}" -O2 tests/library/sets_walks.c
+    run=$((run + 6))
 done
+if gcc "${strict[@]}" -O2 -pthread tests/library/single_steps.c -o "$room/single" 2>/dev/null && "$room/single"; then
+    expect "calls in the middle of a call" "steps: " gcc "${strict[@]}" -O2 tests/library/sets_steps.c
+    run=$((run + 1))
+else
+    echo "library: a thread can't be stepped here, calls in the middle of a call not run"
+fi
 expect "random histories" "histories 10000: " gcc "${strict[@]}" -O2 -DHISTORIES=10000 tests/library/histories.c
 expect "random histories of sets" "histories of sets 10000: " gcc "${strict[@]}" -O2 -DHISTORIES=10000 tests/library/sets_histories.c
 expect "refused memory" "refused requests: " gcc "${strict[@]}" -O2 tests/library/refused.c -Wl,--wrap=malloc,--wrap=realloc,--wrap=free
@@ -63,7 +71,8 @@ if carries -fsanitize=thread; then
     expect "moves under the thread sanitizer" "moves 10000 beside" gcc "${sanitized[@]}" -DROUNDS=5000 tests/library/sets_moves.c
     expect "random histories of sets under the thread sanitizer" "histories of sets 300: " gcc "${sanitized[@]}" -DHISTORIES=300 \
         tests/library/sets_histories.c
-    run=$((run + 4))
+    expect "walks under the thread sanitizer" "walks 3000, " gcc "${sanitized[@]}" -DROUNDS=500 tests/library/sets_walks.c
+    run=$((run + 5))
 fi
 if command -v valgrind >/dev/null; then
     under=(valgrind -q --error-exitcode=9 --leak-check=full)

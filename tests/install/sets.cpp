@@ -6,6 +6,7 @@
 #include <thread>
 #include <type_traits>
 #include <utility>
+#include <vector>
 
 namespace {
 
@@ -78,6 +79,32 @@ void commands() {
     WANT(seat.add(t2, 0xffffffffu) == reply::yes && seat.next(t2, 0xffffffffu) == 0xffffffffu);
 }
 
+/* Whether these are the entries of a walk, by their keys, each with its key and 1 as its value. */
+bool has_keys(const mvrlu::walk &found, const std::vector<std::uint32_t> &keys) {
+    if (found.entries.size() != keys.size()) return false;
+    for (std::size_t i = 0; i < keys.size(); i++) {
+        if (found.entries[i].key != keys[i] || found.entries[i].value != keys[i] + 1ull) return false;
+    }
+    return true;
+}
+
+void walks_are_of_one_state() {
+    auto seats = mvrlu::open_sets({}, 1);
+    mvrlu::sets &seat = seats[0];
+    for (mvrlu::set it : {l0, h1, t2}) {
+        for (std::uint32_t key : {0xffffffffu, 17u, 0u, 16u}) WANT(seat.put(it, key, key + 1ull) == reply::yes);
+        mvrlu::time now = seat.last().at;
+        mvrlu::walk all = seat.walk(it, 0, 100), some = seat.walk(it, 1, 2), none = seat.walk(it, 0, 0);
+        WANT(has_keys(all, {0, 16, 17, 0xffffffffu}) && !all.next);
+        WANT(has_keys(some, {16, 17}) && some.next == 0xffffffffu);
+        WANT(has_keys(none, {}) && none.next == 0u);
+        WANT(seat.last().at == now && !seat.last().committed);
+    }
+    WANT(has_keys(seat.walk(mvrlu::list(1), 0, 10), {}));
+    WANT_THROWN(seat.walk(mvrlu::list(10), 0, 10), mvrlu::errc::bad_set);
+    WANT_THROWN(mvrlu::sets().walk(l0, 0, 10), mvrlu::errc::closed);
+}
+
 void misuse_is_thrown() {
     auto seats = mvrlu::open_sets({}, 1);
     for (mvrlu::set bad : {mvrlu::list(10), mvrlu::table(10), mvrlu::tree(10), mvrlu::tree(~0u)}) {
@@ -144,6 +171,7 @@ void a_block_is_seen_whole() {
 int main() {
     seats_move_and_close();
     commands();
+    walks_are_of_one_state();
     misuse_is_thrown();
     full_is_a_reply();
     blocks();

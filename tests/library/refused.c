@@ -1,5 +1,5 @@
-/* Each allocation refused in turn: an open that is refused leaves all seats closed and nothing taken, and a block that is refused does
- * nothing. Linked with -Wl,--wrap=malloc,--wrap=realloc,--wrap=free. Ends with 1 at a fault. */
+/* Each allocation refused in turn: an open that is refused leaves all seats closed and nothing taken, and a block or a walk that is
+ * refused does nothing. Linked with -Wl,--wrap=malloc,--wrap=realloc,--wrap=free. Ends with 1 at a fault. */
 #include <mvrlu.h>
 #include <stdio.h>
 #include <stdlib.h>
@@ -81,6 +81,25 @@ static int32_t do_block(void) {
     return status;
 }
 
+/* A walk over a set of two keys, in which only requests behind the opening are refused. */
+static int32_t do_walk(void) {
+    unsigned long wanted = refused_at;
+    mvrlu_sets sets[1];
+    mvrlu_sets_options options = MVRLU_SETS_OPTIONS_INIT;
+    mvrlu_entry entries[3] = {{7, 7}, {7, 7}, {7, 7}};
+    mvrlu_walk walk = {7, 7, 7, 7};
+    memset(sets, 0, sizeof sets);
+    refused_at = 0;
+    if (mvrlu_sets_open(&options, sets, 1) != MVRLU_OK) fail("open", 0);
+    if (mvrlu_sets_add(sets, 0, 1, NULL) != MVRLU_OK || mvrlu_sets_add(sets, 0, 2, NULL) != MVRLU_OK) fail("an add", 0);
+    asked = 0;
+    refused_at = wanted;
+    int32_t status = mvrlu_sets_walk(sets, 0, 0, entries, 3, &walk);
+    if (status == MVRLU_OK ? walk.count != 2 : walk.count != 7 || entries[0].key != 7) fail("what a walk wrote", (long long)walk.count);
+    if (mvrlu_sets_close(&sets[0]) != MVRLU_OK) fail("close", 0);
+    return status;
+}
+
 /* Refuses one request after another until none is left to refuse. */
 static unsigned long refuse_each(const char *what, int32_t (*made)(void)) {
     for (refused_at = 1;; refused_at++) {
@@ -97,6 +116,7 @@ int main(void) {
     unsigned long objects = refuse_each("open of objects", open_objects);
     unsigned long sets = refuse_each("open of sets", open_sets);
     unsigned long blocks = refuse_each("a block", do_block);
-    printf("refused requests: %lu of objects, %lu of sets, %lu of a block\n", objects, sets, blocks);
-    return objects == 0 || sets == 0 || blocks == 0;
+    unsigned long walks = refuse_each("a walk", do_walk);
+    printf("refused requests: %lu of objects, %lu of sets, %lu of a block, %lu of a walk\n", objects, sets, blocks, walks);
+    return objects == 0 || sets == 0 || blocks == 0 || walks == 0;
 }

@@ -78,6 +78,8 @@ static void calls_on_a_closed_seat(void) {
     mvrlu_reply reply = UNTOLD, replies[1] = {UNTOLD};
     mvrlu_command command = {MVRLU_ADD, 0, 0, 0, 0};
     mvrlu_counts counts = {7, 7, 7, 7, 7, 7};
+    mvrlu_entry entries[1] = {{7, 7}};
+    mvrlu_walk walk = {7, 7, 7, 7};
     uint32_t live = 7;
     WANT(mvrlu_sets_add(&sets, 0, 1, &reply), MVRLU_CLOSED);
     WANT(mvrlu_sets_put(&sets, 0, 1, 2, &reply), MVRLU_CLOSED);
@@ -89,6 +91,8 @@ static void calls_on_a_closed_seat(void) {
     WANT(mvrlu_sets_move(&sets, 0, 1, 1, &reply), MVRLU_CLOSED);
     WANT(mvrlu_sets_pair(&sets, 0, 1, 1, &reply), MVRLU_CLOSED);
     WANT(mvrlu_sets_block(&sets, &command, 1, replies), MVRLU_CLOSED);
+    WANT(mvrlu_sets_walk(&sets, 0, 0, entries, 1, &walk), MVRLU_CLOSED);
+    WANT(walk.time == 7 && walk.count == 7 && walk.next == 7 && walk.more == 7 && entries[0].key == 7 && entries[0].value == 7, 1);
     WANT(mvrlu_sets_tidy(&sets, &live), MVRLU_CLOSED);
     WANT(mvrlu_sets_counts(&sets, &counts), MVRLU_CLOSED);
     WANT(mvrlu_sets_close(&sets), MVRLU_CLOSED);
@@ -129,9 +133,55 @@ static void calls_on_a_set(uint32_t set, uint32_t other) {
     close_sets(sets, 1);
 }
 
+static void want_walk(int line, mvrlu_sets *sets, uint32_t set, uint32_t from, size_t room, uint64_t time, uint64_t count, uint32_t next,
+    uint32_t more, const mvrlu_entry wanted[]) {
+    mvrlu_entry entries[8];
+    mvrlu_walk walk = {7, 7, 7, 7};
+    for (int i = 0; i < 8; i++) entries[i] = (mvrlu_entry){7, 7};
+    want(line, "a walk", mvrlu_sets_walk(sets, set, from, entries, room, &walk), MVRLU_OK);
+    want(line, "its time", (long long)walk.time, (long long)time);
+    want(line, "its count", (long long)walk.count, (long long)count);
+    want(line, "its next", walk.next, next);
+    want(line, "its more", walk.more, more);
+    for (uint64_t i = 0; i < 8; i++) {
+        want(line, "a key", entries[i].key, i < count ? wanted[i].key : 7);
+        want(line, "a value", (long long)entries[i].value, i < count ? (long long)wanted[i].value : 7);
+    }
+}
+#define WANT_WALK(from, room, time, count, next, more, wanted) want_walk(__LINE__, sets, set, from, room, time, count, next, more, wanted)
+
+/* Walks over a list, a hash table and a tree, with too little room, enough and more than enough. */
+static void walks_over_a_set(uint32_t set) {
+    static const mvrlu_entry all[] = {{0, 1}, {16, 2}, {17, 3}, {1000, 4}, {UINT32_MAX, UINT64_MAX}};
+    mvrlu_sets sets[1];
+    mvrlu_entry entries[1];
+    mvrlu_walk walk;
+    open_sets(sets, 1, 256, 64);
+    WANT_WALK(0, 8, 0, 0, 0, 0, all);
+    WANT_WALK(0, 0, 0, 0, 0, 0, all);
+    for (int i = 4; i >= 0; i--) WANT(mvrlu_sets_put(sets, set, all[i].key, all[i].value, NULL), MVRLU_OK);
+    WANT(mvrlu_sets_put(sets, (set + 10) % 30, 500, 9, NULL), MVRLU_OK);
+    WANT_WALK(0, 8, 6, 5, 0, 0, all);
+    WANT_WALK(0, 5, 6, 5, 0, 0, all);
+    WANT_WALK(0, 4, 6, 4, UINT32_MAX, 1, all);
+    WANT_WALK(0, 0, 6, 0, 0, 1, all);
+    WANT_WALK(1, 2, 6, 2, 1000, 1, all + 1);
+    WANT_WALK(16, 8, 6, 4, 0, 0, all + 1);
+    WANT_WALK(1001, 1, 6, 1, 0, 0, all + 4);
+    WANT_WALK(UINT32_MAX, 8, 6, 1, 0, 0, all + 4);
+    WANT(mvrlu_sets_del(sets, set, UINT32_MAX, NULL), MVRLU_OK);
+    WANT_WALK(1001, 8, 7, 0, 0, 0, all);
+    WANT_WALK(17, 1, 7, 1, 1000, 1, all + 2);
+    WANT(mvrlu_sets_walk(sets, set, 0, NULL, 0, &walk), MVRLU_NULL);
+    WANT(mvrlu_sets_walk(sets, set, 0, entries, 1, NULL), MVRLU_NULL);
+    close_sets(sets, 1);
+}
+
 static void sets_that_are_none(void) {
     mvrlu_sets sets[1];
     mvrlu_reply reply = UNTOLD;
+    mvrlu_entry entries[1] = {{7, 7}};
+    mvrlu_walk walk = {7, 7, 7, 7};
     open_sets(sets, 1, 181, 64);
     WANT(mvrlu_sets_add(sets, 30, 1, &reply), MVRLU_BAD_SET);
     WANT(mvrlu_sets_put(sets, 30, 1, 2, &reply), MVRLU_BAD_SET);
@@ -145,6 +195,8 @@ static void sets_that_are_none(void) {
     WANT(mvrlu_sets_move(sets, 1, 1, 1, &reply), MVRLU_SAME_SET);
     WANT(mvrlu_sets_pair(sets, 30, 1, 1, &reply), MVRLU_BAD_SET);
     WANT(mvrlu_sets_pair(sets, 1, 30, 1, &reply), MVRLU_BAD_SET);
+    WANT(mvrlu_sets_walk(sets, 30, 0, entries, 1, &walk), MVRLU_BAD_SET);
+    WANT(walk.time == 7 && walk.count == 7 && walk.next == 7 && walk.more == 7 && entries[0].key == 7, 1);
     WANT(is_untold(&reply), 1);
     WANT(mvrlu_sets_pair(sets, 1, 1, 1, &reply), MVRLU_OK);
     WANT(mvrlu_sets_add(sets, MVRLU_TREE(9), 1, NULL), MVRLU_OK);
@@ -263,6 +315,9 @@ int main(void) {
     calls_on_a_set(MVRLU_LIST(0), MVRLU_TREE(0));
     calls_on_a_set(MVRLU_HASH(9), MVRLU_LIST(9));
     calls_on_a_set(MVRLU_TREE(9), MVRLU_HASH(0));
+    walks_over_a_set(MVRLU_LIST(3));
+    walks_over_a_set(MVRLU_HASH(3));
+    walks_over_a_set(MVRLU_TREE(3));
     sets_that_are_none();
     a_full_domain();
     blocks_of_commands();

@@ -1,5 +1,5 @@
-/* Random histories of the sets: 2 to 8 threads do single commands and blocks, and each reply is checked afterwards against a replay of
- * all of them in the order of their times, on thirty small maps. Ends with 1 at a fault. Arguments: how many histories, and a number
+/* Random histories of the sets: 2 to 8 threads do single commands, blocks and walks, and each reply is checked afterwards against a replay
+ * of all of them in the order of their times, on thirty small maps. Ends with 1 at a fault. Arguments: how many histories, and a number
  * to draw from. */
 #include <mvrlu.h>
 #include <pthread.h>
@@ -13,12 +13,16 @@
 
 enum { SEATS = 8, SETS = 6, KEYS = 6, CALLS = 40, NODES = 20, TRIES = 100000 };
 
-/* One call: its commands, and what each of them replied. */
+/* One call: its commands, and what each of them replied. A walk has one command, a next from where it begins, and its entries. */
 typedef struct made {
     mvrlu_command commands[MVRLU_BLOCK_MAX];
     mvrlu_reply replies[MVRLU_BLOCK_MAX];
     uint32_t count;
     int32_t status;
+    int walks;
+    mvrlu_entry entries[KEYS];
+    size_t room;
+    mvrlu_walk walk;
 } made;
 
 typedef struct worker {
@@ -65,11 +69,34 @@ static int32_t call(mvrlu_sets *sets, const mvrlu_command *c, mvrlu_reply *reply
     }
 }
 
+/* A walk, with room for none to all of its entries, and what lies behind them. */
+static void walk(worker *me, made *m) {
+    mvrlu_entry entries[KEYS + 1];
+    for (int i = 0; i <= KEYS; i++) entries[i] = (mvrlu_entry){99, 99};
+    m->walks = 1;
+    m->count = 1;
+    m->commands[0] = (mvrlu_command){MVRLU_NEXT, draw_set(me), 0, draw(me, KEYS), 0};
+    m->room = draw(me, KEYS + 1);
+    m->status = mvrlu_sets_walk(me->sets, m->commands[0].set, m->commands[0].key, entries, m->room, &m->walk);
+    if (m->status != MVRLU_OK) fail("a walk", m->status);
+    if (m->walk.count > m->room) fail("entries for which there was no room", (long long)m->walk.count);
+    for (uint64_t i = m->walk.count; i <= KEYS; i++) {
+        if (entries[i].key != 99 || entries[i].value != 99) fail("an entry behind the last", entries[i].key);
+    }
+    memcpy(m->entries, entries, sizeof m->entries);
+    m->replies[0] = (mvrlu_reply){0, m->walk.time, 0, 0, MVRLU_OK};
+}
+
 static void *work(void *given) {
     worker *me = given;
     for (int i = 0; i < CALLS; i++) {
         made *m = &me->calls[i];
-        int tries = 0, single = draw(me, 2) == 0;
+        uint32_t kind = draw(me, 3);
+        int tries = 0, single = kind == 0;
+        if (kind == 2) {
+            walk(me, m);
+            continue;
+        }
         m->count = single ? 1 : 2 + draw(me, MVRLU_BLOCK_MAX - 1);
         for (uint32_t j = 0; j < m->count; j++) m->commands[j] = draw_command(me, single ? MVRLU_NEXT : MVRLU_PAIR);
         do {
@@ -146,6 +173,25 @@ static mvrlu_reply replay(maps *m, const mvrlu_command *c) {
     return r;
 }
 
+/* Compares what a walk wrote and told with the map. */
+static void check_walk(const maps *m, const made *call) {
+    uint32_t set = call->commands[0].set;
+    uint64_t count = 0;
+    for (uint32_t key = call->commands[0].key; key < KEYS; key++) {
+        if (!m->has[set][key]) continue;
+        if (count == call->room) {
+            if (call->walk.more != 1 || call->walk.next != key) fail("another key to go on from", call->walk.next);
+            break;
+        }
+        if (call->entries[count].key != key) fail("another key of a walk", call->entries[count].key);
+        if (call->entries[count].value != m->value[set][key]) fail("another value of a walk", (long long)call->entries[count].value);
+        count++;
+        if (key == KEYS - 1 && call->walk.more != 0) fail("a key to go on from behind the last", call->walk.next);
+    }
+    if (call->walk.count != count) fail("another number of entries", (long long)call->walk.count);
+    if (count < call->room && (call->walk.more != 0 || call->walk.next != 0)) fail("a key to go on from where there is none", call->walk.next);
+}
+
 /* Compares what a call replied with what its commands reply on the maps as one. Answers whether it changed them. */
 static void check_call(maps *m, const made *call) {
     maps after = *m;
@@ -194,7 +240,8 @@ static unsigned check(worker workers[], unsigned count) {
     for (unsigned i = 0; i < calls; i++) {
         int same = i > 0 && all[i]->replies[0].time == all[i - 1]->replies[0].time;
         if (same && all[i]->replies[0].committed) fail("two commits of one time", (long long)all[i]->replies[0].time);
-        check_call(&m, all[i]);
+        if (all[i]->walks) check_walk(&m, all[i]);
+        else check_call(&m, all[i]);
         commits += all[i]->replies[0].committed;
     }
     return commits;

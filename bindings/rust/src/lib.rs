@@ -63,7 +63,7 @@ pub use options::{Options, OBJECTS_MAX, SEATS_MAX, SLOTS_MAX, SLOTS_MIN, WRITE_M
 pub use retry::{At, Done};
 pub use seat::{open, Counts, Seat};
 pub use section::Section;
-pub use sets::{open_sets, Set, Sets, SetsOptions, SETS_OBJECTS_MAX, SETS_OBJECTS_MIN};
+pub use sets::{open_sets, Entry, Set, Sets, SetsOptions, Walk, SETS_OBJECTS_MAX, SETS_OBJECTS_MIN};
 
 /// How many words an object has.
 pub const WORDS: usize = 6;

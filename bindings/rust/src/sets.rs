@@ -2,7 +2,7 @@
 
 use crate::errors::{Failed, OpenError};
 use crate::options::SEATS_MAX;
-use crate::raw::sets::{RawCommand, RawReply, RawSets};
+use crate::raw::sets::{RawCommand, RawReply, RawSets, RawWalk};
 use crate::raw::Status;
 use crate::retry::{At, Done};
 use std::thread::yield_now;
@@ -65,6 +65,25 @@ impl Set {
             u32::MAX
         }
     }
+}
+
+/// A key of a set, with its value.
+#[repr(C)]
+#[derive(Clone, Copy, Debug, Default, PartialEq, Eq)]
+pub struct Entry {
+    /// The key.
+    pub key: u32,
+    /// Its value.
+    pub value: u64,
+}
+
+/// Some of the entries of a set, all of one state.
+#[derive(Clone, Debug, PartialEq, Eq)]
+pub struct Walk {
+    /// By rising keys.
+    pub entries: Vec<Entry>,
+    /// The least key for which there was no room.
+    pub next: Option<u32>,
 }
 
 /// A seat of a domain of sets, in lines of memory of its own. It may go to another thread, and no two threads use it at once.
@@ -188,6 +207,35 @@ impl Sets {
     /// Whether a key is in the first set, and whether it is in the second, in one state.
     pub fn pair(&mut self, first: Set, second: Set, key: u32) -> Result<Done<(bool, bool)>, Failed> {
         Ok(self.ask(|raw, told| raw.pair(first, second, key, told))?.map(|(_, told)| told.both()))
+    }
+
+    /// The entries of a set whose key isn't below `from`, by rising keys, at most so many of them and all of one state. A further
+    /// walk, from its `next`, is of a later state. Fails by [`Failed::NoMemory`] too.
+    ///
+    /// ```
+    /// # fn main() -> Result<(), Box<dyn std::error::Error>> {
+    /// use mvrlu::{Entry, Set};
+    /// let mut seats = mvrlu::open_sets(mvrlu::SetsOptions::default(), 1)?;
+    /// for key in [30, 10, 20] {
+    ///     seats[0].put(Set::Tree(0), key, 1)?;
+    /// }
+    /// let walk = seats[0].walk(Set::Tree(0), 11, 1)?.value;
+    /// assert_eq!(walk.entries, [Entry { key: 20, value: 1 }]);
+    /// assert_eq!(walk.next, Some(30));
+    /// # Ok(())
+    /// # }
+    /// ```
+    pub fn walk(&mut self, set: Set, from: u32, at_most: usize) -> Result<Done<Walk>, Failed> {
+        let mut entries = vec![Entry::default(); at_most];
+        let mut told = RawWalk::default();
+        match self.raw.walk(set, from, &mut entries, &mut told) {
+            Status::Done => {}
+            Status::NoMemory => return Err(Failed::NoMemory),
+            Status::NoSet => return Err(Failed::NoSet),
+            other => other.is_unexpected(),
+        }
+        entries.truncate(told.count as usize);
+        Ok(Done { value: Walk { entries, next: told.next() }, at: At::Read(told.time) })
     }
 
     /// Makes a block.

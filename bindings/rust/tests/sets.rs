@@ -1,7 +1,7 @@
 //! Commands and blocks on sets.
 
 use mvrlu::Command::{Add, Del, Get, Has, Move, Pair, Put};
-use mvrlu::{open_sets, Answer, At, Done, Failed, OpenError, Set, Sets, SetsOptions};
+use mvrlu::{open_sets, Answer, At, Done, Entry, Failed, OpenError, Set, Sets, SetsOptions, Walk};
 use mvrlu::{SEATS_MAX, SETS_OBJECTS_MAX, SETS_OBJECTS_MIN, SLOTS_MAX, SLOTS_MIN};
 use std::mem::align_of;
 use std::thread::scope;
@@ -61,6 +61,25 @@ fn each_command_with_its_reply_and_its_place() {
         assert_eq!((sets.del(set, u32::MAX), sets.del(set, u32::MAX)), (committed(true, 5), read(false, 5)));
         assert_eq!((sets.next(set, 0), sets.size(set)), (read(None, 5), read(0, 5)));
         assert!(sets.tidy() <= 64);
+    }
+}
+
+#[test]
+fn a_walk_tells_entries_of_one_state() {
+    for set in [LIST, TABLE, TREE] {
+        let mut sets = open_one(4096);
+        assert_eq!(sets.walk(set, 0, 3), read(Walk { entries: vec![], next: None }, 0));
+        let all: Vec<Entry> =
+            [0, 16, 17, u32::MAX].into_iter().map(|key| Entry { key, value: u64::from(key) + 1 }).collect();
+        for entry in all.iter().rev() {
+            assert!(sets.put(set, entry.key, entry.value).unwrap().value);
+        }
+        assert_eq!(sets.walk(set, 0, 100), read(Walk { entries: all.clone(), next: None }, 4));
+        assert_eq!(sets.walk(set, 0, 4), read(Walk { entries: all.clone(), next: None }, 4));
+        assert_eq!(sets.walk(set, 1, 2), read(Walk { entries: all[1..3].to_vec(), next: Some(u32::MAX) }, 4));
+        assert_eq!(sets.walk(set, 0, 0), read(Walk { entries: vec![], next: Some(0) }, 4));
+        assert_eq!(sets.walk(set, u32::MAX, 1), read(Walk { entries: all[3..].to_vec(), next: None }, 4));
+        assert_eq!(sets.walk(Set::List(10), 0, 1), Err(Failed::NoSet));
     }
 }
 

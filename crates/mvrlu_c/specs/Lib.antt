@@ -5,5 +5,6 @@ pub mod SetsBlock
 pub mod SetsOpening
 pub mod SetsTold
 pub mod Counted
+pub mod SetsWalk
 pub mod Statuses
 pub mod Told

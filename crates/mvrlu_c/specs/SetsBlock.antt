@@ -1,5 +1,5 @@
 -- What a block of commands of C says, and what a call of it leaves.
-use Rattle.std.specs.Prelude.{◌≡◌, ◌≢◌, ◌⊎◌, ◌<◌, ◌==◌, nat_lt, ℕ, ℤ, true, false, List, [], ◌∷◌, map, replicate, length, Contains}
+use Rattle.std.specs.Prelude.{◌≡◌, ◌≢◌, ◌<◌, ◌==◌, nat_lt, ℕ, ℤ, true, false, List, ◌∷◌, map, replicate, length, Contains}
 use Rattle.std.specs.Prelude.{Result, Ok, Err, if◌then◌else◌, ⊤}
 use Rattle.mvrlu.specs.Meant.{seat_of}
 use Rattle.set_script.specs.declared.commands.Command.{Command}

@@ -1,5 +1,5 @@
 -- What opening a domain of the sets leaves of the handles of C.
-use Rattle.std.specs.Prelude.{◌≡◌, ◌≢◌, ◌⊎◌, ◌<◌, ℕ, ℤ, ◌-◌, ◌/◌, max, true, false, List, map, length, All}
+use Rattle.std.specs.Prelude.{◌≡◌, ◌≢◌, ◌⊎◌, ◌<◌, ℕ, ℤ, true, false, List, map, length, All}
 use Rattle.mv_layout.specs.declared.config.ConfigFault.{ConfigFault}
 use Rattle.mv_layout.specs.Limits.{Checked, FirstUnfit}
 use Rattle.set_seats.specs.Opening.{AreOpened, HasObjects, config_of}

@@ -1,5 +1,5 @@
 -- What a call on the sets leaves, by the number that it answers.
-use Rattle.std.specs.Prelude.{◌≡◌, ℕ, ℤ, ◌<◌, ◌≤◌, ◌⊎◌, true, false}
+use Rattle.std.specs.Prelude.{◌≡◌, ℕ, ℤ, true, false}
 use Rattle.set_script.specs.declared.commands.Command.{Command}
 use Rattle.set_catalog.specs.declared.answer.Attempt.{Attempt}
 use Rattle.set_seats.specs.Calls.{Attempted, Replied, GoesOn}

@@ -4,7 +4,7 @@
 //! is a closed one; an open one owns the block with its `ObjectSeat` or its `SetSeat`, which shares the domain with the other seats.
 //!
 //! **The contract.** Each call tells by its status which answer the call of `object_seats` or of `set_seats` gave, and all
-//! that its clauses say of that answer holds of the seat: `Tells`, `TellsCommand` and `TellsBlock` in specs/ tie the two. A
+//! that its clauses say of that answer holds of the seat: `Tells`, `TellsCommand`, `TellsBlock` and `TellsWalk` in specs/ tie the two. A
 //! closed seat answers `CLOSED` and stays as it was. A number is one meaning (`status`). Memory is safe whatever the order of
 //! the calls and the numbers given; what no call can see is C's to keep, and `mvrlu.h` says it.
 //!
@@ -21,6 +21,7 @@ mod sets_calls;
 mod sets_handle;
 mod sets_opening;
 mod sets_reply;
+mod sets_walk;
 mod status;
 
 pub use handle::MvrluSeat;

@@ -1,5 +1,5 @@
 -- What an attempt of a command leaves, from what it leaves as a work.
-use Rattle.std.proofs.Common.{◌≡◌, ℕ, ◌-◌, ◌==◌, false, List, [], ◌∷◌, get_or, sym, ap, ◌∙◌, subst}
+use Rattle.std.proofs.Common.{◌≡◌, ◌-◌, ◌==◌, false, List, [], ◌∷◌, get_or, sym, ap, ◌∙◌, subst}
 use Rattle.mv_history.specs.Meaning.{Seat, state_of_time}
 use Rattle.section_work.specs.Attempts.{Attempted as WorkAttempted}
 use Rattle.section_work.specs.declared.attempting.Attempt.{Attempt as WorkAttempt}

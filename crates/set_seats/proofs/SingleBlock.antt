@@ -1,18 +1,17 @@
 -- What a command comes to in a state, as the block of one.
-use Rattle.std.proofs.Common.{◌≡◌, ℕ, ◌<◌, ◌≤◌, Bool, true, false, List, [], ◌∷◌, length, min, refl, sym, ap, ◌∙◌, subst, arith, Some, length-take}
+use Rattle.std.proofs.Common.{◌≡◌, ◌≤◌, Bool, true, false, [], ◌∷◌, length, refl, sym, ap, ◌∙◌, subst, arith, length-take}
 use Rattle.mv_history.specs.State.{State, Writes, written}
 use Rattle.mv_history.specs.Drift.{Drifts}
 use Rattle.section_work.specs.Works.{IsPlanned}
 use Rattle.set_script.specs.CatalogueOf.{catalogue_of}
 use Rattle.set_script.specs.Lawful.{IsLawful}
 use Rattle.set_script.specs.Rules.{capacity, IsSetCommit, Makes, MakesSome}
-use Rattle.set_script.specs.Tags.{tag_of, command_of}
 use Rattle.set_script.specs.declared.commands.Command.{Command}
 use Rattle.set_script.specs.declared.commands.Reply.{Reply}
 use Rattle.set_script.specs.declared.commands.Reply.TheVariants.{Yes, Worn}
 use Rattle.set_catalog.specs.CommandLaws.{tag_stands}
 use Rattle.set_catalog.specs.Findings.{IsPlanned as IsPlannedFor}
-use Rattle.set_catalog.specs.Merges.{writes_in, merged}
+use Rattle.set_catalog.specs.Merges.{writes_in}
 use Rattle.set_catalog.specs.Replies.{reply_in, changes_in}
 use Rattle.set_catalog.specs.declared.plan.Gone.{Gone}
 use Rattle.set_catalog.specs.declared.plan.Plan.{Plan}

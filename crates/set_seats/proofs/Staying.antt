@@ -1,5 +1,5 @@
 -- What stays of a seat through a call.
-use Rattle.std.proofs.Common.{◌≡◌, ℕ, ◌≤◌, ap, sym, ◌∙◌, subst, arith}
+use Rattle.std.proofs.Common.{◌≡◌, ℕ, ◌≤◌, sym, ◌∙◌, subst, arith}
 use Rattle.mv_history.specs.Calls.{Continues}
 use Rattle.mv_history.specs.Meaning as history
 use Rattle.mvrlu.specs.Meant.{IsSeatOf, seat_of}

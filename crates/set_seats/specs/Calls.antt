@@ -21,6 +21,9 @@ use Rattle.set_blocks.specs.declared.rules.BlockRules.{BlockRules}
 use Rattle.set_catalog.specs.Replies.{reply_in, changes_in}
 use Rattle.set_catalog.specs.declared.answer.Attempt.{Attempt}
 use Rattle.set_catalog.specs.declared.answer.Attempt.TheVariants.{Done, Again}
+use Rattle.set_seats.specs.Walks.{IsWalk}
+use Rattle.set_seats.specs.declared.walk.Entry.{Entry}
+use Rattle.set_seats.specs.declared.walk.Walked.{Walked}
 
 -- what the causes of answers mean in a domain of the sets, all of which its steps show
 abbrev pub domain_causes : Causes
@@ -47,6 +50,10 @@ Replied new command (Done answer (AtCommit time)) =
 Replied new command (Done answer (Read time)) =
     (answer ≡ reply_in command (state_of_time new time) (time == new.last)) × (changes_in command (state_of_time new time) (time == new.last) ≡ false)
 Replied new command (Again cause) = ⊤
+
+-- a walk over the set of a name from a key on
+abbrev pub WalksOver : ℕ → ℕ → List Entry → List Entry → Seat → Seat → Walked → Type 0
+WalksOver name from before after old new walked = IsWalk domain_causes name from before after old new walked
 
 -- what a call leaves of the seat's place in its domain
 abbrev pub GoesOn : {rules : _} → domain.Seat BlockRules rules → domain.Seat BlockRules rules → Type 0

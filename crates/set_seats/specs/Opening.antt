@@ -1,5 +1,5 @@
 -- What a new domain of the sets is, with its seats, and why one isn't opened.
-use Rattle.std.specs.Prelude.{◌≡◌, ℕ, ◌-◌, ◌/◌, max, ◌<◌, ◌≤◌, List, map, replicate, All}
+use Rattle.std.specs.Prelude.{◌≡◌, ◌-◌, ◌/◌, max, ◌<◌, ◌≤◌, List, map, replicate, All}
 use Rattle.std.specs.Arc.{arc_value}
 use Rattle.mv_layout.specs.declared.Config.{Config}
 use Rattle.mv_layout.specs.Limits.{Checked, FirstUnfit}

@@ -12,7 +12,8 @@
 //! `set_blocks` over the domain's own seats, with the causes of `mvrlu`: one entry, with the replies of the catalogue just
 //! before it; or a read of a section that the call entered, with the replies of the catalogue there; or given up for a cause,
 //! and no entry. A single command is found with the hints, the fingers and the known shortage of its seat, as
-//! `set_catalog` finds it. Letting a seat go ends it alone.
+//! `set_catalog` finds it. A walk (`Walks`) writes the entries of one set from a key on, all of the state of a section that the call
+//! entered, and makes and tries no entry. Letting a seat go ends it alone.
 //!
 //! It stands on `set_blocks` and `mvrlu`, and on `section_work`, by which a command is done as one section.
 #![tactic(auto)]
@@ -21,6 +22,8 @@ mod opening;
 mod outside;
 mod seat;
 mod single;
+mod walk;
 
 pub use opening::{OpenSets, SetsFault, open_set_seats};
 pub use seat::SetSeat;
+pub use walk::{Entry, Walked};

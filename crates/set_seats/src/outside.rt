@@ -3,16 +3,17 @@ ghost use Rattle.std.specs.Prelude.{◌≡◌, ◌≤◌, ◌*◌, length};
 ghost use Rattle.mv_history.specs.Calls.{Continues};
 ghost use Rattle.mvrlu.specs.Meant.{seat_of, IsSeatOf};
 ghost use Rattle.set_catalog.specs.Shortages.{IsKnown};
-ghost use Rattle.set_seats.specs.Calls.{Attempted, AttemptedBlock, Tidies, Counts};
+ghost use Rattle.set_seats.specs.Calls.{Attempted, AttemptedBlock, Tidies, Counts, WalksOver};
 
 use crate::single::{Remembered, Single};
+use crate::walk::{Entry, Walked, walk_in};
 use log_reclaim::Tidy;
 use mv_history::LogTable;
 use mvrlu::{Domain, Seat};
 use section_work::{Attempt as Tried, attempt_work};
 use set_blocks::{Block, BlockAttempt, BlockRules, attempt_block};
 use set_catalog::Attempt;
-use set_script::Command;
+use set_script::{Command, Name};
 
 // Attempts a command on a seat of the domain.
 #[inline(always)]
@@ -66,6 +67,29 @@ pub(crate) fn attempt_block_in(
     has_few(block);
     let (handle, answer) = attempt_block(domain.handle(seat), block);
     (handle.into_seat(), answer)
+}
+
+// Walks over a set on a seat of the domain.
+pub(crate) fn walk_on(
+    domain: &Domain<BlockRules>,
+    seat: Seat<BlockRules>,
+    remembered: &mut Remembered,
+    name: Name,
+    from: u32,
+    entries: &mut [Entry],
+) -> (Seat<BlockRules>, Walked)
+    requires of { IsSeatOf domain.now seat }
+    requires room { 40 ≤ (seat_of seat).write_max }
+    requires known { IsKnown (seat_of seat) remembered.old.memo.known }
+    ensures of { IsSeatOf domain.now result.0 }
+    ensures room { 40 ≤ (seat_of result.0).write_max }
+    ensures walked { WalksOver name from entries.old entries.new (seat_of seat) (seat_of result.0) result.1 }
+    ensures continues { Continues (seat_of seat) (seat_of result.0) }
+    ensures known { IsKnown (seat_of result.0) remembered.new.memo.known }
+{
+    let handle = domain.handle(seat);
+    let (handle, walked) = walk_in(handle, &mut remembered.memo, name, from, entries);
+    (handle.into_seat(), walked)
 }
 
 // Reclaims what it can of the log of a seat of the domain.

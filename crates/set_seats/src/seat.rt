@@ -5,14 +5,15 @@ ghost use Rattle.mvrlu.specs.Meant.{seat_of, IsSeatOf};
 ghost use Rattle.set_catalog.specs.Shortages.{IsKnown};
 ghost use Rattle.set_seats.specs.Calls as calls;
 
-use crate::outside::{attempt_block_in, attempt_in, count_in, tidy_in};
+use crate::outside::{attempt_block_in, attempt_in, count_in, tidy_in, walk_on};
 use crate::single::Remembered;
+use crate::walk::{Entry, Walked};
 use log_reclaim::Tidy;
 use mv_history::LogTable;
 use mvrlu::{Domain, Seat};
 use set_blocks::{Block, BlockAttempt, BlockRules};
 use set_catalog::Attempt;
-use set_script::Command;
+use set_script::{Command, Name};
 use std::alloc::Global;
 use std::sync::Arc;
 
@@ -82,6 +83,29 @@ impl SetSeat {
         };
         (seat, answer)
     }
+
+    /// Walks over the set from a key on, in one section: writes its entries whose key is not below `from`, in rising
+    /// order, as many as there are or as there is room for, and leaves the rest of the room as it was. All of them are of
+    /// one state, whose time it tells, with the key to go on from in a further walk, which is of a later state. It makes
+    /// no commit, locks nothing, never waits or tries again, and takes no memory.
+    pub fn walk(self, name: Name, from: u32, entries: &mut [Entry]) -> (SetSeat, Walked)
+        ensures walked { calls.WalksOver name from entries.old entries.new (seat_of self.seat) (seat_of result.0.seat) result.1 }
+        ensures continues { calls.GoesOn self.seat result.0.seat }
+    {
+        let SetSeat {
+            domain,
+            seat,
+            mut remembered,
+        } = self;
+        let (seat, walked) = walk_on(&domain, seat, &mut remembered, name, from, entries);
+        let seat = SetSeat {
+            domain,
+            seat,
+            remembered,
+        };
+        (seat, walked)
+    }
+
     /// Reclaims what it can of the seat's log.
     pub fn tidy(self) -> (SetSeat, Tidy)
         ensures tidies { calls.Tidies self.seat result.0.seat result.1 }

@@ -2,7 +2,7 @@
 
 use super::Status;
 use crate::block::Command;
-use crate::sets::{Set, SetsOptions};
+use crate::sets::{Entry, Set, SetsOptions};
 use std::ffi::c_void;
 use std::mem::size_of;
 use std::ptr::null_mut;
@@ -45,6 +45,17 @@ pub(crate) struct RawCommand {
     value: u64,
 }
 
+/// What the library tells of a walk.
+#[repr(C)]
+#[derive(Clone, Copy, Debug, Default)]
+pub(crate) struct RawWalk {
+    pub(crate) time: u64,
+    pub(crate) count: u64,
+    next: u32,
+    more: u32,
+}
+
+const _: () = assert!(size_of::<RawWalk>() == 24 && size_of::<Entry>() == 16);
 const _: () = assert!(size_of::<RawSets>() == 16 && size_of::<RawOptions>() == 12);
 const _: () = assert!(size_of::<RawReply>() == 32 && size_of::<RawCommand>() == 24);
 
@@ -68,6 +79,14 @@ extern "C" {
         told: *mut RawReply,
         room: usize,
     ) -> i32;
+    fn mvrlu_raw_sets_walk(
+        seat: &mut RawSets,
+        set: u32,
+        from: u32,
+        entries: *mut Entry,
+        room: usize,
+        told: &mut RawWalk,
+    ) -> i32;
 }
 
 impl RawReply {
@@ -82,6 +101,13 @@ impl RawReply {
     /// Of a pair.
     pub(crate) fn both(&self) -> (bool, bool) {
         (self.value != 0, self.second != 0)
+    }
+}
+
+impl RawWalk {
+    /// The least key for which there was no room.
+    pub(crate) fn next(&self) -> Option<u32> {
+        (self.more != 0).then_some(self.next)
     }
 }
 
@@ -177,5 +203,9 @@ impl RawSets {
     pub(crate) fn block<const N: usize>(&mut self, commands: &[RawCommand; N], told: &mut [RawReply; N]) -> Status {
         // SAFETY: as said above; the pointers and the counts are those of two arrays that are borrowed for the call.
         Status::of(unsafe { mvrlu_raw_sets_block(self, commands.as_ptr(), N, told.as_mut_ptr(), N) })
+    }
+    pub(crate) fn walk(&mut self, set: Set, from: u32, entries: &mut [Entry], told: &mut RawWalk) -> Status {
+        // SAFETY: as said above; the pointer and the count are those of one slice that is borrowed mutably.
+        Status::of(unsafe { mvrlu_raw_sets_walk(self, set.number(), from, entries.as_mut_ptr(), entries.len(), told) })
     }
 }

@@ -1,4 +1,4 @@
-use Rattle.std.proofs.Common.{◌≤◌, ap, sym, subst, arith, All}
+use Rattle.std.proofs.Common.{ap, sym, subst, arith, All}
 use Rattle.std.specs.Arc.{arc_value}
 use Rattle.mv_layout.specs.declared.Config.{Config}
 use Rattle.set_seats.specs.Opening.{MayShare}

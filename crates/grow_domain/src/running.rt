@@ -67,7 +67,7 @@ pub fn run_grow_domain<R: Threads + Wait + Sync, G: Gate>(
         (count_splits (whole_of done.0).history) done.2.items) }
     ensures linked { IfOk result (λ done. MetAlong
         (λ firsts met. AllLinkedTurns (handle_causes IsGrownOpening IsGrowCommit) firsts met (map items_of scripts.now) done.1.items)
-        IsGrowCommit (numbers_of domain) (opening_of domain) (map seat_of seats.items) (whole_of done.0)) }
+        IsGrowCommit (numbers_of domain) (opening_of domain) (map seat_of seats.items) done.2.items (whole_of done.0)) }
     ensures opening { IfOk result (λ done.
         ((whole_of done.0).start ≡ opening_of domain) × ((whole_of done.0).base ≡ (numbers_of domain).base)) }
     ensures err { IfErr result (λ refused. (refused.0 ≡ domain) × (map seat_of refused.1.items ≡ map seat_of seats.items)) }

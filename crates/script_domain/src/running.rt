@@ -63,7 +63,7 @@ pub fn run_domain<R: Threads + Wait + Sync, G: Gate>(
         RunOf (past_of_whole (whole_of done.0)) (map items_of scripts.now) done.1.items (catalogue_of (last_state (whole_of done.0))) done.2.items) }
     ensures linked { IfOk result (λ done. MetAlong
         (λ firsts met. AllLinked (handle_causes IsOpening IsSetCommit) firsts met (map items_of scripts.now) done.1.items)
-        IsSetCommit (numbers_of domain) (opening_of domain) (map seat_of seats.items) (whole_of done.0)) }
+        IsSetCommit (numbers_of domain) (opening_of domain) (map seat_of seats.items) done.2.items (whole_of done.0)) }
     ensures opening { IfOk result (λ done.
         ((whole_of done.0).start ≡ opening_of domain) × ((whole_of done.0).base ≡ (numbers_of domain).base)) }
     ensures err { IfErr result (λ refused. (refused.0 ≡ domain) × (map seat_of refused.1.items ≡ map seat_of seats.items)) }

@@ -41,7 +41,8 @@ returns-clause-ran g c =
       run = run_along c.in_ok-domain.domain c.in_ok-domain.seats.items _ (config_of c.args.options 64 (length scripts)) c.in_ok-domain.ensures
           (ap (config_of c.args.options 64) many) IsBlockCommit (block_chain_of scripts)
           (λ past. BlocksRunOf past scripts lines c.in_ok-end.end c.in_ok-closing.tables.items)
-          c.in_ok-closing.lines.items lines c.in_ok-closing.closing.last c.read_all.new.view.last c.order.ensures.permutation still linked
+          c.in_ok-closing.lines.items lines c.in_ok-closing.tables.items
+          c.in_ok-closing.closing.last c.read_all.new.view.last c.order.ensures.permutation still linked
           (still_blocks c.in_ok-closing.closing.last c.read_all.new.view.last scripts lines c.in_ok-end.end c.in_ok-closing.tables.items still
           c.in_ok-end.ensures.catalogue (run_permuted _ _ _ _ _ _ c.order.ensures.permutation run));
     }

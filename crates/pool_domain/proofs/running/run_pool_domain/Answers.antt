@@ -42,4 +42,5 @@ returns-in-Ok-clause-linked g c =
           (as_many c.args.seats.items c.in-Ok.seats.items _ on c.requires.all) c.meet.ensures.law c.meet.ensures.numbers c.meet.ensures.opening.0
           c.meet.ensures.opening.1;
       along = c.in-Ok.ensures.linked;
+      counted = c.in-Ok.ensures.tables;
     }

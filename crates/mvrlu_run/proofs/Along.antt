@@ -4,6 +4,7 @@ use Rattle.std.specs.List.{AllZip}
 use Rattle.std.specs.List.Sorted.{IsPermutation}
 use Rattle.domain_run.specs.Met.{HasMet, HaveMet, MetAlong}
 use Rattle.domain_run.specs.New.{AreFrom}
+use Rattle.domain_run.proofs.Opened.{opened_new}
 use Rattle.mv_history.specs.Meaning as history
 use Rattle.mv_history.specs.declared.answers.LogTable.{LogTable}
 use Rattle.mv_history.specs.State.{State, Writes, commits_of, rests_of}
@@ -18,7 +19,6 @@ use Rattle.run_report.specs.Worked.{Past}
 use Rattle.script_domain.specs.Joined.{past_of_whole}
 use Rattle.set_script.specs.Objects.{no_words}
 use Rattle.mvrlu_run.specs.Kinds.{IsRunAlong}
-use Rattle.mvrlu_run.proofs.Opened.{new_seats}
 
 -- seats that have met stand in the same history later
 all_met : (v w : Whole) → w.history ≡ v.history → (firsts met : List history.Seat) → AllZip (HasMet v) firsts met → AllZip (HasMet w) firsts met
@@ -60,7 +60,7 @@ pub run_along : {P : Type 0} {rules : _} (d : Domain P) (seats : List (Seat P ru
 run_along d seats c numbers o same allows chain is_run own lines tables v w ordered still along run =
     let firsts : List history.Seat = map seat_of seats in
     let at : numbers_of d ≡ numbers = o.numbers ∙ same in
-    let fresh = new_seats d seats c (replicate numbers.objects no_words) o in
+    let fresh = opened_new d c (replicate numbers.objects no_words) seats o in
     let numbered = subst (λ (n : Config). AreFrom (new_seat (name_of d) n (opening_of d)) 0 firsts) at fresh in
     let kept = have_met allows (numbers_of d) (opening_of d) firsts along.met v w still along.whole in
     let whole = subst (λ (n : Config). HaveMet allows n (opening_of d) firsts along.met w) at kept in

@@ -7,11 +7,12 @@ use Rattle.set_script.specs.Rules.{IsSetCommit}
 use Rattle.mvrlu_run.specs.Kinds.{config_of, pool_chain_of}
 use Rattle.mvrlu_run.proofs.Along.{run_along}
 use Rattle.mvrlu_run.proofs.Still.{still_pool}
-use Rattle.mvrlu_run.proofs.Opened.{new_seats, back_meets}
+use Rattle.domain_run.proofs.Opened.{opened_new}
+use Rattle.mvrlu_run.proofs.Opened.{back_meets}
 use Rattle.mvrlu_run.proofs.pooling.pool_sets.Goals as goal
 
 pub run_pool_domain-requires-clause-new : goal.run_pool_domain-requires-clause-new
-run_pool_domain-requires-clause-new g c κs within = new_seats c.in_ok-domain.domain c.in_ok-domain.seats.items _ _ c.in_ok-domain.ensures
+run_pool_domain-requires-clause-new g c κs within = opened_new c.in_ok-domain.domain _ _ c.in_ok-domain.seats.items c.in_ok-domain.ensures
 
 pub ran_or_met-requires : goal.ran_or_met-requires
 ran_or_met-requires g c = record {

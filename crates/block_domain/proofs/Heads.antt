@@ -1,7 +1,7 @@
 -- The blocks of the seats as steps in the history: each stands there by its head.
 use Rattle.std.proofs.Common.{◌≡◌, ℕ, suc, ◌+◌, ◌≤◌, cond, List, [], ◌∷◌, ◌++◌, length, map, refl, sym, ap, ◌∙◌, arith}
-use Rattle.std.specs.List.{All, flat_map}
-use Rattle.std.proofs.lemmas.List.{map-append, length-map}
+use Rattle.std.specs.List.{All}
+use Rattle.std.proofs.lemmas.List.{map-append}
 use Rattle.std.proofs.lemmas.List.Elements.{All-weaker}
 use Rattle.std.proofs.lemmas.List.Sums.{sum_by-cons}
 use Rattle.mv_history.specs.declared.history.Commit.{Commit}

@@ -5,3 +5,4 @@ pub mod Numbers
 pub mod Lines
 pub mod BlockReplay
 pub mod OneRun
+pub mod Fresh

@@ -1,13 +1,12 @@
 -- The seats of a domain that ran their scripts of blocks have met: their lines and tables are those of one run in the whole history.
-use Rattle.std.proofs.Common.{◌≡◌, ℕ, suc, ◌+◌, ◌<◌, List, [], ◌∷◌, length, map, Some, refl, sym, ap, ◌∙◌, subst, arith}
+use Rattle.std.proofs.Common.{◌≡◌, ℕ, suc, ◌+◌, ◌<◌, List, [], ◌∷◌, length, map, Some, refl, sym, ◌∙◌, subst, arith}
 use Rattle.std.specs.List.{All, flat_map, slice_get}
 use Rattle.std.specs.List.Sorted.{IsPermutation}
-use Rattle.std.proofs.lemmas.List.{length-map}
 use Rattle.std.proofs.lemmas.List.Sorted.{IsPermutation-refl, IsPermutation-sym, IsPermutation-trans, IsPermutation-map, All-permutation}
 use Rattle.mv_history.specs.declared.answers.LogTable.{LogTable}
 use Rattle.mv_history.specs.declared.history.Entry.TheVariants.{Change}
 use Rattle.mv_history.specs.declared.history.TheConstants.{LAST}
-use Rattle.mv_history.specs.Meaning as history
+use Rattle.mv_history.specs.Meaning.{Seat}
 use Rattle.mv_history.specs.State.{maker_of, state_after}
 use Rattle.mv_history.specs.Legal.{IsLegal, IsAllowed}
 use Rattle.set_script.specs.Catalogue.{Maps, empty}
@@ -17,11 +16,6 @@ use Rattle.set_script.specs.Rules.{capacity}
 use Rattle.set_script.specs.declared.commands.Command.{Command}
 use Rattle.set_script.proofs.Opening.{opening_empty}
 use Rattle.set_blocks.specs.BlockRules.{IsBlockCommit}
-use Rattle.mvrlu.specs.Meant.{numbers_of, opening_of, seat_of}
-use Rattle.mvrlu.specs.Meeting.{LawOfTheWhole}
-use Rattle.mvrlu.specs.Whole.{Whole, last_state}
-use Rattle.mvrlu.specs.declared.domain.Domain.{Domain}
-use Rattle.mvrlu.specs.declared.domain.Seat.{Seat}
 use Rattle.run_report.specs.declared.line.Line.{Line}
 use Rattle.run_report.specs.Order.{IsOrdered}
 use Rattle.run_report.specs.Legal.{EachPair, Follows, IsAlone, IsInTime, id_of, ids_of}
@@ -33,10 +27,8 @@ use Rattle.run_report.proofs.history.Inserted.{some_order}
 use Rattle.run_report.proofs.history.OneRun.{lines_permuted, made_by_seat}
 use Rattle.run_report.proofs.history.Replay.{IsLeft}
 use Rattle.run_report.proofs.history.Steps.{IsSamePlace}
-use Rattle.script_domain.specs.Joined.{past_of_whole, AreTablesOf}
-use Rattle.script_domain.specs.New.{AreNewFrom}
-use Rattle.script_domain.proofs.OneRun.{counted, known, made_below, tables_each}
-use Rattle.script_domain.proofs.Seats.{AllContinue, continued_length, continued_of}
+use Rattle.domain_run.specs.Met.{AllContinue}
+use Rattle.script_domain.proofs.OneHistory.{IsOneHistory}
 use Rattle.block_workers.specs.BlockLines.{DoneBlock, lines_of}
 use Rattle.block_workers.specs.BlockRuns.{AllRanBlocks}
 use Rattle.block_domain.specs.Legal.{commands_of, IsInBlockTime, IsOfOneBlock, IsOfOnePlace, LegalBlocks, ReplaysBlocks, head_of}
@@ -48,7 +40,7 @@ use Rattle.block_domain.proofs.Lines.{all_ids, all_lines, all_stand, lines_alone
 use Rattle.block_domain.proofs.Mapped.{ordered_as}
 
 -- seats that ran scripts of blocks go on
-pub all_continue : (olds news : List history.Seat) (scripts : List (List (List Command))) (lines : List Line) → AllRanBlocks olds news scripts lines
+pub all_continue : (olds news : List Seat) (scripts : List (List (List Command))) (lines : List Line) → AllRanBlocks olds news scripts lines
     → AllContinue olds news
 all_continue [] [] [] lines ran = tt
 all_continue [] [] (script ∷ scripts) lines ran = absurd ran
@@ -182,29 +174,19 @@ run_permuted p scripts lines others end tables same run =
       };
     }
 
-module _ {P : Type 0} {rules : _} (d : Domain P) where
-  -- The lines and tables are those of one run in the whole history.
-  pub blocks_met : (olds : List history.Seat) (seats : List (Seat P rules)) (scripts : List (List (List Command))) (lines : List Line)
-      (tables : List LogTable) (w : Whole) → AreNewFrom d 0 olds → length scripts ≡ length olds
-      → AllRanBlocks olds (map (λ s. seat_of s) seats) scripts lines → AreTablesOf (map (λ s. seat_of s) seats) tables
-      → LawOfTheWhole IsOpening IsBlockCommit seats w → w.start ≡ opening_of d → w.base ≡ (numbers_of d).base
-      → BlocksRunOf (past_of_whole w) scripts lines (catalogue_of (last_state w)) tables
-  blocks_met olds seats scripts lines tables w new as_many ran tabled law start base =
-      let p = past_of_whole w in
-      let means = map (λ s. seat_of s) seats in
-      let on = all_continue olds means scripts lines ran in
-      let are = continued_of d 0 olds means new on in
-      let many : length seats ≡ length scripts = sym (length-map seats (λ s. seat_of s)) ∙ continued_length olds means on ∙ sym as_many in
-      let done = all_done p 0 olds means scripts lines (known d w start base 0 olds seats new are law.seen law.mine) ran in
-      blocks_run_of p scripts done.0
-      record {
-        opening = law.opening;
-        legal = law.legal;
-        allowed = law.allowed;
-        last = refl;
-        makers = made_below d (length scripts) seats w many are law;
-        done = done.2;
-      }
-      lines tables done.1
-      (tables_each means tables tabled ∙ length-map seats (λ s. seat_of s) ∙ many)
-      (λ seat table is. counted d w.history 0 seats tables are tabled law.mine law.rests seat seat table (omega arith) is)
+-- The lines and tables are those of one run in the whole history.
+pub blocks_met : (p : Past) (olds news : List Seat) (scripts : List (List (List Command))) (lines : List Line) (tables : List LogTable)
+    → IsOneHistory IsOpening IsBlockCommit p (length scripts) olds news tables → AllRanBlocks olds news scripts lines
+    → BlocksRunOf p scripts lines (catalogue_of (state_after p.start p.entries)) tables
+blocks_met p olds news scripts lines tables h ran =
+    let done = all_done p 0 olds news scripts lines h.known ran in
+    blocks_run_of p scripts done.0
+    record {
+      opening = h.opening;
+      legal = h.legal;
+      allowed = h.allowed;
+      last = h.last;
+      makers = h.makers;
+      done = done.2;
+    }
+    lines tables done.1 h.table_each h.table_of

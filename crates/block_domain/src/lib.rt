@@ -12,7 +12,8 @@
 //!   and with the tag of a block of so many commands; its replies and its change are those of the block on the catalogue just
 //!   before it. Each commit of the history has exactly one block;
 //! - a block at a read has its replies on the catalogue of its printed time, where it changes nothing;
-//! - the table of each seat counts the seat's commits and rests in the history, and the versions that its commits wrote;
+//! - the table of each seat counts the seat's commits and rests in the history, and the versions that its commits wrote; it
+//!   is that of the very seat that met, by its own log and trail (`MetAlong`);
 //! - the lines are a legal run of the blocks (`LegalBlocks`, specs/Legal.antt): each command has one line, the lines of a block
 //!   one place, along a script times rise, and the replay of the blocks in the order of their lines, one after another from
 //!   empty maps, gives every reply.
@@ -22,7 +23,7 @@
 //!
 //! **Its place.** The crate stands on `block_workers`, which runs scripts of blocks over any stores in threads, and on `mvrlu`,
 //! whose handles are such stores and whose meeting knows the whole history. The loan of the domain to its seats is that of
-//! `script_domain`. How the lines of seats stand in one history, whatever they reply, comes from `run_report`.
+//! `domain_run`. How the lines of seats stand in one history, whatever they reply, comes from `run_report`.
 #![tactic(auto)]
 
 mod running;

@@ -9,14 +9,14 @@ ghost use Rattle.block_workers.specs.BlockRuns.{AllRanBlocks};
 ghost use Rattle.block_workers.specs.Workers.{blocks_of, count_of};
 ghost use Rattle.block_workers.specs.BlockLinks.{AllLinkedBlocks};
 ghost use Rattle.set_blocks.specs.BlockRules.{IsBlockCommit};
-ghost use Rattle.domain_run.specs.Met.{MetAlong};
+ghost use Rattle.domain_run.specs.Met.{AreTablesOf, MetAlong};
+ghost use Rattle.domain_run.specs.New.{AreNewFrom};
 ghost use Rattle.domain_run.specs.Shown.{handle_causes};
-ghost use Rattle.script_domain.specs.Joined.{past_of_whole, AreTablesOf};
-ghost use Rattle.script_domain.specs.New.{AreNewFrom};
+ghost use Rattle.script_domain.specs.Joined.{past_of_whole};
 ghost use Rattle.block_domain.specs.Whole.{BlocksRunOf};
 
 use block_workers::run_blocks;
-use domain_run::lending::{lend_all, take_back};
+use domain_run::lending::{lend_all, meet_all, take_back};
 use mv_history::LogTable;
 use mvrlu::{Closing, Domain, Seat};
 use run_outside::Gate;
@@ -37,7 +37,8 @@ use std::thread::Threads;
 /// the tables of the logs by seat. They are those of one run in the closing's history: the replies of a block are those
 /// that the sequential catalogue gives at the block's printed place, and each commit of the history has exactly one block.
 ///
-/// Each seat went along the chain of its lines, from the one that `open` gave to one that met (`MetAlong`).
+/// Each seat went along the chain of its lines, from the one that `open` gave to one that met (`MetAlong`), and the
+/// tables are those of these very seats.
 ///
 /// The error is want of memory. It comes only before the first block, and hands back the domain and the seats, which
 /// mean what they meant, so the call can be tried again. After the workers have ended nothing is refused.
@@ -63,13 +64,13 @@ pub fn run_block_domain<R: Threads + Wait + Sync, G: Gate>(
         done.2.items) }
     ensures linked { IfOk result (λ done. MetAlong
         (λ firsts met. AllLinkedBlocks (handle_causes IsOpening IsBlockCommit) firsts met (map blocks_of scripts.now) done.1.items)
-        IsBlockCommit (numbers_of domain) (opening_of domain) (map seat_of seats.items) (whole_of done.0)) }
+        IsBlockCommit (numbers_of domain) (opening_of domain) (map seat_of seats.items) done.2.items (whole_of done.0)) }
     ensures opening { IfOk result (λ done.
         ((whole_of done.0).start ≡ opening_of domain) × ((whole_of done.0).base ≡ (numbers_of domain).base)) }
     ensures err { IfErr result (λ refused. (refused.0 ≡ domain) × (map seat_of refused.1.items ≡ map seat_of seats.items)) }
 {
     match run_seats(rt, alloc, &domain, seats, scripts, gate) {
-        Ok((seats, lines, tables)) => Ok((domain.meet(seats), lines, tables)),
+        Ok((seats, lines, tables)) => Ok((meet_all(domain, seats), lines, tables)),
         Err((seats, error)) => Err((domain, seats, error)),
     }
 }

@@ -2,3 +2,4 @@ pub mod BlockPlaces
 pub mod BlockChains
 pub mod BlockRows
 pub mod AllBlocks
+pub mod Fresh

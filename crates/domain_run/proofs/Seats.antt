@@ -1,7 +1,7 @@
 -- The seats of a domain, new and gone on: they are of the domain, and stand in order of number.
-use Rattle.std.proofs.Common.{◌≡◌, ℕ, zero, suc, ◌+◌, ◌<◌, List, [], ◌∷◌, length, map, All, sym, ap, ◌∙◌, subst, arith}
+use Rattle.std.proofs.Common.{◌≡◌, ℕ, zero, suc, ◌+◌, ◌<◌, ◌≤◌, List, [], ◌∷◌, length, map, All, sym, ap, ◌∙◌, subst, arith}
 use Rattle.std.proofs.lemmas.List.{length-map}
-use Rattle.std.proofs.lemmas.List.Elements.{length_all_zip}
+use Rattle.std.proofs.lemmas.List.Elements.{All-nil, All-cons, length_all_zip}
 use mathlib.Core.Option.{some}
 use lib.ListN.{get_elem?}
 use Rattle.mv_core.proofs.Terms.{some-injective}
@@ -55,6 +55,18 @@ module _ {P : Type 0} {rules : _} (d : Domain P) where
     all_below =
         all_from_places (λ s. (seat_of s).number < length seats) seats
         (λ k s e. let is = (in_order 0 firsts seats new on k s e).1 in let below = place_below seats k s e in omega (arith, is, below))
+
+  -- so are seats that nobody has used yet
+  pub new_own : (seats : List (Seat P rules)) → AreNewFrom d 0 (map (λ s. seat_of s) seats) → All (λ s. IsSeatOf d s) seats
+  new_own seats new = all_own (map (λ s. seat_of s) seats) seats new (all_itself (map (λ s. seat_of s) seats))
+
+  -- their handles may hold as many objects as the domain's numbers say
+  pub new_may_hold : (most number : ℕ) (handles : List (Handle P rules)) → most ≤ (numbers_of d).write_max
+      → AreNewFrom d number (map (λ h. handled h) handles) → All (λ h. most ≤ (handled h).write_max) handles
+  new_may_hold most number [] le new = All-nil (λ h. most ≤ (handled h).write_max)
+  new_may_hold most number (h ∷ handles) le new =
+      All-cons (λ h. most ≤ (handled h).write_max) h handles (omega (arith, le, ap (λ (r : history.Seat). r.write_max) new.0))
+      (new_may_hold most (suc number) handles le new.1)
 
 -- as many come back as there were
 pub as_many : {P : Type 0} {rules : _} (olds news : List (Seat P rules)) (count : ℕ)

@@ -41,9 +41,11 @@ pub record HaveMet (allows : List ℕ → State → Writes → Type 0) (c : Conf
   pub makers : All (λ e. maker_of e < c.seats) w.history
   pub each : AllZip (HasMet w) firsts met
 
--- All seats of a domain have met, and along this chain each went from its first seat to the one that met.
+-- All seats of a domain have met, and along this chain each went from its first seat to the one that met. The tables are those of the very
+-- seats that met, one for each, in their order.
 pub record MetAlong (chain : List Seat → List Seat → Type 0) (allows : List ℕ → State → Writes → Type 0) (c : Config) (start : State)
-    (firsts : List Seat) (w : Whole) : Type 0 where
+    (firsts : List Seat) (tables : List LogTable) (w : Whole) : Type 0 where
   pub met : List Seat
   pub whole : HaveMet allows c start firsts met w
   pub along : chain firsts met
+  pub counted : AreTablesOf met tables

@@ -11,7 +11,8 @@
 //! - each commit is that of exactly one line, or a split. A seat's splits stand behind each second add of its script that replied
 //!   yes and ahead of its next line, one at most, and nowhere else; one is missing only where a state meanwhile can't be split;
 //! - there are as many splits as the history has, and the state at the end has 16 buckets and so many more;
-//! - the table of each seat counts the seat's commits and rests in the history, and the versions that its commits wrote;
+//! - the table of each seat counts the seat's commits and rests in the history, and the versions that its commits wrote; it
+//!   is that of the very seat that met, by its own log and trail (`MetAlong`);
 //! - the lines are a legal run (`LegalRun` of `run_report`): each command has one line, along a script times rise, and the replay
 //!   of the lines in their order, one after another from empty maps, gives every reply.
 //!
@@ -19,7 +20,7 @@
 //! memory comes only before the first command, and hands back the domain and its seats.
 //!
 //! **Its place.** The crate stands on `grow_workers`, which runs scripts over any stores in threads, and on `mvrlu`, whose handles
-//! are such stores and whose meeting knows the whole history. The loan of the domain to its seats is that of `script_domain`.
+//! are such stores and whose meeting knows the whole history. The loan of the domain to its seats is that of `domain_run`.
 //! How the turns of seats stand in one history comes from `grow_report`.
 #![tactic(auto)]
 

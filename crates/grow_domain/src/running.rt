@@ -11,12 +11,12 @@ ghost use Rattle.grow_report.specs.Whole.{GrowRunOf};
 ghost use Rattle.script_workers.specs.Workers.{items_of};
 ghost use Rattle.grow_workers.specs.Links.{AllLinkedTurns};
 ghost use Rattle.grow_hash.specs.GrowRules.{IsGrowCommit};
-ghost use Rattle.domain_run.specs.Met.{MetAlong};
+ghost use Rattle.domain_run.specs.Met.{AreTablesOf, MetAlong};
+ghost use Rattle.domain_run.specs.New.{AreNewFrom};
 ghost use Rattle.domain_run.specs.Shown.{handle_causes};
-ghost use Rattle.script_domain.specs.Joined.{past_of_whole, AreTablesOf};
-ghost use Rattle.script_domain.specs.New.{AreNewFrom};
+ghost use Rattle.script_domain.specs.Joined.{past_of_whole};
 
-use domain_run::lending::{lend_all, take_back};
+use domain_run::lending::{lend_all, meet_all, take_back};
 use grow_hash::GrowRules;
 use grow_workers::run_grow;
 use mv_history::LogTable;
@@ -40,7 +40,8 @@ use std::thread::Threads;
 /// the sequential catalogue gives at the line's printed place, and each commit of the history has exactly one line or is
 /// a split that was due.
 ///
-/// Each seat went along the chain of its lines, from the one that `open` gave to one that met (`MetAlong`).
+/// Each seat went along the chain of its lines, from the one that `open` gave to one that met (`MetAlong`), and the
+/// tables are those of these very seats.
 ///
 /// The error is want of memory. It comes only before the first command, and hands back the domain and the seats, which
 /// mean what they meant, so the call can be tried again. After the workers have ended nothing is refused.
@@ -67,13 +68,13 @@ pub fn run_grow_domain<R: Threads + Wait + Sync, G: Gate>(
         (count_splits (whole_of done.0).history) done.2.items) }
     ensures linked { IfOk result (λ done. MetAlong
         (λ firsts met. AllLinkedTurns (handle_causes IsGrownOpening IsGrowCommit) firsts met (map items_of scripts.now) done.1.items)
-        IsGrowCommit (numbers_of domain) (opening_of domain) (map seat_of seats.items) (whole_of done.0)) }
+        IsGrowCommit (numbers_of domain) (opening_of domain) (map seat_of seats.items) done.2.items (whole_of done.0)) }
     ensures opening { IfOk result (λ done.
         ((whole_of done.0).start ≡ opening_of domain) × ((whole_of done.0).base ≡ (numbers_of domain).base)) }
     ensures err { IfErr result (λ refused. (refused.0 ≡ domain) × (map seat_of refused.1.items ≡ map seat_of seats.items)) }
 {
     match run_seats(rt, alloc, &domain, seats, scripts, gate) {
-        Ok((seats, lines, tables)) => Ok((domain.meet(seats), lines, tables)),
+        Ok((seats, lines, tables)) => Ok((meet_all(domain, seats), lines, tables)),
         Err((seats, error)) => Err((domain, seats, error)),
     }
 }

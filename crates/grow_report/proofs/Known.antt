@@ -16,8 +16,8 @@ use Rattle.section_work.specs.declared.place.Place.TheVariants.{Commit as AtComm
 use Rattle.set_script.specs.declared.commands.Reply.{Reply}
 use Rattle.run_report.specs.declared.line.Line.{Line}
 use Rattle.run_report.specs.Order.{time_of}
-use Rattle.run_report.specs.Worked.{Past, past_of}
-use Rattle.run_report.proofs.history.Grown.{longer, there_longer, state_longer, IsAtOpening, IsKnown, AreKnown}
+use Rattle.run_report.specs.Worked.{Past}
+use Rattle.run_report.proofs.history.Grown.{longer, made_in, there_longer, state_longer, IsAtOpening, IsKnown, AreKnown}
 use Rattle.grow_hash.specs.Tables.{level, split_place}
 use Rattle.grow_hash.specs.Grown.{grown_catalogue, grown_capacity}
 use Rattle.grow_hash.specs.GrowRules.{split_tag}
@@ -111,21 +111,9 @@ module _ (p : Past) (more : List Entry) where
 seat_turns : (p : Past) (number : ℕ) (o n : Seat) (script : List Command) (lines : List Line) → IsAtOpening p o → IsKnown p number n
     → (ran : RanGrow o n script lines) → TurnsOf p number 1 p.base false script ran.turns (commits_of number p.entries)
 seat_turns p number o n script lines opening known ran =
-    let c = ran.continues in
-    let whole : longer (past_of n) known.more ≡ p = λ i. record {
-      start = (c.start ∙ opening.start) i;
-      base = (c.base ∙ opening.base) i;
-      last = (c.last ∙ opening.last) i;
-      entries = sym known.seen i;
-    } in
-    let commits : ran.commits ≡ commits_of number p.entries = ap (λ cs. cs ++ ran.commits) (sym opening.mine) ∙ sym ran.mine ∙ known.mine in
-    let none : length o.seen ≡ 0 = ap length opening.seen in
-    let from : o.base + length o.seen ≡ p.base = omega (arith, opening.base, none) in
-    let each = turns_longer (past_of n) known.more n.number 1 (o.base + length o.seen) false script ran.turns ran.commits ran.each in
-    subst (λ q. TurnsOf q number 1 p.base false script ran.turns (commits_of number p.entries)) whole
-    (subst (λ k. TurnsOf (longer (past_of n) known.more) k 1 p.base false script ran.turns (commits_of number p.entries)) known.numbered
-    (subst (λ b. TurnsOf (longer (past_of n) known.more) n.number 1 b false script ran.turns (commits_of number p.entries)) from
-    (subst (λ cs. TurnsOf (longer (past_of n) known.more) n.number 1 (o.base + length o.seen) false script ran.turns cs) commits each)))
+    made_in (λ q seat before commits. TurnsOf q seat 1 before false script ran.turns commits)
+    (λ q more seat before commits h. turns_longer q more seat 1 before false script ran.turns commits h) p number o n ran.commits opening known
+    ran.continues ran.mine ran.each
 
 -- each seat's turns are of its script, and the lines are theirs
 pub all_turns : (p : Past) (number : ℕ) (olds news : List Seat) (scripts : List (List Command)) (lines : List Line) → AreKnown p number olds news

@@ -4,7 +4,9 @@ use Rattle.std.specs.List.{AllZip}
 use Rattle.std.specs.List.Sorted.{IsPermutation}
 use Rattle.domain_run.specs.Met.{HasMet, HaveMet, MetAlong}
 use Rattle.domain_run.specs.New.{AreFrom}
+use Rattle.domain_run.proofs.Opened.{opened_new}
 use Rattle.mv_history.specs.Meaning as history
+use Rattle.mv_history.specs.declared.answers.LogTable.{LogTable}
 use Rattle.mv_history.specs.State.{State, Writes, commits_of, rests_of}
 use Rattle.mv_layout.specs.declared.config.Config.{Config}
 use Rattle.mvrlu.specs.declared.domain.Domain.{Domain}
@@ -17,7 +19,6 @@ use Rattle.run_report.specs.Worked.{Past}
 use Rattle.script_domain.specs.Joined.{past_of_whole}
 use Rattle.set_script.specs.Objects.{no_words}
 use Rattle.mvrlu_run.specs.Kinds.{IsRunAlong}
-use Rattle.mvrlu_run.proofs.Opened.{new_seats}
 
 -- seats that have met stand in the same history later
 all_met : (v w : Whole) → w.history ≡ v.history → (firsts met : List history.Seat) → AllZip (HasMet v) firsts met → AllZip (HasMet w) firsts met
@@ -51,14 +52,15 @@ have_met allows c start firsts met v w still h = record {
 -- a run of the seats with which a domain was opened is one along their chains
 pub run_along : {P : Type 0} {rules : _} (d : Domain P) (seats : List (Seat P rules)) (c numbers : Config)
     → IsOpened c (replicate numbers.objects no_words) d seats → c ≡ numbers → (allows : List ℕ → State → Writes → Type 0)
-    → (chain : List history.Seat → List history.Seat → List Line → Type 0) (is_run : Past → Type 0) (own lines : List Line) (v w : Whole)
+    → (chain : List history.Seat → List history.Seat → List Line → Type 0) (is_run : Past → Type 0) (own lines : List Line)
+    → (tables : List LogTable) (v w : Whole)
     → IsPermutation own lines → IsStill v w
-    → MetAlong (λ olds news. chain olds news own) allows (numbers_of d) (opening_of d) (map seat_of seats) v → is_run (past_of_whole w)
-    → IsRunAlong allows chain numbers is_run lines w
-run_along d seats c numbers o same allows chain is_run own lines v w ordered still along run =
+    → MetAlong (λ olds news. chain olds news own) allows (numbers_of d) (opening_of d) (map seat_of seats) tables v → is_run (past_of_whole w)
+    → IsRunAlong allows chain numbers is_run lines tables w
+run_along d seats c numbers o same allows chain is_run own lines tables v w ordered still along run =
     let firsts : List history.Seat = map seat_of seats in
     let at : numbers_of d ≡ numbers = o.numbers ∙ same in
-    let fresh = new_seats d seats c (replicate numbers.objects no_words) o in
+    let fresh = opened_new d c (replicate numbers.objects no_words) seats o in
     let numbered = subst (λ (n : Config). AreFrom (new_seat (name_of d) n (opening_of d)) 0 firsts) at fresh in
     let kept = have_met allows (numbers_of d) (opening_of d) firsts along.met v w still along.whole in
     let whole = subst (λ (n : Config). HaveMet allows n (opening_of d) firsts along.met w) at kept in
@@ -73,5 +75,6 @@ run_along d seats c numbers o same allows chain is_run own lines v w ordered sti
         met = along.met;
         whole = subst (λ (s : State). HaveMet allows numbers s firsts along.met w) o.opening whole;
         along = along.along;
+        counted = along.counted;
       };
     }

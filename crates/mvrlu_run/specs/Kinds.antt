@@ -58,16 +58,17 @@ pub record Kind (End : Type 0) : Type 1 where
   pub text_of : List Line → End → List LogTable → List ℕ
 
 -- The history of a domain is that of a run, and each seat went along the chain of its lines: from the one with which a domain of these numbers,
--- all of them, was opened, to the one that met. The lines that are printed are those of the chains, in another order.
+-- all of them, was opened, to the one that met. The lines that are printed are those of the chains, in another order, and the tables are
+-- those of the very seats that met.
 pub record IsRunAlong (allows : List ℕ → State → Writes → Type 0) (chain : List Seat → List Seat → List Line → Type 0) (numbers : Config)
-    (is_run : Past → Type 0) (lines : List Line) (w : Whole) : Type 0 where
+    (is_run : Past → Type 0) (lines : List Line) (tables : List LogTable) (w : Whole) : Type 0 where
   pub run : is_run (past_of_whole w)
   pub home : List ℕ
   pub firsts : List Seat
   pub new : AreFrom (new_seat home numbers (replicate numbers.objects no_words)) 0 firsts
   pub own : List Line
   pub same : IsPermutation own lines
-  pub linked : MetAlong (λ olds news. chain olds news own) allows numbers (replicate numbers.objects no_words) firsts w
+  pub linked : MetAlong (λ olds news. chain olds news own) allows numbers (replicate numbers.objects no_words) firsts tables w
 
 -- the chains of commands that each seat did in turn, by the lines of one seat after those of another
 abbrev pub chain_of : List (List Command) → List Seat → List Seat → List Line → Type 0
@@ -98,7 +99,7 @@ abbrev pub runs : Options → List (List Command) → Kind Maps
 runs options scripts = record {
   numbers = config_of options 16 (length scripts);
   is_run = λ lines end tables w.
-      IsRunAlong IsSetCommit (chain_of scripts) (config_of options 16 (length scripts)) (λ past. RunOf past scripts lines end tables) lines w;
+      IsRunAlong IsSetCommit (chain_of scripts) (config_of options 16 (length scripts)) (λ past. RunOf past scripts lines end tables) lines tables w;
   text_of = text_of_run;
 }
 
@@ -108,7 +109,7 @@ works number = record {
   numbers = config_of work_options 16 (length (scripts_of number));
   is_run = λ lines end tables w.
       IsRunAlong IsSetCommit (chain_of (scripts_of number)) (config_of work_options 16 (length (scripts_of number)))
-      (λ past. RunOf past (scripts_of number) lines end tables) lines w;
+      (λ past. RunOf past (scripts_of number) lines end tables) lines tables w;
   text_of = λ lines end tables. summary number lines end;
 }
 
@@ -118,7 +119,7 @@ block_runs options scripts = record {
   numbers = config_of options 64 (length scripts);
   is_run = λ lines end tables w.
       IsRunAlong IsBlockCommit (block_chain_of scripts) (config_of options 64 (length scripts)) (λ past. BlocksRunOf past scripts lines end tables)
-      lines w;
+      lines tables w;
   text_of = text_of_run;
 }
 
@@ -127,7 +128,7 @@ abbrev pub pool_runs : Options → ℕ → List Command → Kind Maps
 pool_runs options seats script = record {
   numbers = config_of options 16 seats;
   is_run = λ lines end tables w.
-      IsRunAlong IsSetCommit (pool_chain_of script) (config_of options 16 seats) (λ past. PoolOf past seats script lines end tables) lines w;
+      IsRunAlong IsSetCommit (pool_chain_of script) (config_of options 16 seats) (λ past. PoolOf past seats script lines end tables) lines tables w;
   text_of = text_of_run;
 }
 
@@ -142,7 +143,7 @@ grow_runs options scripts = record {
   numbers = config_of options 64 (length scripts);
   is_run = λ lines end tables w.
       IsRunAlong IsGrowCommit (grow_chain_of scripts) (config_of options 64 (length scripts))
-      (λ past. GrowRunOf past scripts lines end.set end.splits tables) lines w;
+      (λ past. GrowRunOf past scripts lines end.set end.splits tables) lines tables w;
   text_of = λ lines end tables. text_of_grown lines end.set end.splits tables;
 }
 

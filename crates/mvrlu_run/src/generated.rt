@@ -2,7 +2,6 @@
 ghost use Rattle.std.specs.Prelude.{◌≡◌, ◌≤◌, All, IfOk, length, map};
 ghost use Rattle.script_workers.specs.Workers.{items_of};
 ghost use Rattle.generated_runs.specs.OneAfterAnother.{scripts_of};
-ghost use Rattle.mvrlu_run.specs.Kinds.{work_options};
 
 use run_words::Options;
 use script_gen::commands;

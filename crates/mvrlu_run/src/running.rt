@@ -1,11 +1,8 @@
 // The run of scripts over a domain of the sets.
 ghost use Rattle.std.specs.Prelude.{◌≡◌, ◌≤◌, All, IfErr, IfOk, Ok, length, map, replicate};
-ghost use Rattle.mv_history.specs.Meaning.{words_at};
 ghost use Rattle.set_script.specs.Objects.{no_words};
-ghost use Rattle.set_script.specs.Lawful.{IsOpening};
 ghost use Rattle.mvrlu.specs.Opened.{IsOpened};
 ghost use Rattle.mvrlu.specs.Meeting.{AreAll};
-ghost use Rattle.mvrlu.specs.Meant.{numbers_of, opening_of};
 ghost use Rattle.run_report.specs.Order.{IsOrdered};
 ghost use Rattle.run_words.specs.Words.{FitOptions};
 ghost use Rattle.script_workers.specs.Workers.{items_of};

@@ -1,7 +1,6 @@
 // The text that is asked for.
-ghost use Rattle.std.specs.Prelude.{◌≡◌, ◌≤◌, ◌<◌, All, IfOk, length, map, string_bytes, IfErr, MatchResult};
+ghost use Rattle.std.specs.Prelude.{◌≤◌, ◌<◌, All, IfOk, length, map, string_bytes, IfErr, MatchResult};
 ghost use Rattle.run_words.specs.Words.{FitOptions, IsFit, asks_of, run};
-ghost use Rattle.script_gen.specs.Script.{text_of_script};
 ghost use Rattle.script_workers.specs.Workers.{items_of};
 ghost use Rattle.mvrlu_run.specs.declared.scripts.Grammar.TheVariants.{Sets};
 ghost use Rattle.mvrlu_run.specs.Scripts.{AnyStop, NoneFails, commands as by_command};

@@ -1,12 +1,12 @@
 -- The seats of a domain that did the commands of a pool have met: their lines and tables are those of one pool in the whole history.
-use Rattle.std.proofs.Common.{◌≡◌, ℕ, suc, ◌+◌, ◌<◌, ◌==◌, cond, List, length, map, refl, ◌∙◌, subst, arith}
+use Rattle.std.proofs.Common.{◌≡◌, ℕ, suc, ◌+◌, ◌<◌, ◌==◌, cond, List, length, refl, sym, ◌∙◌, subst, arith}
 use Rattle.std.specs.List.{All}
 use Rattle.std.specs.List.Sorted.{IsPermutation}
 use Rattle.std.proofs.lemmas.List.Elements.{All-weaker}
 use Rattle.std.proofs.lemmas.List.Sorted.{All-permutation, IsPermutation-sym, IsPermutation-trans, length_permutation, sum_by-IsPermutation}
 use Rattle.mv_history.specs.declared.answers.LogTable.{LogTable}
 use Rattle.mv_history.specs.declared.history.TheConstants.{LAST}
-use Rattle.mv_history.specs.Meaning as history
+use Rattle.mv_history.specs.Meaning.{Seat}
 use Rattle.mv_history.specs.State.{state_after}
 use Rattle.mv_history.specs.Legal.{IsAllowed}
 use Rattle.set_script.specs.Catalogue.{Maps, empty}
@@ -15,11 +15,6 @@ use Rattle.set_script.specs.Lawful.{IsOpening}
 use Rattle.set_script.specs.Rules.{capacity, IsSetCommit}
 use Rattle.set_script.specs.declared.commands.Command.{Command}
 use Rattle.set_script.proofs.Opening.{opening_empty}
-use Rattle.mvrlu.specs.Meant.{numbers_of, opening_of, seat_of}
-use Rattle.mvrlu.specs.Meeting.{AreAll, LawOfTheWhole}
-use Rattle.mvrlu.specs.Whole.{Whole, last_state}
-use Rattle.mvrlu.specs.declared.domain.Domain.{Domain}
-use Rattle.mvrlu.specs.declared.domain.Seat.{Seat}
 use Rattle.run_report.specs.declared.line.Line.{Line}
 use Rattle.run_report.specs.Order.{IsOrdered}
 use Rattle.run_report.specs.Legal.{Follows, IsAlone, IsInTime, Replays}
@@ -30,10 +25,10 @@ use Rattle.run_report.proofs.history.Grown.{all_worked}
 use Rattle.run_report.proofs.history.Inserted.{some_order}
 use Rattle.run_report.proofs.history.Replay.{IsLeft, replay}
 use Rattle.command_pool.specs.Pool.{PoolRan}
-use Rattle.script_domain.specs.Joined.{past_of_whole, AreTablesOf}
-use Rattle.script_domain.specs.New.{AreNewFrom}
-use Rattle.script_domain.proofs.OneRun as one_run
-use Rattle.script_domain.proofs.Seats.{AllContinue, all_continue, ran_of}
+use Rattle.domain_run.specs.Met.{AllContinue}
+use Rattle.script_domain.proofs.OneHistory.{IsOneHistory}
+use Rattle.script_domain.proofs.OneRun.{run_met}
+use Rattle.script_domain.proofs.Seats.{all_continue}
 use Rattle.pool_domain.specs.Legal.{ReplaysPool}
 use Rattle.pool_domain.specs.Whole.{PoolOf, StandsInPool}
 use Rattle.pool_domain.proofs.Orders.{as_scripts, stands_as, replays_pool, all_alone}
@@ -74,67 +69,56 @@ replays p seats commands lines ordered h same rising =
     (replay p (as_scripts seats commands) h.allowed h.last 0 ordered left))
 
 -- the seats that did the commands went on
-pub all_went_on : (olds news : List history.Seat) (commands : List Command) (lines : List Line) → PoolRan olds news commands lines → AllContinue olds news
+pub all_went_on : (olds news : List Seat) (commands : List Command) (lines : List Line) → PoolRan olds news commands lines → AllContinue olds news
 all_went_on olds news commands lines ran =
     all_continue olds news (scripts_of olds news commands lines ran.each) (script_lines olds news commands lines ran.each)
     (all_ran olds news commands lines ran.each)
 
-module _ {P : Type 0} {rules : _} (d : Domain P) where
-  -- The seats that did the commands are all the seats of the domain.
-  pub all_met : (olds : List history.Seat) (seats : List (Seat P rules)) (commands : List Command) (lines : List Line)
-      → AreNewFrom d 0 olds → length olds ≡ (numbers_of d).seats → PoolRan olds (map (λ s. seat_of s) seats) commands lines → AreAll d seats
-  all_met olds seats commands lines new many ran =
-      one_run.all_met d olds seats new many (all_went_on olds (map (λ s. seat_of s) seats) commands lines ran)
-
-  -- The lines and tables are those of one pool in the whole history.
-  pub pool_met : (olds : List history.Seat) (seats : List (Seat P rules)) (commands : List Command) (lines : List Line)
-      (tables : List LogTable) (w : Whole) → AreNewFrom d 0 olds → PoolRan olds (map (λ s. seat_of s) seats) commands lines
-      → AreTablesOf (map (λ s. seat_of s) seats) tables → LawOfTheWhole IsOpening IsSetCommit seats w
-      → w.start ≡ opening_of d → w.base ≡ (numbers_of d).base
-      → PoolOf (past_of_whole w) (length olds) commands lines (catalogue_of (last_state w)) tables
-  pool_met olds seats commands lines tables w new ran tabled law start base =
-      let p = past_of_whole w in
-      let news = map (λ s. seat_of s) seats in
-      let scripts = scripts_of olds news commands lines ran.each in
-      let told = script_lines olds news commands lines ran.each in
-      let each = all_ran olds news commands lines ran.each in
-      let are = ran_of d 0 olds news scripts told new each in
-      let many = scripts_length olds news commands lines ran.each in
-      let run = one_run.run_met d olds seats scripts told tables w new many each tabled law start base in
-      let worked = all_worked p 0 olds news scripts told (one_run.known d w start base 0 olds seats new are law.seen law.mine) each in
-      let shares = are_shares p 0 olds news commands lines ran.each worked in
-      let in_time = all_in_time p commands 0 (length olds) lines shares in
-      let stand = all_stand p commands 0 (length olds) lines shares in
-      let pooled : IsPooled p (length olds) commands lines = record {
-        opening = run.opening;
-        allowed = run.allowed;
-        last = refl;
-        seats_are = All-weaker (IsOneOf 0 (length olds)) (λ line. line.seat < length olds) (λ line one. omega (arith, one.1))
-            lines (all_seats p commands 0 (length olds) lines shares);
-        stand = stand;
-        follow = all_follow p commands 0 (length olds) lines shares;
-        one_line = λ i c there. same_commits (p.base + suc i) olds news commands lines ran.each ∙ run.one_line i c there;
-      } in
-      let ordered = some_order lines in
-      record {
-        opening = run.opening;
-        legal = run.legal;
-        allowed = run.allowed;
-        stand = stand;
-        one_line = pooled.one_line;
-        end_is = refl;
-        table_each = run.table_each ∙ many;
-        table_of = run.table_of;
-        run = record {
-          once = λ number positive le. ran.once number positive le;
-          count = ran.count;
-          seats_are = pooled.seats_are;
-          from_base = pooled.follow;
-          in_time = in_time;
-          alone = all_alone p commands lines stand in_time;
-          replayed = (ordered.0, ordered.1, ordered.2, replays p (length olds) commands lines ordered.0 pooled ordered.1 ordered.2);
-        };
-      }
+-- The lines and tables are those of one pool in the whole history.
+pub pool_met : (p : Past) (olds news : List Seat) (commands : List Command) (lines : List Line) (tables : List LogTable)
+    → IsOneHistory IsOpening IsSetCommit p (length olds) olds news tables → PoolRan olds news commands lines
+    → PoolOf p (length olds) commands lines (catalogue_of (state_after p.start p.entries)) tables
+pool_met p olds news commands lines tables h ran =
+    let scripts = scripts_of olds news commands lines ran.each in
+    let told = script_lines olds news commands lines ran.each in
+    let each = all_ran olds news commands lines ran.each in
+    let many = scripts_length olds news commands lines ran.each in
+    let run = run_met p olds news scripts told tables
+    (subst (λ n. IsOneHistory IsOpening IsSetCommit p n olds news tables) (sym many) h) each in
+    let worked = all_worked p 0 olds news scripts told h.known each in
+    let shares = are_shares p 0 olds news commands lines ran.each worked in
+    let in_time = all_in_time p commands 0 (length olds) lines shares in
+    let stand = all_stand p commands 0 (length olds) lines shares in
+    let pooled : IsPooled p (length olds) commands lines = record {
+      opening = h.opening;
+      allowed = h.allowed;
+      last = h.last;
+      seats_are = All-weaker (IsOneOf 0 (length olds)) (λ line. line.seat < length olds) (λ line one. omega (arith, one.1))
+          lines (all_seats p commands 0 (length olds) lines shares);
+      stand = stand;
+      follow = all_follow p commands 0 (length olds) lines shares;
+      one_line = λ i c there. same_commits (p.base + suc i) olds news commands lines ran.each ∙ run.one_line i c there;
+    } in
+    let ordered = some_order lines in
+    record {
+      opening = h.opening;
+      legal = h.legal;
+      allowed = h.allowed;
+      stand = stand;
+      one_line = pooled.one_line;
+      end_is = refl;
+      table_each = h.table_each;
+      table_of = h.table_of;
+      run = record {
+        once = λ number positive le. ran.once number positive le;
+        count = ran.count;
+        seats_are = pooled.seats_are;
+        from_base = pooled.follow;
+        in_time = in_time;
+        alone = all_alone p commands lines stand in_time;
+        replayed = (ordered.0, ordered.1, ordered.2, replays p (length olds) commands lines ordered.0 pooled ordered.1 ordered.2);
+      };
+    }
 
 -- a pool stays one whatever the order of its lines
 pub pool_permuted : (p : Past) (seats : ℕ) (commands : List Command) (lines others : List Line) (end : Maps) (tables : List LogTable)

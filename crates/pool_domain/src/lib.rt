@@ -11,7 +11,8 @@
 //! - each `Commit` line is the commit of its printed time, by the line's seat and with its command's tag, and each commit
 //!   of the history has exactly one line;
 //! - each `Read` line has its command's reply in the state of its printed time, where the command has nothing to change;
-//! - the table of each seat counts the seat's commits and rests in the history, and the versions that its commits wrote;
+//! - the table of each seat counts the seat's commits and rests in the history, and the versions that its commits wrote; it
+//!   is that of the very seat that met, by its own log and trail (`MetAlong`);
 //! - the lines are a legal pool (`LegalPool`, specs/Legal.antt): each command has one line, along the numbers of each seat
 //!   times rise, and the replay of the ordered lines, one after another from empty maps, gives every reply.
 //!
@@ -20,7 +21,7 @@
 //!
 //! **Its place.** The crate stands on `command_pool`, which does commands on any stores in threads, and on `mvrlu`, whose
 //! handles are such stores and whose meeting knows the whole history. The loan of the domain to its seats is that of
-//! `script_domain`, and what a run in one history is comes from `run_report`.
+//! `domain_run`, and what a run in one history is comes from `run_report`.
 #![tactic(auto)]
 
 mod running;

@@ -1,5 +1,5 @@
 // The run of a pool over a domain, up to the meeting of its seats.
-ghost use Rattle.std.specs.Prelude.{◌≡◌, ◌≤◌, length, map, All, IfOk, IfErr};
+ghost use Rattle.std.specs.Prelude.{◌≡◌, ◌≤◌, length, map, IfOk, IfErr};
 ghost use Rattle.set_script.specs.CatalogueOf.{catalogue_of};
 ghost use Rattle.set_script.specs.Lawful.{IsOpening};
 ghost use Rattle.set_script.specs.declared.script.TheConstants.{MOST_COMMANDS};
@@ -7,14 +7,14 @@ ghost use Rattle.mvrlu.specs.Meant.{numbers_of, opening_of, seat_of, whole_of};
 ghost use Rattle.mvrlu.specs.Whole.{last_state};
 ghost use Rattle.command_pool.specs.Pool.{PoolRan, PoolLinked};
 ghost use Rattle.set_script.specs.Rules.{IsSetCommit};
-ghost use Rattle.domain_run.specs.Met.{MetAlong};
+ghost use Rattle.domain_run.specs.Met.{AreTablesOf, MetAlong};
+ghost use Rattle.domain_run.specs.New.{AreNewFrom};
 ghost use Rattle.domain_run.specs.Shown.{handle_causes};
-ghost use Rattle.script_domain.specs.Joined.{past_of_whole, AreTablesOf};
-ghost use Rattle.script_domain.specs.New.{AreNewFrom};
+ghost use Rattle.script_domain.specs.Joined.{past_of_whole};
 ghost use Rattle.pool_domain.specs.Whole.{PoolOf};
 
 use command_pool::run_pool;
-use domain_run::lending::{lend_all, take_back};
+use domain_run::lending::{lend_all, meet_all, take_back};
 use mv_history::LogTable;
 use mvrlu::{Closing, Domain, Seat};
 use run_outside::Gate;
@@ -35,7 +35,8 @@ use std::thread::Threads;
 /// the tables of the logs by seat. They are those of one pool in the closing's history: every reply is the one that the
 /// sequential catalogue gives at the line's printed place, and each commit of the history has exactly one line.
 ///
-/// Each seat went along the chain of its lines, from the one that `open` gave to one that met (`MetAlong`).
+/// Each seat went along the chain of its lines, from the one that `open` gave to one that met (`MetAlong`), and the
+/// tables are those of these very seats.
 ///
 /// The error is want of memory. It comes only before the first command, and hands back the domain and the seats, which
 /// mean what they meant, so the call can be tried again. After the workers have ended nothing is refused.
@@ -61,13 +62,13 @@ pub fn run_pool_domain<R: Threads + Wait + Sync, G: Gate>(
         PoolOf (past_of_whole (whole_of done.0)) (length seats.items) commands.now done.1.items (catalogue_of (last_state (whole_of done.0))) done.2.items) }
     ensures linked { IfOk result (λ done. MetAlong
         (λ firsts met. PoolLinked (handle_causes IsOpening IsSetCommit) firsts met commands.now done.1.items)
-        IsSetCommit (numbers_of domain) (opening_of domain) (map seat_of seats.items) (whole_of done.0)) }
+        IsSetCommit (numbers_of domain) (opening_of domain) (map seat_of seats.items) done.2.items (whole_of done.0)) }
     ensures opening { IfOk result (λ done.
         ((whole_of done.0).start ≡ opening_of domain) × ((whole_of done.0).base ≡ (numbers_of domain).base)) }
     ensures err { IfErr result (λ refused. (refused.0 ≡ domain) × (map seat_of refused.1.items ≡ map seat_of seats.items)) }
 {
     match run_seats(rt, alloc, &domain, seats, commands, gate) {
-        Ok((seats, lines, tables)) => Ok((domain.meet(seats), lines, tables)),
+        Ok((seats, lines, tables)) => Ok((meet_all(domain, seats), lines, tables)),
         Err((seats, error)) => Err((domain, seats, error)),
     }
 }

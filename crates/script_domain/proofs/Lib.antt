@@ -1,4 +1,4 @@
 pub mod Seats
+pub mod OneHistory
 pub mod OneRun
-pub mod Opened
 pub mod Fresh

@@ -1,8 +1,7 @@
--- What the seats of a domain leave once their scripts have run: its whole history, and a table of each seat's log.
+-- What the seats of a domain leave once their scripts have run: its whole history.
 use Rattle.mv_history.specs.declared.history.TheConstants.{LAST}
 use Rattle.mvrlu.specs.Whole.{Whole}
 use Rattle.run_report.specs.Worked.{Past}
-pub use Rattle.domain_run.specs.Met.{AreTablesOf}
 
 -- the whole history of a domain, in which lines have their places; its last printed time is the greatest there is
 abbrev pub past_of_whole : Whole → Past

@@ -11,7 +11,8 @@
 //! - each `Commit` line is the commit of its printed time, by the line's seat and with its command's tag, and each commit
 //!   of the history has exactly one line;
 //! - each `Read` line has its command's reply in the state of its printed time, where the command has nothing to change;
-//! - the table of each seat counts the seat's commits and rests in the history, and the versions that its commits wrote;
+//! - the table of each seat counts the seat's commits and rests in the history, and the versions that its commits wrote; it
+//!   is that of the very seat that met, by its own log and trail (`MetAlong`);
 //! - the lines are a legal run of the scripts: each command of each script has one line, along a script times rise, and
 //!   the replay of the ordered lines, one after another from empty maps, gives every reply. So every reply is that of
 //!   the sequential catalogue at its printed place;
@@ -30,5 +31,4 @@
 
 mod running;
 
-pub use domain_run::lending;
 pub use running::run_domain;

@@ -1,6 +1,5 @@
 // The run of scripts over a domain, up to the meeting of its seats.
 ghost use Rattle.std.specs.Prelude.{◌≡◌, ◌≤◌, length, map, All, IfOk, IfErr};
-ghost use Rattle.mv_history.specs.Meaning as history;
 ghost use Rattle.set_script.specs.CatalogueOf.{catalogue_of};
 ghost use Rattle.set_script.specs.Lawful.{IsOpening};
 ghost use Rattle.set_script.specs.Rules.{IsSetCommit};
@@ -11,12 +10,12 @@ ghost use Rattle.run_report.specs.Whole.{RunOf};
 ghost use Rattle.run_report.specs.Worked.{AllRan};
 ghost use Rattle.script_workers.specs.Lines.{AllLinked};
 ghost use Rattle.script_workers.specs.Workers.{items_of};
-ghost use Rattle.domain_run.specs.Met.{MetAlong};
+ghost use Rattle.domain_run.specs.Met.{AreTablesOf, MetAlong};
+ghost use Rattle.domain_run.specs.New.{AreNewFrom};
 ghost use Rattle.domain_run.specs.Shown.{handle_causes};
-ghost use Rattle.script_domain.specs.Joined.{past_of_whole, AreTablesOf};
-ghost use Rattle.script_domain.specs.New.{AreNewFrom};
+ghost use Rattle.script_domain.specs.Joined.{past_of_whole};
 
-use domain_run::lending::{lend_all, take_back};
+use domain_run::lending::{lend_all, meet_all, take_back};
 use mv_history::LogTable;
 use mvrlu::{Closing, Domain, Seat};
 use run_outside::Gate;
@@ -37,8 +36,9 @@ use std::thread::Threads;
 /// the tables of the logs by seat. They are those of one run in the closing's history: every reply is the one that the
 /// sequential catalogue gives at the line's printed place, and each commit of the history has exactly one line.
 ///
-/// Each seat went along the chain of its lines, from the one that `open` gave to one that met (`MetAlong`): a read is of a
-/// section that its own command entered, so its place isn't below any commit that its seat had seen when the command began.
+/// Each seat went along the chain of its lines, from the one that `open` gave to one that met (`MetAlong`), and the
+/// tables are those of these very seats. A read is of a section that its own command entered, so its place isn't below any
+/// commit that its seat had seen when the command began.
 ///
 /// The error is want of memory. It comes only before the first command, and hands back the domain and the seats, which
 /// mean what they meant, so the call can be tried again. After the workers have ended nothing is refused.
@@ -63,13 +63,13 @@ pub fn run_domain<R: Threads + Wait + Sync, G: Gate>(
         RunOf (past_of_whole (whole_of done.0)) (map items_of scripts.now) done.1.items (catalogue_of (last_state (whole_of done.0))) done.2.items) }
     ensures linked { IfOk result (λ done. MetAlong
         (λ firsts met. AllLinked (handle_causes IsOpening IsSetCommit) firsts met (map items_of scripts.now) done.1.items)
-        IsSetCommit (numbers_of domain) (opening_of domain) (map seat_of seats.items) (whole_of done.0)) }
+        IsSetCommit (numbers_of domain) (opening_of domain) (map seat_of seats.items) done.2.items (whole_of done.0)) }
     ensures opening { IfOk result (λ done.
         ((whole_of done.0).start ≡ opening_of domain) × ((whole_of done.0).base ≡ (numbers_of domain).base)) }
     ensures err { IfErr result (λ refused. (refused.0 ≡ domain) × (map seat_of refused.1.items ≡ map seat_of seats.items)) }
 {
     match run_seats(rt, alloc, &domain, seats, scripts, gate) {
-        Ok((seats, lines, tables)) => Ok((domain.meet(seats), lines, tables)),
+        Ok((seats, lines, tables)) => Ok((meet_all(domain, seats), lines, tables)),
         Err((seats, error)) => Err((domain, seats, error)),
     }
 }

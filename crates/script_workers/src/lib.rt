@@ -52,6 +52,5 @@ mod rows;
 mod running;
 
 pub use hinted::Hinted;
-pub use item_workers::take_first;
 pub use rows::{lines_room, make_lines};
 pub use running::run_scripts;

@@ -8,6 +8,7 @@ use Rattle.mv_history.specs.declared.history.Commit.{Commit}
 use Rattle.mv_history.specs.declared.history.Entry.{Entry}
 use Rattle.mv_history.specs.declared.history.Entry.TheVariants.{Change}
 use Rattle.mv_history.specs.State.{state_after, commits_of}
+use Rattle.mv_history.specs.Calls.{Continues}
 use Rattle.mv_history.specs.Meaning.{Seat}
 use Rattle.set_script.specs.CatalogueOf.{catalogue_of}
 use Rattle.set_script.specs.Replies.{reply, changes}
@@ -102,24 +103,33 @@ AreKnown p number [] news = Unit {0}
 AreKnown p number (o ∷ olds) [] = Unit {0}
 AreKnown p number (o ∷ olds) (n ∷ news) = IsAtOpening p o × IsKnown p number n × AreKnown p (suc number) olds news
 
-seat_worked : (p : Past) (number : ℕ) (o n : Seat) (script : List Command) (lines : List Line) → IsAtOpening p o → IsKnown p number n → Ran o n script lines
-    → LinesOf p number 1 p.base script lines (commits_of number p.entries)
-seat_worked p number o n script lines opening known ran =
-    let c = ran.continues in
-    let whole : longer (past_of n) known.more ≡ p = λ i. record {
+-- What a seat made in what it has seen, from the opening state on, it made in the whole history, where that holds on as entries are added.
+pub made_in : (made : Past → ℕ → ℕ → List Commit → Type 0)
+    → ((p : Past) (more : List Entry) (seat before : ℕ) (commits : List Commit) → made p seat before commits → made (longer p more) seat before commits)
+    → (p : Past) (number : ℕ) (o n : Seat) (commits : List Commit) → IsAtOpening p o → IsKnown p number n → Continues o n
+    → n.mine ≡ o.mine ++ commits → made (past_of n) n.number (o.base + length o.seen) commits → made p number p.base (commits_of number p.entries)
+made_in made holds_on p number o n commits opening known c mine own =
+    let all : longer (past_of n) known.more ≡ p = λ i. record {
       start = (c.start ∙ opening.start) i;
       base = (c.base ∙ opening.base) i;
       last = (c.last ∙ opening.last) i;
       entries = sym known.seen i;
     } in
-    let commits : ran.commits ≡ commits_of number p.entries = ap (λ cs. cs ++ ran.commits) (sym opening.mine) ∙ sym ran.mine ∙ known.mine in
+    let each : commits ≡ commits_of number p.entries = ap (λ cs. cs ++ commits) (sym opening.mine) ∙ sym mine ∙ known.mine in
     let none : length o.seen ≡ 0 = ap length opening.seen in
     let from : o.base + length o.seen ≡ p.base = omega (arith, opening.base, none) in
-    let each = lines_longer (past_of n) known.more n.number 1 (o.base + length o.seen) script lines ran.commits ran.each in
-    subst (λ q. LinesOf q number 1 p.base script lines (commits_of number p.entries)) whole
-    (subst (λ k. LinesOf (longer (past_of n) known.more) k 1 p.base script lines (commits_of number p.entries)) known.numbered
-    (subst (λ b. LinesOf (longer (past_of n) known.more) n.number 1 b script lines (commits_of number p.entries)) from
-    (subst (λ cs. LinesOf (longer (past_of n) known.more) n.number 1 (o.base + length o.seen) script lines cs) commits each)))
+    let later = holds_on (past_of n) known.more n.number (o.base + length o.seen) commits own in
+    subst (λ q. made q number p.base (commits_of number p.entries)) all
+    (subst (λ k. made (longer (past_of n) known.more) k p.base (commits_of number p.entries)) known.numbered
+    (subst (λ b. made (longer (past_of n) known.more) n.number b (commits_of number p.entries)) from
+    (subst (λ cs. made (longer (past_of n) known.more) n.number (o.base + length o.seen) cs) each later)))
+
+seat_worked : (p : Past) (number : ℕ) (o n : Seat) (script : List Command) (lines : List Line) → IsAtOpening p o → IsKnown p number n → Ran o n script lines
+    → LinesOf p number 1 p.base script lines (commits_of number p.entries)
+seat_worked p number o n script lines opening known ran =
+    made_in (λ q seat before commits. LinesOf q seat 1 before script lines commits)
+    (λ q more seat before commits h. lines_longer q more seat 1 before script lines commits h) p number o n ran.commits opening known
+    ran.continues ran.mine ran.each
 
 -- each seat worked its script off
 pub all_worked : (p : Past) (number : ℕ) (olds news : List Seat) (scripts : List (List Command)) (lines : List Line) → AreKnown p number olds news

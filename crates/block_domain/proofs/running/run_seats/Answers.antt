@@ -1,14 +1,15 @@
 use Rattle.std.proofs.Common.{map, sym, subst}
 use Rattle.mvrlu.specs.Meant.{seat_of}
 use Rattle.script_workers.specs.Numbers.{AreNumbered}
-use Rattle.script_domain.specs.New.{AreNewFrom}
-use Rattle.script_domain.proofs.Seats.{new_numbered, new_own, new_may_hold, continued_length, left_for}
+use Rattle.domain_run.specs.New.{AreNewFrom}
+use Rattle.domain_run.proofs.Seats.{new_own, new_may_hold, left_for}
+use Rattle.script_domain.proofs.Seats.{new_numbered}
 use Rattle.block_domain.proofs.OneRun.{all_continue}
 use Rattle.block_domain.proofs.running.run_seats.Goals as goal
 
 -- the seats are of the domain, and their handles are numbered in order and may hold what a block locks
 pub lend_all-requires : goal.lend_all-requires
-lend_all-requires g c = record { own = new_own c.args.domain.now 0 c.args.seats.items c.requires.new }
+lend_all-requires g c = record { own = new_own c.args.domain.now c.args.seats.items c.requires.new }
 
 pub run_blocks-requires-clause-numbers : goal.run_blocks-requires-clause-numbers
 run_blocks-requires-clause-numbers g c κs within =
@@ -24,5 +25,5 @@ run_blocks-requires-clause-most g c κs within =
 pub take_back-seats-requires : goal.take_back-seats-requires
 take_back-seats-requires g c = record {
   left = left_for c.in_ok-handles.left c.in_ok-handles.handles.items c.in-Ok.handles.items
-      (continued_length _ _ (all_continue _ _ _ _ c.in-Ok.ensures.ran)) c.in_ok-handles.ensures.left;
+      (all_continue _ _ _ _ c.in-Ok.ensures.ran) c.in_ok-handles.ensures.left;
 }

@@ -3,7 +3,7 @@ use Rattle.std.specs.List.{AllZip}
 use Rattle.std.proofs.lemmas.List.{length-map}
 use Rattle.mvrlu.specs.Meant.{seat_of}
 use Rattle.domain_run.specs.New.{fresh}
-use Rattle.domain_run.proofs.Seats.{all_itself, all_own, left_for}
+use Rattle.domain_run.proofs.Seats.{new_own, left_for}
 use Rattle.domain_run.proofs.Working.{seats_ready}
 use Rattle.domain_run.proofs.running.run_lent.Goals as goal
 
@@ -17,9 +17,7 @@ run_each-handles-requires-clause-ready g c κs within =
 
 -- the seats are of the domain
 pub lend_all-requires : goal.lend_all-requires
-lend_all-requires g c =
-    let seats = c.args.seats.items in
-    record { own = all_own c.args.domain.now (map (λ s. seat_of s) seats) seats c.requires.new (all_itself (map (λ s. seat_of s) seats)) }
+lend_all-requires g c = record { own = new_own c.args.domain.now c.args.seats.items c.requires.new }
 
 -- as many handles come back as seats were lent
 pub take_back-seats-requires : goal.take_back-seats-requires

@@ -9,11 +9,12 @@ use Rattle.set_blocks.specs.BlockRules.{IsBlockCommit}
 use Rattle.mvrlu_run.specs.Kinds.{block_chain_of, config_of}
 use Rattle.mvrlu_run.proofs.Along.{run_along}
 use Rattle.mvrlu_run.proofs.Still.{still_blocks}
-use Rattle.mvrlu_run.proofs.Opened.{new_seats, back_meets}
+use Rattle.domain_run.proofs.Opened.{opened_new}
+use Rattle.mvrlu_run.proofs.Opened.{back_meets}
 use Rattle.mvrlu_run.proofs.blocking.run_block_sets.Goals as goal
 
 pub run_block_domain-requires-clause-new : goal.run_block_domain-requires-clause-new
-run_block_domain-requires-clause-new g c κs within = new_seats c.in_ok-domain.domain c.in_ok-domain.seats.items _ _ c.in_ok-domain.ensures
+run_block_domain-requires-clause-new g c κs within = opened_new c.in_ok-domain.domain _ _ c.in_ok-domain.seats.items c.in_ok-domain.ensures
 
 pub ran_or_met-requires : goal.ran_or_met-requires
 ran_or_met-requires g c = record {
@@ -41,7 +42,8 @@ returns-clause-ran g c =
       run = run_along c.in_ok-domain.domain c.in_ok-domain.seats.items _ (config_of c.args.options 64 (length scripts)) c.in_ok-domain.ensures
           (ap (config_of c.args.options 64) many) IsBlockCommit (block_chain_of scripts)
           (λ past. BlocksRunOf past scripts lines c.in_ok-end.end c.in_ok-closing.tables.items)
-          c.in_ok-closing.lines.items lines c.in_ok-closing.closing.last c.read_all.new.view.last c.order.ensures.permutation still linked
+          c.in_ok-closing.lines.items lines c.in_ok-closing.tables.items
+          c.in_ok-closing.closing.last c.read_all.new.view.last c.order.ensures.permutation still linked
           (still_blocks c.in_ok-closing.closing.last c.read_all.new.view.last scripts lines c.in_ok-end.end c.in_ok-closing.tables.items still
           c.in_ok-end.ensures.catalogue (run_permuted _ _ _ _ _ _ c.order.ensures.permutation run));
     }

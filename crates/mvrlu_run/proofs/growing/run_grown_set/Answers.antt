@@ -11,11 +11,12 @@ use Rattle.grow_report.specs.Whole.{GrowRunOf}
 use Rattle.mvrlu_run.specs.Kinds.{config_of, grow_chain_of}
 use Rattle.mvrlu_run.proofs.Along.{run_along}
 use Rattle.mvrlu_run.proofs.Still.{still_grown}
-use Rattle.mvrlu_run.proofs.Opened.{new_seats, back_meets}
+use Rattle.domain_run.proofs.Opened.{opened_new}
+use Rattle.mvrlu_run.proofs.Opened.{back_meets}
 use Rattle.mvrlu_run.proofs.growing.run_grown_set.Goals as goal
 
 pub run_grow_domain-requires-clause-new : goal.run_grow_domain-requires-clause-new
-run_grow_domain-requires-clause-new g c κs within = new_seats c.in_ok-domain.domain c.in_ok-domain.seats.items _ _ c.in_ok-domain.ensures
+run_grow_domain-requires-clause-new g c κs within = opened_new c.in_ok-domain.domain _ _ c.in_ok-domain.seats.items c.in_ok-domain.ensures
 
 pub ran_or_met-requires : goal.ran_or_met-requires
 ran_or_met-requires g c = record {
@@ -58,7 +59,8 @@ returns-clause-ran g c =
       run = run_along c.in_ok-domain.domain c.in_ok-domain.seats.items _ (config_of c.args.options 64 (length scripts)) c.in_ok-domain.ensures
           (ap (config_of c.args.options 64) many) IsGrowCommit (grow_chain_of scripts)
           (λ past. GrowRunOf past scripts lines c.in_ok-end.end splits c.in_ok-closing.tables.items)
-          c.in_ok-closing.lines.items lines c.in_ok-closing.closing.last c.read_grown.new.view.last c.order_grown.ensures.permutation still linked
+          c.in_ok-closing.lines.items lines c.in_ok-closing.tables.items
+          c.in_ok-closing.closing.last c.read_grown.new.view.last c.order_grown.ensures.permutation still linked
           (still_grown c.in_ok-closing.closing.last c.read_grown.new.view.last scripts lines c.in_ok-end.end _ splits
           c.in_ok-closing.tables.items still (c.in_ok-end.ensures.catalogue ∙ ap grown_catalogue same)
           (omega (arith, counted.splits, run.buckets_are)) (c.order_grown.ensures.whole _ _ _ _ _ run));

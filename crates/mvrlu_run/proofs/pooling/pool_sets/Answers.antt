@@ -7,11 +7,12 @@ use Rattle.set_script.specs.Rules.{IsSetCommit}
 use Rattle.mvrlu_run.specs.Kinds.{config_of, pool_chain_of}
 use Rattle.mvrlu_run.proofs.Along.{run_along}
 use Rattle.mvrlu_run.proofs.Still.{still_pool}
-use Rattle.mvrlu_run.proofs.Opened.{new_seats, back_meets}
+use Rattle.domain_run.proofs.Opened.{opened_new}
+use Rattle.mvrlu_run.proofs.Opened.{back_meets}
 use Rattle.mvrlu_run.proofs.pooling.pool_sets.Goals as goal
 
 pub run_pool_domain-requires-clause-new : goal.run_pool_domain-requires-clause-new
-run_pool_domain-requires-clause-new g c κs within = new_seats c.in_ok-domain.domain c.in_ok-domain.seats.items _ _ c.in_ok-domain.ensures
+run_pool_domain-requires-clause-new g c κs within = opened_new c.in_ok-domain.domain _ _ c.in_ok-domain.seats.items c.in_ok-domain.ensures
 
 pub ran_or_met-requires : goal.ran_or_met-requires
 ran_or_met-requires g c = record {
@@ -39,7 +40,8 @@ returns-clause-ran g c =
       run = run_along c.in_ok-domain.domain c.in_ok-domain.seats.items _ (config_of c.args.options 16 c.args.seats) c.in_ok-domain.ensures
           refl IsSetCommit (pool_chain_of commands)
           (λ past. PoolOf past c.args.seats commands lines c.in_ok-end.end c.in_ok-closing.tables.items)
-          c.in_ok-closing.lines.items lines c.in_ok-closing.closing.last c.read_all.new.view.last c.order.ensures.permutation still linked
+          c.in_ok-closing.lines.items lines c.in_ok-closing.tables.items
+          c.in_ok-closing.closing.last c.read_all.new.view.last c.order.ensures.permutation still linked
           (rw (← seats)
           (still_pool c.in_ok-closing.closing.last c.read_all.new.view.last (length c.in_ok-domain.seats.items) commands lines
           c.in_ok-end.end c.in_ok-closing.tables.items still c.in_ok-end.ensures.catalogue

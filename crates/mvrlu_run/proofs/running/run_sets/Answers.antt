@@ -8,11 +8,12 @@ use Rattle.set_script.specs.Rules.{IsSetCommit}
 use Rattle.mvrlu_run.specs.Kinds.{chain_of, config_of}
 use Rattle.mvrlu_run.proofs.Along.{run_along}
 use Rattle.mvrlu_run.proofs.Still.{still_run}
-use Rattle.mvrlu_run.proofs.Opened.{new_seats, back_meets}
+use Rattle.domain_run.proofs.Opened.{opened_new}
+use Rattle.mvrlu_run.proofs.Opened.{back_meets}
 use Rattle.mvrlu_run.proofs.running.run_sets.Goals as goal
 
 pub run_domain-requires-clause-new : goal.run_domain-requires-clause-new
-run_domain-requires-clause-new g c κs within = new_seats c.in_ok-domain.domain c.in_ok-domain.seats.items _ _ c.in_ok-domain.ensures
+run_domain-requires-clause-new g c κs within = opened_new c.in_ok-domain.domain _ _ c.in_ok-domain.seats.items c.in_ok-domain.ensures
 
 pub ran_or_met-requires : goal.ran_or_met-requires
 ran_or_met-requires g c = record {
@@ -38,8 +39,10 @@ returns-clause-ran g c =
       start = still.start ∙ ends.0 ∙ c.in_ok-domain.ensures.opening;
       base = still.base ∙ ends.1 ∙ ap (λ (n : Config). n.base) c.in_ok-domain.ensures.numbers;
       run = run_along c.in_ok-domain.domain c.in_ok-domain.seats.items _ (config_of c.args.options 16 (length scripts)) c.in_ok-domain.ensures
-          (ap (config_of c.args.options 16) many) IsSetCommit (chain_of scripts) (λ past. RunOf past scripts lines c.in_ok-end.end c.in_ok-closing.tables.items)
-          c.in_ok-closing.lines.items lines c.in_ok-closing.closing.last c.read_all.new.view.last c.order.ensures.permutation still linked
+          (ap (config_of c.args.options 16) many) IsSetCommit (chain_of scripts)
+          (λ past. RunOf past scripts lines c.in_ok-end.end c.in_ok-closing.tables.items)
+          c.in_ok-closing.lines.items lines c.in_ok-closing.tables.items
+          c.in_ok-closing.closing.last c.read_all.new.view.last c.order.ensures.permutation still linked
           (still_run c.in_ok-closing.closing.last c.read_all.new.view.last scripts lines c.in_ok-end.end c.in_ok-closing.tables.items still
           c.in_ok-end.ensures.catalogue (c.order.ensures.whole _ _ _ _ run));
     }

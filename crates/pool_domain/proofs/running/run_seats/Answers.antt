@@ -1,14 +1,14 @@
 use Rattle.std.proofs.Common.{sym, ap, length, subst, arith}
 use Rattle.std.proofs.lemmas.List.{length-map}
 use Rattle.mvrlu.specs.Meant.{seat_of, handled}
-use Rattle.script_domain.specs.New.{AreNewFrom}
-use Rattle.script_domain.proofs.Seats.{new_own, new_may_hold, left_for}
-use Rattle.pool_domain.proofs.Scripts.{took_length}
+use Rattle.domain_run.specs.New.{AreNewFrom}
+use Rattle.domain_run.proofs.Seats.{new_own, new_may_hold, left_for}
+use Rattle.pool_domain.proofs.OnePool.{all_went_on}
 use Rattle.pool_domain.proofs.running.run_seats.Goals as goal
 
 -- the seats are of the domain, and their handles are as many and may hold what a command locks
 pub lend_all-requires : goal.lend_all-requires
-lend_all-requires g c = record { own = new_own c.args.domain.now 0 c.args.seats.items c.requires.new }
+lend_all-requires g c = record { own = new_own c.args.domain.now c.args.seats.items c.requires.new }
 
 pub run_pool-requires-clause-some : goal.run_pool-requires-clause-some
 run_pool-requires-clause-some g c κs within =
@@ -39,5 +39,5 @@ run_pool-requires-clause-most g c κs within =
 pub take_back-seats-requires : goal.take_back-seats-requires
 take_back-seats-requires g c = record {
   left = left_for c.in_ok-handles.left c.in_ok-handles.handles.items c.in-Ok.handles.items
-      (took_length _ _ _ _ c.in-Ok.ensures.pool.each) c.in_ok-handles.ensures.left;
+      (all_went_on _ _ _ _ c.in-Ok.ensures.pool) c.in_ok-handles.ensures.left;
 }

@@ -1,0 +1,16 @@
+-- A block that changes nothing is of a section that its own attempt entered.
+use Rattle.std.proofs.Common.{ℕ, List}
+use Rattle.mv_history.specs.Meaning.{Seat}
+use Rattle.set_script.specs.declared.commands.Command.{Command}
+use Rattle.section_work.specs.declared.place.Place.TheVariants.{Read}
+use Rattle.set_script.specs.declared.commands.Reply.{Reply}
+use Rattle.section_work.specs.Causes.{Causes}
+use Rattle.work_runner.specs.Tries.{IsEnteredBetween}
+use Rattle.work_runner.proofs.Tries.{entered_fresh}
+use Rattle.block_workers.specs.BlockLinks.{LinkedBlock}
+
+-- No such block is older than what its seat had seen when it began.
+pub linked_fresh : (k : Causes) (s t : Seat) (block : List Command) (time : ℕ) (answers : List Reply) → LinkedBlock k s t block (Read time) answers
+    → IsEnteredBetween k s t time
+linked_fresh k s t block time answers l =
+    let r = l.1.attempted in entered_fresh k l.1.from t r.before r.entered time r.comes r.enters r.time_is s l.1.none

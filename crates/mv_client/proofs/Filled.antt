@@ -108,8 +108,10 @@ module _ {Open T : Type 0} (k : Causes) (section : Open → InSection) (gives : 
   updated_exchanges new (Again (Rival rival)) u = λ told.
       let first = filled_continues _ u.1.left u.1.filled in
       let tried = u.1.as_before.seat.continues in
-      rw (exchanges_before (Continues-Continues first tried) u.1.leaves.continues (leaves_none _ new u.1.leaves),
-      exchanges_after first tried (filled_quiet _ u.1.left u.1.filled)) (u.1.lost told)
+      rw (
+        exchanges_before (Continues-Continues first tried) u.1.leaves.continues (leaves_none _ new u.1.leaves),
+        exchanges_after first tried (filled_quiet _ u.1.left u.1.filled),
+      ) (u.1.lost told)
   updated_exchanges new (Again (LogFull holder)) u = u.prepares.names_no_commit
   updated_exchanges new End u = tt
 

@@ -32,6 +32,8 @@
 
 mod beginning;
 mod holding;
+#[cfg(test)]
+mod tests;
 mod updating;
 
 pub use beginning::{begin, read};

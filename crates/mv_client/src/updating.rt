@@ -14,6 +14,7 @@ use std::sync::Wait;
 use std::thread;
 
 /// What an update comes to.
+#[derive(Drop)]
 pub enum Outcome<T> {
     /// It took place there, with this reply: as the commit of that time, or, where nothing was to be committed, as a read.
     Done { reply: T, place: Place },

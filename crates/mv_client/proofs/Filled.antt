@@ -6,7 +6,7 @@ use Rattle.std.proofs.lemmas.List.{append-nil}
 use denote.Ref.{MutBor}
 use Rattle.core.specs.Fn.{Shared}
 use Rattle.mv_history.specs.Meaning.{Seat, InSection, IsWorn, IsSection, state_of, snapshot_of, words_at, Lacks}
-use Rattle.mv_history.specs.Calls.{Continues, Enters, GoesOn, Prepares, IsAsBefore, Leaves, NamesNoCommit, call_trail, commit_by}
+use Rattle.mv_history.specs.Calls.{Continues, Enters, GoesOn, Prepares, IsAsBefore, NamesNoCommit, call_trail, commit_by}
 use Rattle.mv_history.specs.Trail.{commit_exchanges}
 use Rattle.mv_history.specs.State.{State, Writes, touches}
 use Rattle.mv_history.specs.Drift.{IsFit}
@@ -20,7 +20,7 @@ use Rattle.section_work.specs.declared.causes.Cause.{Cause}
 use Rattle.section_work.specs.declared.causes.Cause.TheVariants.{Lock, Rival, LogFull}
 use Rattle.section_work.specs.declared.place.Place.{Place}
 use Rattle.section_work.specs.declared.place.Place.TheVariants.{Commit as AtCommit, Read}
-use Rattle.section_work.specs.declared.work.Decision.TheVariants.{Settled, Change}
+use Rattle.section_work.specs.declared.work.Decision.TheVariants.{Change}
 use Rattle.mv_client.specs.declared.updating.Outcome.{Outcome}
 use Rattle.mv_client.specs.declared.updating.Outcome.TheVariants.{Done, Again, End}
 use Rattle.mv_client.proofs.Fits.{fit_by_held}

@@ -1,5 +1,5 @@
 -- What updates and reads leave, by their answers.
-use Rattle.std.specs.Prelude.{◌≡◌, ℕ, ◌+◌, ◌-◌, ◌<◌, ◌≤◌, List, [], length, Result, Ok, Err, Option, Some, None, ⊤}
+use Rattle.std.specs.Prelude.{◌≡◌, ℕ, ◌+◌, ◌-◌, ◌<◌, ◌≤◌, List, length, Result, Ok, Err, Option, Some, None, ⊤}
 use Rattle.mv_history.specs.State.{State, Writes}
 use Rattle.mv_history.specs.Drift.{IsFit}
 use Rattle.mv_history.specs.declared.answers.Holder.{Holder}

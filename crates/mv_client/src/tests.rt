@@ -5,7 +5,7 @@ ghost use Rattle.mv_history.specs.Calls.{Continues};
 ghost use Rattle.section_work.specs.Attempts.{HasSpace};
 ghost use Rattle.mv_client.specs.Updates.{Filled};
 
-use crate::{Outcome, put, read, update, update_at_most, update_until};
+use crate::{Outcome, begin, lock_all, put, read, update, update_at_most, update_until};
 use mv_history::{AnyRules, PlainStore, Section, Store, Tag, View, Words};
 use section_work::{Cause, Decision, Place, Refusal};
 use std::alloc::{AllocError, Global};
@@ -66,6 +66,21 @@ fn look<S: Store<Rules = AnyRules>>(store: S) -> (S, Words)
             ensures only_reads { S.Open.as_before section.old section.new }
         { section.read(0) },
     )
+}
+
+// How many objects a section holds that locked object 0 twice, and what it reads there.
+fn hold_twice<S: Store<Rules = AnyRules>>(store: S) -> (S, u32, Words)
+    requires object { 0 < length (S.seat_of store).start }
+    requires write_max { 2 ≤ (S.seat_of store).write_max }
+    requires spare { 2 ≤ (S.seat_of store).spare }
+{
+    let mut section = begin(store);
+    let held = match lock_all(&mut section, &[0, 0]) {
+        Ok(()) => section.held(),
+        Err(_) => 0,
+    };
+    let words = section.read(0);
+    (section.abort(), held, words)
 }
 
 // One update that counts.
@@ -142,6 +157,14 @@ fn give_up<S: Store<Rules = AnyRules>>(store: S, tries: u32, refusal: Refusal) -
 #[test]
 fn a_read_has_the_opening_words(rt: HostRuntime) -> Result<(), Fail> {
     let (_store, words) = look(open(rt.alloc(), 1)?);
+    assert_eq!(rt; words, counted(7));
+    Ok(())
+}
+
+#[test]
+fn a_lock_holds_an_object_once_and_keeps_its_words(rt: HostRuntime) -> Result<(), Fail> {
+    let (_store, held, words) = hold_twice(open(rt.alloc(), 1)?);
+    assert_eq!(rt; held, 1);
     assert_eq!(rt; words, counted(7));
     Ok(())
 }

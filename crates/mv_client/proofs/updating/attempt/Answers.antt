@@ -1,4 +1,4 @@
-use Rattle.std.proofs.Common.{◌≡◌, ◌-◌, ap, ◌∙◌, refl, subst, Ok}
+use Rattle.std.proofs.Common.{◌-◌, ap, ◌∙◌, refl, subst, Ok}
 use Rattle.mv_history.specs.Meaning.{Seat}
 use Rattle.mv_history.specs.Trail.{commit_exchanges, IsOneWon}
 use Rattle.mv_history.specs.Calls.{call_trail, Leaves, Commits}

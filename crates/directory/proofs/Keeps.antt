@@ -1,68 +1,64 @@
--- Moves keep the directory.
-use Rattle.std.proofs.Common.{◌≡◌, ◌≢◌, ℕ, ◌+◌, ◌<◌, ◌≤◌, List, [], ◌∷◌, length, set, refl, sym, ap, ◌∙◌, arith, length-set, get_or-set_same, get_or-set_other}
-use Rattle.directory.specs.declared.rules.TheConstants.{OBJECTS, SHELVES}
+-- Moves keep the directory, and what its objects say beside their links.
+use Rattle.std.proofs.Common.{◌≡◌, ◌≢◌, ℕ, ◌<◌, true, List, [], ◌∷◌, get_or, refl, sym, ap, subst, inl, inr, ◌⊎◌, arith}
+use Rattle.std.proofs.lemmas.Bool.{cases_eq}
+use Rattle.std.proofs.lemmas.Bool.Decides.{nat_tests}
+use Rattle.directory.specs.declared.rules.TheConstants.{OBJECTS}
 use Rattle.mv_history.specs.State.{State, Writes, written}
+use Rattle.mv_history.specs.Legal.{are_distinct}
 use Rattle.mv_history.specs.Meaning.{words_at}
-use Rattle.mv_history.proofs.Writing.{length-written}
+use Rattle.mv_history.proofs.Writing.{length-written, words-written_same, words-written_other}
 use Rattle.mv_client.specs.Invariants.{IsKept}
-use Rattle.directory.specs.Ring.{link_of, linked, next_of, IsRing, IsDirectory}
+use Rattle.directory.specs.Ring.{link_of, details_of, linked, next_of, IsDirectory}
 use Rattle.directory.specs.Moves.{before_in, user_in, shelf_in, IsMove}
 use Rattle.directory.proofs.Moved.{moved}
 
-next_set : (s : State) (a : ℕ) (w : List ℕ) → a < length s → next_of (set s a w) a ≡ link_of w
-next_set s a w l = ap link_of (get_or-set_same s a w [] l)
+pub three_distinct : (a b c : ℕ) (x y z : List ℕ) → a ≢ b → a ≢ c → b ≢ c → are_distinct ((a, x) ∷ (b, y) ∷ (c, z) ∷ []) ≡ true
+three_distinct a b c x y z ab ac bc = grind (arith, nat_tests)
 
-next_other : (s : State) (a o : ℕ) (w : List ℕ) → o ≢ a → next_of (set s a w) o ≡ next_of s o
-next_other s a o w n = ap link_of (get_or-set_other s a o w [] n)
+module _ {tag : List ℕ} {s : State} {ws : Writes} (m : IsMove tag s ws) where
+  abbrev first : List ℕ
+  first = linked (words_at s (before_in tag)) (next_of s (user_in tag))
 
--- the links after three objects were written
-module _ (s : State) (p u h : ℕ) (w1 w2 w3 : List ℕ) (lp : p < length s) (lu : u < length s) (lh : h < length s) (pu : p ≢ u) (ph : p ≢ h) (uh : u ≢ h) where
-  abbrev one : State
-  one = set s p w1
+  abbrev second : List ℕ
+  second = linked (words_at s (user_in tag)) (next_of s (shelf_in tag))
 
-  abbrev two : State
-  two = set one u w2
+  abbrev third : List ℕ
+  third = linked (words_at s (shelf_in tag)) (user_in tag)
 
-  at_h : next_of (set two h w3) h ≡ link_of w3
-  at_h = next_set two h w3 (omega (arith, length-set one u w2, length-set s p w1))
+  abbrev plan : Writes
+  plan = (before_in tag, first) ∷ (user_in tag, second) ∷ (shelf_in tag, third) ∷ []
 
-  at_u : next_of (set two h w3) u ≡ link_of w2
-  at_u = next_other two h u w3 uh ∙ next_set one u w2 (omega (arith, length-set s p w1))
+  user_shelf : user_in tag ≢ shelf_in tag
+  user_shelf e = omega (arith, e, m.user, m.shelf)
 
-  at_p : next_of (set two h w3) p ≡ link_of w1
-  at_p = next_other two h p w3 ph ∙ next_other one u p w2 pu ∙ next_set s p w1 lp
+  -- what each of the three objects has, and each other one
+  at : (i : ℕ) → i < 3 → (get_or plan i (0, [])).0 < OBJECTS
+      → words_at (written s ws) (get_or plan i (0, [])).0 ≡ (get_or plan i (0, [])).1
+  at i l b =
+      let distinct : are_distinct plan ≡ true = three_distinct (before_in tag) (user_in tag) (shelf_in tag) first second third m.other m.apart user_shelf in
+      rw m.moves (words-written_same s plan i (get_or plan i (0, [])).0 (0, []) distinct l refl (omega (arith, m.many, b)))
 
-  at_others : (o : ℕ) → o ≢ p → o ≢ u → o ≢ h → next_of (set two h w3) o ≡ next_of s o
-  at_others o np nu nh = next_other two h o w3 nh ∙ next_other one u o w2 nu ∙ next_other s p o w1 np
+  at_other : (o : ℕ) → o ≢ before_in tag → o ≢ user_in tag → o ≢ shelf_in tag → words_at (written s ws) o ≡ words_at s o
+  at_other o a b c = rw m.moves (words-written_other s plan o (grind (arith, nat_tests)))
+
+  pub details_move : (o : ℕ) → details_of (words_at (written s ws) o) ≡ details_of (words_at s o)
+  details_move o = go (cases_eq o (before_in tag)) (cases_eq o (user_in tag)) (cases_eq o (shelf_in tag))
+    where
+      of : (x : ℕ) → o ≡ x → details_of (words_at (written s ws) x) ≡ details_of (words_at s x)
+          → details_of (words_at (written s ws) o) ≡ details_of (words_at s o)
+      of x e same = subst (λ k. details_of (words_at (written s ws) k) ≡ details_of (words_at s k)) (sym e) same
+
+      go : (o ≡ before_in tag) ⊎ (o ≢ before_in tag) → (o ≡ user_in tag) ⊎ (o ≢ user_in tag) → (o ≡ shelf_in tag) ⊎ (o ≢ shelf_in tag)
+          → details_of (words_at (written s ws) o) ≡ details_of (words_at s o)
+      go (inl e) b c = of (before_in tag) e (ap details_of (at 0 (omega arith) m.from))
+      go a (inl e) c = of (user_in tag) e (ap details_of (at 1 (omega arith) m.below))
+      go a b (inl e) = of (shelf_in tag) e (ap details_of (at 2 (omega arith) (omega (arith, m.shelf))))
+      go (inr a) (inr b) (inr c) = ap details_of (at_other o a b c)
+
+  keeps_ring : IsDirectory s → IsDirectory (written s ws)
+  keeps_ring d = (_, moved s (written s ws) d.0 d.1 (before_in tag) (user_in tag) (shelf_in tag) m.from m.below (omega (arith, m.shelf)) m.apart user_shelf
+      (λ e. omega (arith, e, m.user)) m.here (ap link_of (at 0 (omega arith) m.from)) (ap link_of (at 1 (omega arith) m.below))
+      (ap link_of (at 2 (omega arith) (omega (arith, m.shelf)))) (λ o a b c. ap link_of (at_other o a b c)) (length-written s ws))
 
 pub move_keeps : IsKept IsMove IsDirectory
-move_keeps tag s ws m d =
-    let r = d.1 in
-    let p : ℕ = before_in tag in
-    let u : ℕ = user_in tag in
-    let h : ℕ = shelf_in tag in
-    let w1 : List ℕ = linked (words_at s p) (next_of s u) in
-    let w2 : List ℕ = linked (words_at s u) (next_of s h) in
-    let w3 : List ℕ = linked (words_at s h) u in
-    let uh : u ≢ h = λ e. omega (arith, e, m.user, m.shelf) in
-    let lp : p < length s = omega (arith, m.from, r.many) in
-    let lu : u < length s = omega (arith, m.below, r.many) in
-    let lh : h < length s = omega (arith, m.shelf, r.many) in
-    let after : (o : ℕ) → next_of (written s ws) o ≡ next_of (set (set (set s p w1) u w2) h w3) o = λ o.
-    ap (λ (v : Writes). next_of (written s v) o) m.moves in
-    let result =
-    moved (next_of s) (next_of (written s ws)) p u h m.other m.apart uh (λ e. omega (arith, e, m.user))
-    (after p ∙ at_p s p u h w1 w2 w3 lp lu lh m.other m.apart uh) (after u ∙ at_u s p u h w1 w2 w3 lp lu lh m.other m.apart uh)
-    (after h ∙ at_h s p u h w1 w2 w3 lp lu lh m.other m.apart uh)
-    (λ o np nu nh. after o ∙ at_others s p u h w1 w2 w3 lp lu lh m.other m.apart uh o np nu nh)
-    d.0 r.leads m.here (r.once p m.from) (r.once u m.below) (r.once h (omega (arith, m.shelf))) in (
-      result.0,
-      record {
-        many = length-written s ws ∙ r.many;
-        leads = result.1;
-        starts = result.2 ∙ r.starts;
-        long = result.4 ∙ r.long;
-        once = λ o l. result.3 o ∙ r.once o l;
-        within = λ o l. result.3 o ∙ r.within o l;
-      },
-    )
+move_keeps tag s ws m d = keeps_ring m d

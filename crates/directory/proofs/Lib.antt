@@ -1,8 +1,7 @@
-mod Lists
+pub mod Rings
 mod Moved
 pub mod Keeps
 pub mod Opens
 mod Walks
-pub mod Places
 mod Planned
 pub mod Seeing

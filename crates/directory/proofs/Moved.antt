@@ -1,98 +1,144 @@
 -- A ring from which one object is taken and put elsewhere.
-use Rattle.std.proofs.Common.{◌≡◌, ◌≢◌, ℕ, ◌+◌, ◌<◌, cond, eqb, List, [], ◌∷◌, ◌++◌, length, refl, sym, ap, subst, ◌∙◌, arith, length-append, inl, inr}
+use Rattle.std.proofs.Common.{◌≡◌, ◌≢◌, ℕ, ◌+◌, ◌-◌, ◌<◌, ◌≤◌, length, min, cond, eqb, refl, sym, ap, subst, ◌∙◌, inl, inr, ◌⊎◌, arith}
 use Rattle.std.proofs.lemmas.Bool.{cases_eq}
 use Rattle.std.proofs.lemmas.Bool.Decides.{nat_tests}
-use Rattle.directory.specs.Ring.{first_or, Leads, times}
-use Rattle.directory.proofs.Lists.{times-same, times-apart, times-append, split_times, apart_from, first_append, leads_split, leads_join, leads_same}
+use Rattle.directory.specs.declared.rules.TheConstants.{OBJECTS}
+use Rattle.mv_history.specs.State.{State}
+use Rattle.directory.specs.Ring.{next_of, Follows, IsRing}
+use Rattle.directory.proofs.Rings.{apart}
 
--- the object of which the links say that it comes next
-next_one : (n : ℕ → ℕ) (p u : ℕ) (xs : List ℕ) → Leads n (p ∷ xs) 0 → n p ≡ u → u ≢ 0 → (back : List ℕ) × (xs ≡ u ∷ back)
-next_one n p u [] h e some = absurd (some (sym e ∙ h.0))
-next_one n p u (x ∷ xs) h e some = (xs, ap (λ (y : ℕ). y ∷ xs) (sym h.0 ∙ e))
+-- the place of what stood at i, once place k is empty
+abbrev closed : ℕ → ℕ → ℕ
+closed k i = i - min 1 (i - k)
 
--- The objects before and behind one that is in a list once aren't it.
-around : (x : ℕ) (front back : List ℕ) → times x (front ++ x ∷ back) ≡ 1 → (times x front ≡ 0) × (times x back ≡ 0)
-around x front back once =
-    let a = times-append x front (x ∷ back) in let b = times-same x x back refl in (omega (arith, a, b, once), omega (arith, a, b, once))
+-- the place of what stood at i, once another stands behind place j
+abbrev opened_behind : ℕ → ℕ → ℕ
+opened_behind j i = i + min 1 (i - j)
 
--- An object is taken out behind p: p gets its link.
-taken : (n m : ℕ → ℕ) (p u z : ℕ) (front back : List ℕ) → times p (front ++ p ∷ u ∷ back) ≡ 1 → p ≢ u → m p ≡ n u → ((o : ℕ) → o ≢ p → m o ≡ n o)
-    → Leads n (front ++ p ∷ u ∷ back) z → Leads m (front ++ p ∷ back) z
-taken n m p u z front back once apart mp others h =
-    let parts = leads_split n front (p ∷ u ∷ back) z h in
-    let none = around p front (u ∷ back) once in
-    let behind : times p back ≡ 0 = let e = times-apart u p back (λ e. apart (sym e)) in omega (arith, e, none.1) in
-    leads_join m front (p ∷ back) z (leads_same n m front p (λ o some. others o (apart_from o p front none.0 some)) parts.0)
-    (mp ∙ parts.1.1.0, leads_same n m back z (λ o some. others o (apart_from o p back behind some)) parts.1.1.1)
+closed_one : (k i l : ℕ) → i ≢ k → l ≢ k → closed k i ≡ closed k l → i ≡ l
+closed_one k i l a b e = omega (arith, a, b, e)
 
--- An object is put in behind h: it gets h's link, and h leads to it.
-put_in : (n m : ℕ → ℕ) (h u z : ℕ) (front back : List ℕ) → times h (front ++ h ∷ back) ≡ 1 → times u (front ++ h ∷ back) ≡ 0 → m h ≡ u → m u ≡ n h
-    → ((o : ℕ) → o ≢ h → o ≢ u → m o ≡ n o) → Leads n (front ++ h ∷ back) z → Leads m (front ++ h ∷ u ∷ back) z
-put_in n m h u z front back once none mh mu others l =
-    let parts = leads_split n front (h ∷ back) z l in
-    let here = around h front back once in
-    let a = times-append u front (h ∷ back) in
-    let ahead : times u front ≡ 0 = omega (arith, a, none) in
-    let behind : times u back ≡ 0 = omega (arith, a, none) in
-    leads_join m front (h ∷ u ∷ back) z
-    (leads_same n m front h (λ o some. others o (apart_from o h front here.0 some) (apart_from o u front ahead some)) parts.0)
-    (mh, (mu ∙ parts.1.0, leads_same n m back z (λ o some. others o (apart_from o h back here.1 some) (apart_from o u back behind some)) parts.1.1))
+closed_next : (k i : ℕ) → i ≢ k → i + 1 ≢ k → closed k (i + 1) ≡ closed k i + 1
+closed_next k i a b = omega (arith, a, b)
 
--- what a list counts with one object more in it
-times-more : (o x : ℕ) (front back : List ℕ) → times o (front ++ x ∷ back) ≡ times o (x ∷ []) + times o (front ++ back)
-times-more o x front back = omega (arith, times-append o front (x ∷ back), times-append o front back)
+closed_last : (k i n : ℕ) → i ≢ k → k < n → i + 1 ≡ n → closed k i + 2 ≡ n
+closed_last k i n a l e = omega (arith, a, l, e)
 
-first_mid : (front back more : List ℕ) (x z : ℕ) → first_or (front ++ x ∷ back) z ≡ first_or (front ++ x ∷ more) z
-first_mid [] back more x z = refl
-first_mid (y ∷ front) back more x z = refl
+closed_below : (k i n : ℕ) → i ≢ k → i < n → k < n → closed k i + 1 < n
+closed_below k i n a l m = omega (arith, a, l, m)
+
+open_last : (j i n : ℕ) → i ≢ j → j + 1 < n → i + 2 ≡ n → opened_behind j i + 1 ≡ n
+open_last j i n a l e = omega (arith, a, l, e)
+
+open_one : (j i l : ℕ) → opened_behind j i ≡ opened_behind j l → i ≡ l
+open_one j i l e = omega (arith, e)
+
+open_next : (j i : ℕ) → i ≢ j → opened_behind j (i + 1) ≡ opened_behind j i + 1
+open_next j i a = omega (arith, a)
+
+test_same : (o a b : ℕ) → cond (eqb o o) a b ≡ a
+test_same o a b = grind (arith, nat_tests)
+
+test_other : (o u a b : ℕ) → o ≢ u → cond (eqb o u) a b ≡ b
+test_other o u a b n = grind (arith, nat_tests)
 
 -- The ring after a move: u is taken from behind p and put behind h.
-module _ (n m : ℕ → ℕ) (p u h : ℕ) (pu : p ≢ u) (ph : p ≢ h) (uh : u ≢ h) (some : u ≢ 0) (mp : m p ≡ n u) (mu : m u ≡ n h) (mh : m h ≡ u)
-    (others : (o : ℕ) → o ≢ p → o ≢ u → o ≢ h → m o ≡ n o) (ring : List ℕ) (leads : Leads n ring 0) (here : n p ≡ u)
-    (once_p : times p ring ≡ 1) (once_u : times u ring ≡ 1) (once_h : times h ring ≡ 1) where
-  -- the links once u is taken out
-  abbrev between : ℕ → ℕ
-  between o = cond (eqb o p) (n u) (n o)
+module _ (s t : State) (place : ℕ → ℕ) (r : IsRing s place) (p u h : ℕ) (lp : p < OBJECTS) (lu : u < OBJECTS) (lh : h < OBJECTS)
+    (ph : p ≢ h) (uh : u ≢ h) (some : u ≢ 0) (here : next_of s p ≡ u) (mp : next_of t p ≡ next_of s u) (mu : next_of t u ≡ next_of s h)
+    (mh : next_of t h ≡ u) (others : (o : ℕ) → o ≢ p → o ≢ u → o ≢ h → next_of t o ≡ next_of s o) where
+  abbrev j : ℕ
+  j = closed (place u) (place h)
 
-  between_p : between p ≡ n u
-  between_p = grind (arith, nat_tests)
+  abbrev moved_to : ℕ → ℕ
+  moved_to o = cond (eqb o u) (j + 1) (opened_behind j (closed (place u) (place o)))
 
-  between_other : (o : ℕ) → o ≢ p → between o ≡ n o
-  between_other o e = grind (arith, nat_tests)
+  at_u : moved_to u ≡ j + 1
+  at_u = test_same u _ _
 
-  pub moved : (result : List ℕ) × Leads m result 0 × (first_or result 1 ≡ first_or ring 1) × ((o : ℕ) → times o result ≡ times o ring)
-      × (length result ≡ length ring)
-  moved =
-      let a = split_times p ring (omega (arith, once_p)) in
-      let la : Leads n (a.0 ++ p ∷ a.1) 0 = subst (λ (r : List ℕ). Leads n r 0) a.2 leads in
-      let b = next_one n p u a.1 (leads_split n a.0 (p ∷ a.1) 0 la).1 here some in
-      let is : ring ≡ a.0 ++ p ∷ u ∷ b.0 = a.2 ∙ ap (λ (r : List ℕ). a.0 ++ p ∷ r) b.1 in
-      let left : List ℕ = a.0 ++ p ∷ b.0 in
-      let count : (o : ℕ) → times o ring ≡ times o (u ∷ []) + times o left = λ o.
-      ap (times o) is ∙ omega (arith, times-append o a.0 (p ∷ u ∷ b.0), times-append o a.0 (p ∷ b.0)) in
-      let l = taken n between p u 0 a.0 b.0 (sym (ap (times p) is) ∙ once_p) pu between_p between_other (subst (λ (r : List ℕ). Leads n r 0) is leads) in
-      let h_left : times h left ≡ 1 = let e = times-apart u h [] uh in omega (arith, count h, once_h, e) in
-      let u_left : times u left ≡ 0 = let e = times-same u u [] refl in omega (arith, count u, once_u, e) in
-      let c = split_times h left (omega (arith, h_left)) in
-      let r = put_in between m h u 0 c.0 c.1 (sym (ap (times h) c.2) ∙ h_left) (sym (ap (times u) c.2) ∙ u_left) mh
-      (mu ∙ sym (between_other h (λ e. ph (sym e))))
-      (λ o nh nu. elim (cases_eq o p) [
-        | inl e ↦ ap m e ∙ mp ∙ sym (ap between e ∙ between_p)
-        | inr np ↦ others o np nu nh ∙ sym (between_other o np)
+  at_other : (o : ℕ) → o ≢ u → moved_to o ≡ opened_behind j (closed (place u) (place o))
+  at_other o n = test_other o u _ _ n
+
+  -- u stands behind p
+  behind : place u ≡ place p + 1
+  behind = elim (r.follows p lp) [
+    | inl back ↦ absurd (some (sym here ∙ back.0))
+    | inr on ↦ ap place (sym here) ∙ on.1
+  ]
+
+  not_j : (o : ℕ) → o < OBJECTS → o ≢ u → o ≢ h → closed (place u) (place o) ≢ j
+  not_j o l nu nh q =
+      apart r o h l lh nh (closed_one (place u) (place o) (place h) (apart r o u l lu nu) (apart r h u lh lu (λ w. uh (sym w))) q)
+
+  -- an object that was followed by another than u, or by what followed u, is followed by it at the next place
+  goes_to : (o x : ℕ) → o < OBJECTS → o ≢ u → o ≢ h → next_of t o ≡ x
+      → ((x ≡ 0) × (closed (place u) (place o) + 2 ≡ OBJECTS)) ⊎ ((x < OBJECTS) × (x ≢ u) × (closed (place u) (place x) ≡ closed (place u) (place o) + 1))
+      → Follows (next_of t) moved_to o
+  goes_to o x l nu nh e (inl back) =
+      let most = closed_below (place u) (place h) OBJECTS (apart r h u lh lu (λ q. uh (sym q))) (r.below h lh) (r.below u lu) in
+      inl (e ∙ back.0, ap (λ (n : ℕ). n + 1) (at_other o nu) ∙ open_last j (closed (place u) (place o)) OBJECTS (not_j o l nu nh) most back.1)
+  goes_to o x l nu nh e (inr on) =
+      inr (subst (λ y. (y < OBJECTS) × (moved_to y ≡ moved_to o + 1)) (sym e) (on.0,
+        at_other x on.1 ∙ ap (opened_behind j) on.2 ∙ open_next j (closed (place u) (place o)) (not_j o l nu nh)
+            ∙ ap (λ (n : ℕ). n + 1) (sym (at_other o nu))))
+
+  follows : (o : ℕ) → o < OBJECTS → Follows (next_of t) moved_to o
+  follows o l = go (cases_eq o u) (cases_eq o h) (cases_eq o p)
+    where
+      go : (o ≡ u) ⊎ (o ≢ u) → (o ≡ h) ⊎ (o ≢ h) → (o ≡ p) ⊎ (o ≢ p) → Follows (next_of t) moved_to o
+      go (inl e) b c = subst (Follows (next_of t) moved_to) (sym e) (elim (r.follows h lh) [
+        | inl back ↦ inl (mu ∙ back.0, ap (λ (n : ℕ). n + 1) at_u
+            ∙ omega (arith, closed_last (place u) (place h) OBJECTS (apart r h u lh lu (λ q. uh (sym q))) (r.below u lu) back.1))
+        | inr on ↦
+            let nu : next_of s h ≢ u = λ q. ph (r.own p h lp lh (let a = ap place q in omega (arith, a, on.1, behind))) in
+            let k = apart r (next_of s h) u on.0 lu nu in
+            let c = closed_next (place u) (place h) (apart r h u lh lu (λ q. uh (sym q))) (λ q. k (on.1 ∙ q)) in
+            inr (subst (λ y. (y < OBJECTS) × (moved_to y ≡ moved_to u + 1)) (sym mu) (on.0,
+              at_other (next_of s h) nu ∙ ap (λ (i : ℕ). opened_behind j (closed (place u) i)) on.1 ∙ ap (opened_behind j) c
+                  ∙ (let z : opened_behind j (j + 1) ≡ j + 1 + 1 = omega arith in z) ∙ ap (λ (n : ℕ). n + 1) (sym at_u)))
       ])
-      (subst (λ (r : List ℕ). Leads between r 0) c.2 l) in (
-        c.0 ++ h ∷ u ∷ c.1,
-        r,
-        first_mid c.0 (u ∷ c.1) c.1 h 1 ∙ sym (ap (λ (r : List ℕ). first_or r 1) c.2) ∙ first_mid a.0 b.0 (u ∷ b.0) p 1
-            ∙ sym (ap (λ (r : List ℕ). first_or r 1) is),
-        λ o. omega (arith, count o, ap (times o) c.2, times-append o c.0 (h ∷ u ∷ c.1), times-append o c.0 (h ∷ c.1)),
-        omega (
-          arith,
-          ap length is,
-          ap length c.2,
-          length-append a.0 (p ∷ u ∷ b.0),
-          length-append a.0 (p ∷ b.0),
-          length-append c.0 (h ∷ u ∷ c.1),
-          length-append c.0 (h ∷ c.1),
-        ),
-      )
+      go (inr n) (inl e) c = subst (Follows (next_of t) moved_to) (sym e)
+          (inr (subst (λ y. (y < OBJECTS) × (moved_to y ≡ moved_to h + 1)) (sym mh)
+          (lu, at_u ∙ ap (λ (n : ℕ). n + 1) (sym (at_other h (λ q. uh (sym q)) ∙ (let z : opened_behind j j ≡ j = omega arith in z))))))
+      go (inr n) (inr m) (inl e) = goes_to o (next_of s u) l n m (ap (next_of t) e ∙ mp) (elim (r.follows u lu) [
+        | inl back ↦ let q = ap place e in inl (back.0, omega (arith, q, behind, back.1))
+        | inr on ↦
+            let q = ap place e in
+            inr (on.0, (λ w. let z = ap place w in omega (arith, z, on.1)), omega (arith, q, behind, on.1))
+      ])
+      go (inr n) (inr m) (inr k) = goes_to o (next_of s o) l n m (others o k n m) (elim (r.follows o l) [
+        | inl back ↦ inl (back.0, closed_last (place u) (place o) OBJECTS (apart r o u l lu n) (r.below u lu) back.1)
+        | inr on ↦
+            let nu : next_of s o ≢ u = λ q. k (r.own o p l lp (let a = ap place q in omega (arith, a, on.1, behind))) in
+            let d = apart r (next_of s o) u on.0 lu nu in
+            inr (on.0, nu, ap (closed (place u)) on.1 ∙ closed_next (place u) (place o) (apart r o u l lu n) (λ q. d (on.1 ∙ q)))
+      ])
+
+  own : (a b : ℕ) → a < OBJECTS → b < OBJECTS → moved_to a ≡ moved_to b → a ≡ b
+  own a b la lb e = go (cases_eq a u) (cases_eq b u)
+    where
+      go : (a ≡ u) ⊎ (a ≢ u) → (b ≡ u) ⊎ (b ≢ u) → a ≡ b
+      go (inl x) (inl y) = x ∙ sym y
+      go (inl x) (inr y) = absurd (let z = sym at_u ∙ ap moved_to (sym x) ∙ e ∙ at_other b y in omega (arith, z))
+      go (inr x) (inl y) = absurd (let z = sym at_u ∙ ap moved_to (sym y) ∙ sym e ∙ at_other a x in omega (arith, z))
+      go (inr x) (inr y) =
+          r.own a b la lb (closed_one (place u) (place a) (place b) (apart r a u la lu x) (apart r b u lb lu y)
+          (open_one j (closed (place u) (place a)) (closed (place u) (place b)) (sym (at_other a x) ∙ e ∙ at_other b y)))
+
+  below : (o : ℕ) → o < OBJECTS → moved_to o < OBJECTS
+  below o l = elim (cases_eq o u) [
+    | inl e ↦ let z = ap moved_to e ∙ at_u in let k = apart r h u lh lu (λ q. uh (sym q)) in
+        let a = r.below h lh in let b = r.below u lu in omega (arith, z, k, a, b)
+    | inr n ↦ let z = at_other o n in let k = apart r o u l lu n in let a = r.below o l in let b = r.below u lu in omega (arith, z, k, a, b)
+  ]
+
+  pub moved : length t ≡ length s → IsRing t moved_to
+  moved many = record {
+    many = many ∙ r.many;
+    first = elim (cases_eq u 0) [
+      | inl e ↦ absurd (some e)
+      | inr n ↦ at_other 0 (λ q. n (sym q)) ∙ (let z = r.first in omega (arith, z))
+    ];
+    below = below;
+    own = own;
+    follows = follows;
+  }

@@ -1,5 +1,5 @@
 -- What a move plans in a section that holds nothing.
-use Rattle.std.proofs.Common.{◌≡◌, ◌≢◌, ℕ, ◌-◌, ◌<◌, ◌≤◌, true, List, [], ◌∷◌, length, refl, sym, ap, ◌∙◌, inl, inr, ◌⊎◌, subst, arith}
+use Rattle.std.proofs.Common.{◌≡◌, ◌≢◌, ℕ, zero, suc, ◌-◌, ◌<◌, ◌≤◌, true, List, [], ◌∷◌, length, refl, sym, ap, ◌∙◌, inl, inr, ◌⊎◌, subst, arith}
 use Rattle.std.proofs.lemmas.Bool.{cases_eq}
 use Rattle.std.proofs.lemmas.Bool.Decides.{nat_tests}
 use Rattle.mv_history.specs.State.{State, Writes, touches}
@@ -15,9 +15,9 @@ use Rattle.directory.specs.declared.moving.Found.TheVariants.{Away}
 use Rattle.directory.specs.Ring.{link_of, linked, next_of, IsUser, IsRing, IsOn, IsDirectory}
 use Rattle.directory.specs.Searches.{IsBefore}
 use Rattle.directory.specs.Moves.{IsOpening, before_in, user_in, shelf_in, IsMove, IsMoving, move_meaning, tag_of_plan}
-use Rattle.directory.proofs.Keeps.{move_keeps}
+use Rattle.directory.proofs.Keeps.{three_distinct, move_keeps}
 use Rattle.directory.proofs.Opens.{opened}
-use Rattle.directory.proofs.Places.{placed}
+use Rattle.directory.proofs.Rings.{placed}
 
 -- what a section reads that holds nothing is a directory
 pub directory_read : (s : InSection) (u : State) → u ≡ state_of s → s.own ≡ [] → IsSection IsOpening IsMove s → IsDirectory u
@@ -30,14 +30,9 @@ other_below shelf l = omega (arith, l)
 
 -- a user that isn't on the one shelf is on the other
 pub there : (s : State) (shelf user : ℕ) → IsDirectory s → IsMoving user shelf → (IsOn s (1 - shelf) user → ⊥) → IsOn s shelf user
-there s shelf user d m none = go (cases_eq shelf 0) (placed s d.0 user d.1 m.user_is m.below).on
-  where
-    go : (shelf ≡ 0) ⊎ (shelf ≢ 0) → IsOn s 0 user ⊎ IsOn s 1 user → IsOn s shelf user
-    go (inl e) (inl on) = subst (λ (k : ℕ). IsOn s k user) (sym e) on
-    go (inl e) (inr on) = absurd (none (subst (λ (k : ℕ). IsOn s k user) (let o : 1 ≡ 1 - shelf = omega (arith, e) in o) on))
-    go (inr n) (inl on) =
-        absurd (none (subst (λ (k : ℕ). IsOn s k user) (let o : 0 ≡ 1 - shelf = omega (arith, n, m.shelf_is) in o) on))
-    go (inr n) (inr on) = subst (λ (k : ℕ). IsOn s k user) (let o : 1 ≡ shelf = omega (arith, n, m.shelf_is) in o) on
+there s zero user d m none = elim (placed d.1 user m.user_is m.below).on [ inl on ↦ on | inr on ↦ absurd (none on) ]
+there s (suc zero) user d m none = elim (placed d.1 user m.user_is m.below).on [ inl on ↦ absurd (none on) | inr on ↦ on ]
+there s (suc (suc shelf)) user d m none = absurd (omega (arith, m.shelf_is))
 
 -- a move depends on the three objects that it writes
 move_fit : (tag : List ℕ) (from : State) (ws : Writes) → IsMove tag from ws → IsFit IsMove from tag ws
@@ -56,9 +51,6 @@ move_fit tag from ws m = fit_by_held IsMove from tag ws (λ s long held.
       here = ap link_of one ∙ m.here;
       moves = rw (one, two, three) m.moves;
     })
-
-three_distinct : (a b c : ℕ) (x y z : List ℕ) → a ≢ b → a ≢ c → b ≢ c → are_distinct ((a, x) ∷ (b, y) ∷ (c, z) ∷ []) ≡ true
-three_distinct a b c x y z ab ac bc = grind (arith, nat_tests)
 
 three_within : (a b c n : ℕ) (x y z : List ℕ) → a < n → b < n → c < n → AreWithin ((a, x) ∷ (b, y) ∷ (c, z) ∷ []) n
 three_within a b c n x y z la lb lc o t = grind (arith, nat_tests)

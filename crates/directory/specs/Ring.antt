@@ -1,5 +1,5 @@
--- What a directory is: its links form one ring, which meets each object once.
-use Rattle.std.specs.Prelude.{◌≡◌, ℕ, ◌+◌, ◌<◌, ◌≤◌, ◌⊎◌, eqb, List, [], ◌∷◌, length, drop, slice_index, if◌then◌else◌, All, ⊤}
+-- What a directory is: its links form one ring, in which each object has a place of its own.
+use Rattle.std.specs.Prelude.{◌≡◌, ℕ, ◌+◌, ◌<◌, ◌≤◌, ◌⊎◌, List, [], ◌∷◌, length, drop, slice_index, All, ⊤}
 use Rattle.directory.specs.declared.rules.TheConstants.{OBJECTS, SHELVES}
 use Rattle.mv_history.specs.State.{State}
 use Rattle.mv_history.specs.Meaning.{words_at}
@@ -30,26 +30,24 @@ abbrev pub Leads : (ℕ → ℕ) → List ℕ → ℕ → Type 0
 Leads next [] z = ⊤
 Leads next (x ∷ xs) z = (next x ≡ first_or xs z) × Leads next xs z
 
--- how often an object is among these
-abbrev pub times : ℕ → List ℕ → ℕ
-times o [] = 0
-times o (x ∷ xs) = (if eqb x o then 1 else 0) + times o xs
-
 -- the object is a user
 abbrev pub IsUser : ℕ → Type 0
 IsUser o = SHELVES ≤ o
 
--- The links lead from the first shelf along these objects and back to it: each object, once.
-pub record IsRing (s : State) (ring : List ℕ) : Type 0 where
+-- the object leads to the one at the next place, or from the last place to the first shelf
+abbrev pub Follows : (ℕ → ℕ) → (ℕ → ℕ) → ℕ → Type 0
+Follows next place o = ((next o ≡ 0) × (place o + 1 ≡ OBJECTS)) ⊎ ((next o < OBJECTS) × (place (next o) ≡ place o + 1))
+
+-- The links form one ring: each object has a place of its own in it, the first shelf the first, and leads to the next.
+pub record IsRing (s : State) (place : ℕ → ℕ) : Type 0 where
   pub many : length s ≡ OBJECTS
-  pub leads : Leads (next_of s) ring 0
-  pub starts : first_or ring 1 ≡ 0
-  pub long : length ring ≡ OBJECTS
-  pub once : (o : ℕ) → o < OBJECTS → times o ring ≡ 1
-  pub within : (o : ℕ) → OBJECTS ≤ o → times o ring ≡ 0
+  pub first : place 0 ≡ 0
+  pub below : (o : ℕ) → o < OBJECTS → place o < OBJECTS
+  pub own : (a b : ℕ) → a < OBJECTS → b < OBJECTS → place a ≡ place b → a ≡ b
+  pub follows : (o : ℕ) → o < OBJECTS → Follows (next_of s) place o
 
 abbrev pub IsDirectory : State → Type 0
-IsDirectory s = (ring : List ℕ) × IsRing s ring
+IsDirectory s = (place : ℕ → ℕ) × IsRing s place
 
 -- a user is on a shelf: links lead to it from there, along users alone
 pub record IsOn (s : State) (shelf user : ℕ) : Type 0 where

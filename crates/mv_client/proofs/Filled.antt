@@ -2,27 +2,30 @@
 use Rattle.std.proofs.Common.{◌≡◌, ℕ, ◌+◌, ◌<◌, ◌≤◌, List, [], ◌∷◌, ◌++◌, length, refl, sym, ap, ◌∙◌, subst, Ok, Err, Option, Some, length-append, arith}
 use Rattle.std.specs.Result.{IsErrAnd}
 use Rattle.std.proofs.lemmas.Bool.Decides.{nat_tests}
+use Rattle.std.proofs.lemmas.List.{append-nil}
 use denote.Ref.{MutBor}
 use Rattle.core.specs.Fn.{Shared}
 use Rattle.mv_history.specs.Meaning.{Seat, InSection, IsWorn, IsSection, state_of, snapshot_of, words_at, Lacks}
-use Rattle.mv_history.specs.Calls.{Continues, Enters, GoesOn, Prepares, IsAsBefore, Leaves, commit_by}
+use Rattle.mv_history.specs.Calls.{Continues, Enters, GoesOn, Prepares, IsAsBefore, NamesNoCommit, call_trail, commit_by}
+use Rattle.mv_history.specs.Trail.{commit_exchanges}
 use Rattle.mv_history.specs.State.{State, Writes, touches}
 use Rattle.mv_history.specs.Drift.{IsFit}
-use Rattle.mv_history.proofs.Steps.{Continues-Continues, GoesOn-GoesOn}
+use Rattle.mv_history.proofs.Steps.{Continues-Continues, GoesOn-GoesOn, NamesNoCommit-NamesNoCommit, commit_exchanges-call_trail}
 use Rattle.mv_history.proofs.Snapshots.{snapshot_of-goes_on}
 use Rattle.section_work.proofs.Entering.{reads_snapshot, worn_left}
+use Rattle.section_work.proofs.Exchanges.{leaves_none}
 use Rattle.section_work.specs.Causes.{Causes}
 use Rattle.section_work.specs.declared.causes.Refusal.{Refusal}
 use Rattle.section_work.specs.declared.causes.Cause.{Cause}
 use Rattle.section_work.specs.declared.causes.Cause.TheVariants.{Lock, Rival, LogFull}
 use Rattle.section_work.specs.declared.place.Place.{Place}
 use Rattle.section_work.specs.declared.place.Place.TheVariants.{Commit as AtCommit, Read}
-use Rattle.section_work.specs.declared.work.Decision.TheVariants.{Settled, Change}
+use Rattle.section_work.specs.declared.work.Decision.TheVariants.{Change}
 use Rattle.mv_client.specs.declared.updating.Outcome.{Outcome}
 use Rattle.mv_client.specs.declared.updating.Outcome.TheVariants.{Done, Again, End}
 use Rattle.mv_client.proofs.Fits.{fit_by_held}
 use Rattle.mv_client.specs.Closures.{Shows}
-use Rattle.mv_client.specs.Updates.{Answer, Opened, OnChange, Filled, IsForCommit, IsFilled, commits_in, Updated, UpdatedLast, outcome_of}
+use Rattle.mv_client.specs.Updates.{Answer, Opened, OnChange, Filled, IsForCommit, IsFilled, commits_in, Exchanged, Updated, UpdatedLast, outcome_of}
 
 -- a section that was entered where there was room is an opened one
 pub opened_by : (old prepared : Seat) (state : State) (s : InSection) → Prepares old prepared → prepared.write_max ≤ prepared.spare → Enters prepared s
@@ -42,6 +45,15 @@ opened_before old later state s goes o = record {
   reads = o.reads;
   objects = o.objects ∙ ap length goes.start;
 }
+
+exchanges_after : {a b c : Seat} → Continues a b → Continues b c → NamesNoCommit a b
+    → commit_exchanges (call_trail a c) ≡ commit_exchanges (call_trail b c)
+exchanges_after {a} {b} {c} p q none = commit_exchanges-call_trail p q ∙ ap (λ steps. steps ++ commit_exchanges (call_trail b c)) none
+
+exchanges_before : {a b c : Seat} → Continues a b → Continues b c → NamesNoCommit b c
+    → commit_exchanges (call_trail a c) ≡ commit_exchanges (call_trail a b)
+exchanges_before {a} {b} {c} p q none =
+    commit_exchanges-call_trail p q ∙ ap (λ steps. commit_exchanges (call_trail a b) ++ steps) none ∙ append-nil (commit_exchanges (call_trail a b))
 
 module _ {Open T : Type 0} (k : Causes) (section : Open → InSection) (gives : Open → Answer T → Open → Type 0) (old : Seat) where
   filled_continues : (r : Answer T) (left : Open) → IsFilled k section gives old r left → Continues old (section left).seat
@@ -79,6 +91,29 @@ module _ {Open T : Type 0} (k : Causes) (section : Open → InSection) (gives : 
   updated_commits new (Again (LogFull holder)) u = omega (arith, ap length u.prepares.mine)
   updated_commits new End u =
       omega (arith, ap length u.leaves.mine, ap length u.as_before.seat.mine, ap length (filled_mine _ u.left u.filled))
+
+  filled_quiet : (r : Answer T) (left : Open) → IsFilled k section gives old r left → NamesNoCommit old (section left).seat
+  filled_quiet r left f =
+      NamesNoCommit-NamesNoCommit f.prepares.continues (Continues-Continues f.enters.seat.continues f.goes_on.continues) f.prepares.names_no_commit
+      (NamesNoCommit-NamesNoCommit f.enters.seat.continues f.goes_on.continues f.enters.names_no_commit f.goes_on.names_no_commit)
+
+  -- the exchanges of an update are those of its commit
+  pub updated_exchanges : (new : Seat) (a : Outcome T) → Updated k section gives old new a → Exchanged k.has_trail old new a
+  updated_exchanges new (Done reply (AtCommit time)) u = λ told.
+      rw (exchanges_after (filled_continues _ u.left u.filled) u.commits.continues (filled_quiet _ u.left u.filled)) (u.won told)
+  updated_exchanges new (Done reply (Read time)) u =
+      NamesNoCommit-NamesNoCommit (filled_continues _ u.left u.filled) u.leaves.continues (filled_quiet _ u.left u.filled) (leaves_none _ new u.leaves)
+  updated_exchanges new (Again (Lock refusal)) u =
+      NamesNoCommit-NamesNoCommit (filled_continues _ u.left u.filled) u.leaves.continues (filled_quiet _ u.left u.filled) (leaves_none _ new u.leaves)
+  updated_exchanges new (Again (Rival rival)) u = λ told.
+      let first = filled_continues _ u.1.left u.1.filled in
+      let tried = u.1.as_before.seat.continues in
+      rw (
+        exchanges_before (Continues-Continues first tried) u.1.leaves.continues (leaves_none _ new u.1.leaves),
+        exchanges_after first tried (filled_quiet _ u.1.left u.1.filled),
+      ) (u.1.lost told)
+  updated_exchanges new (Again (LogFull holder)) u = u.prepares.names_no_commit
+  updated_exchanges new End u = tt
 
 -- an update that came to this
 pub updated_as : {Open T : Type 0} (k : Causes) (section : Open → InSection) (gives : Open → Answer T → Open → Type 0) (old new : Seat) (a b : Outcome T)

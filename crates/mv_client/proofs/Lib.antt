@@ -4,3 +4,4 @@ pub mod Invariants
 pub mod Commits
 pub mod Fits
 pub mod Rewriting
+pub mod Locks

@@ -1,7 +1,7 @@
 -- Sections and states under the rules of one object.
 use Rattle.std.proofs.Common.{◌≡◌, ℕ, ◌+◌, ◌<◌, ◌≤◌, List, [], ◌∷◌, ◌++◌, length, sym, ap, ◌∙◌, Ok, get_or-set_same}
 use Rattle.std.specs.Prelude.{slice_index}
-use Rattle.mv_history.specs.State.{State, Writes, written}
+use Rattle.mv_history.specs.State.{State}
 use Rattle.mv_history.specs.declared.history.TheConstants.{LAST}
 use Rattle.mv_history.specs.Meaning.{InSection, IsSection, state_of, words_at, Lacks}
 use Rattle.mv_history.specs.Calls.{GoesOn, IsAsBefore}

@@ -3,3 +3,4 @@ pub mod Updates
 pub mod Invariants
 pub mod Rules
 pub mod Rewriting
+pub mod Locks

@@ -10,7 +10,8 @@ pub record Rewrites (object : ℕ) (next : List ℕ → List ℕ) (tag : List �
   pub there : object < length before
   pub writes_are : writes ≡ (object, next (words_at before object)) ∷ []
 
-pub Rewrites-prop : (object : ℕ) (next : List ℕ → List ℕ) (tag : List ℕ) (before : State) (writes : Writes) → IsProp (Rewrites object next tag before writes)
+pub Rewrites-prop : (object : ℕ) (next : List ℕ → List ℕ) (tag : List ℕ) (before : State) (writes : Writes)
+    → IsProp (Rewrites object next tag before writes)
 Rewrites-prop object next tag before writes x y =
     let there_prop : IsProp (object < length before) = hlevel props in
     λ i. record { there = there_prop x.there y.there i; writes_are = Writes-set writes _ x.writes_are y.writes_are i }

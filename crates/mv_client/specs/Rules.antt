@@ -1,5 +1,5 @@
 -- What rules are made of, as a `Protocol` asks.
-use Rattle.std.specs.Prelude.{◌≡◌, ℕ, List}
+use Rattle.std.specs.Prelude.{◌≡◌}
 use Rattle.std.specs.Coded.{Coded-set, coded×, coded_ℕ, coded_list}
 use Rattle.mv_history.specs.State.{Writes}
 

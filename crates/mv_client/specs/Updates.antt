@@ -1,10 +1,11 @@
 -- What updates and reads leave, by their answers.
-use Rattle.std.specs.Prelude.{◌≡◌, ℕ, ◌+◌, ◌-◌, ◌<◌, ◌≤◌, List, [], length, Result, Ok, Err, Option, Some, None, ⊤}
+use Rattle.std.specs.Prelude.{◌≡◌, ℕ, ◌+◌, ◌-◌, ◌<◌, ◌≤◌, List, length, Result, Ok, Err, Option, Some, None, ⊤}
 use Rattle.mv_history.specs.State.{State, Writes}
 use Rattle.mv_history.specs.Drift.{IsFit}
 use Rattle.mv_history.specs.declared.answers.Holder.{Holder}
 use Rattle.mv_history.specs.Meaning.{Seat, InSection, IsWorn, snapshot_of}
-use Rattle.mv_history.specs.Calls.{Continues, Enters, GoesOn, Prepares, IsAsBefore, Leaves, Commits, Overtakes}
+use Rattle.mv_history.specs.Trail.{commit_exchanges, IsOneWon, IsOneLost}
+use Rattle.mv_history.specs.Calls.{call_trail, NamesNoCommit, Continues, Enters, GoesOn, Prepares, IsAsBefore, Leaves, Commits, Overtakes}
 use Rattle.section_work.specs.Causes.{Causes}
 use Rattle.section_work.specs.Attempts.{HasSpace}
 use Rattle.section_work.specs.declared.causes.Refusal.{Refusal}
@@ -82,6 +83,7 @@ module _ {Open T : Type 0} (k : Causes) (section : Open → InSection) (gives : 
     pub filled : IsFilled old (Ok (Change tag reply)) left
     pub commits : Commits (section left) tag new time
     pub loaded : k.loaded (section left) new (time - 1)
+    pub won : k.has_trail → IsOneWon (commit_exchanges (call_trail (section left).seat new))
 
   -- the closure had nothing to commit, in a section of this time
   pub record IsSettled (old new : Seat) (reply : T) (time : ℕ) : Type 0 where
@@ -105,6 +107,7 @@ module _ {Open T : Type 0} (k : Causes) (section : Open → InSection) (gives : 
     pub after : Open
     pub as_before : IsAsBefore (section left) (section after)
     pub overtakes : Overtakes (section left) (section after) seat time (k.loaded (section left) (section after).seat)
+    pub lost : k.has_trail → IsOneLost (commit_exchanges (call_trail (section left).seat (section after).seat))
     pub leaves : Leaves (section after) new
 
   -- no time was left for the commit
@@ -133,6 +136,16 @@ module _ {Open T : Type 0} (k : Causes) (section : Open → InSection) (gives : 
     pub comes : Continues old before
     pub mine : before.mine ≡ old.mine
     pub updated : Updated before new answer
+
+-- The exchanges on CLOCK for a commit in the steps of an update, where the store tells its trail: one that was won where it made a commit, one
+-- that was lost where another seat's entry came first, and else none, but that the last time may have been met by one.
+abbrev pub Exchanged : {T : Type 0} → Type 0 → Seat → Seat → Outcome T → Type 0
+Exchanged told old new (Done reply (AtCommit time)) = told → IsOneWon (commit_exchanges (call_trail old new))
+Exchanged told old new (Done reply (Read time)) = NamesNoCommit old new
+Exchanged told old new (Again (Lock refusal)) = NamesNoCommit old new
+Exchanged told old new (Again (Rival rival)) = told → IsOneLost (commit_exchanges (call_trail old new))
+Exchanged told old new (Again (LogFull holder)) = NamesNoCommit old new
+Exchanged told old new End = ⊤
 
 -- how many commits were made
 abbrev pub commits_in : {T : Type 0} → Outcome T → ℕ

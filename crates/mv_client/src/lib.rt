@@ -11,6 +11,7 @@
 //! - [`begin`]: `enter`, with the number of objects, and the state that the section reads.
 //! - [`read`]: one section that is only read, and left. It never refuses.
 //! - [`put`]: a lock and a write of one object; an `Err` says why the lock was refused, by the `Refusal` of `section_work`.
+//! - [`lock_all`]: locks of several objects, with the words that they have; an `Err` says why the first was refused that was.
 //! - [`update`]: one section that the closure fills, and then one commit or none. The closure answers what is to be done with
 //!   the section (`Decision`), or hands on a `Refusal` by `?`. What the closure says of itself is told back: of the section that
 //!   it was shown, of its answer and of what it left (`specs/Updates.antt`). Each refusal has its [`Outcome`] and its cause.
@@ -32,8 +33,10 @@
 
 mod beginning;
 mod holding;
+#[cfg(test)]
+mod tests;
 mod updating;
 
 pub use beginning::{begin, read};
-pub use holding::put;
+pub use holding::{lock_all, put};
 pub use updating::{Outcome, update, update_at_most, update_times, update_until};

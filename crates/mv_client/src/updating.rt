@@ -5,7 +5,7 @@ ghost use Rattle.mv_client.specs.declared.updating.Outcome.TheVariants.{End};
 ghost use Rattle.mv_history.specs.Calls.{Continues};
 ghost use Rattle.section_work.specs.Causes.{causes};
 ghost use Rattle.mv_client.specs.Closures.{MayShow, Shows};
-ghost use Rattle.mv_client.specs.Updates.{Answer, Opened, Filled, IsForCommit, commits_in, Updated, UpdatedLast, outcome_of, Repeated};
+ghost use Rattle.mv_client.specs.Updates.{Answer, Opened, Filled, IsForCommit, commits_in, Exchanged, Updated, UpdatedLast, outcome_of, Repeated};
 
 use crate::beginning::begin;
 use mv_history::{CommitAnswer, Room, Section, Store, Tag};
@@ -14,6 +14,7 @@ use std::sync::Wait;
 use std::thread;
 
 /// What an update comes to.
+#[derive(Drop)]
 pub enum Outcome<T> {
     /// It took place there, with this reply: as the commit of that time, or, where nothing was to be committed, as a read.
     Done { reply: T, place: Place },
@@ -29,7 +30,9 @@ pub enum Outcome<T> {
 /// the tag `plan`; `Ok(Decision::Settled(reply))` commits nothing; and the `Err` of a `put` or a `lock_all`, by `?`, gives
 /// the section up. It is shown a section that holds nothing, with room for a write set.
 ///
-/// It makes one commit or none, takes no memory but what the closure takes, and never waits or tries again by itself.
+/// It makes one commit or none, takes no memory but what the closure takes, and never waits or tries again by itself. Where the
+/// store tells its trail, one exchange on CLOCK for a commit was won where it is `Done` at a `Place::Commit`, and one was lost
+/// where a rival came first; in the other answers but `End` there is none.
 ///
 /// - `Done` at a `Place::Commit`: what the closure left is the commit of that printed time, the seat's last one.
 /// - `Done` at a `Place::Read`: the closure had nothing to commit, in a section of that printed time.
@@ -46,6 +49,7 @@ pub fn update<S: Store, T: Drop, F: Fn(&mut S::Open) -> Result<Decision<T, Tag>,
     ensures continues { Continues (S.seat_of store) (S.seat_of result.0) }
     ensures commits { length (S.seat_of result.0).mine ≡ length (S.seat_of store).mine + commits_in result.1 }
     ensures worn { result.1 ≡ End → IsWorn (S.seat_of result.0) }
+    ensures exchanges { Exchanged S.Open.has_trail (S.seat_of store) (S.seat_of result.0) result.1 }
     ensures updated { let shows = causes S.Open.may_refuse S.Open.has_trail S.took S.holds_back S.Open.found_held S.Open.loaded in
         Updated shows S.Open.section (Shows F.Fn fill) (S.seat_of store) (S.seat_of result.0) result.1 }
 {

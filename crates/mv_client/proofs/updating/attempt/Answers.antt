@@ -1,6 +1,7 @@
-use Rattle.std.proofs.Common.{◌≡◌, ◌-◌, ap, ◌∙◌, refl, subst, Ok}
+use Rattle.std.proofs.Common.{◌-◌, ap, ◌∙◌, refl, subst, Ok}
 use Rattle.mv_history.specs.Meaning.{Seat}
-use Rattle.mv_history.specs.Calls.{Leaves, Commits}
+use Rattle.mv_history.specs.Trail.{commit_exchanges, IsOneWon}
+use Rattle.mv_history.specs.Calls.{call_trail, Leaves, Commits}
 use Rattle.mv_client.proofs.Filled.{opened_by, shown_as, filled_fit}
 use Rattle.mv_client.proofs.updating.attempt.Goals as goal
 
@@ -46,6 +47,8 @@ returns-in-Done g c =
           c.in-Done.ensures.done.0;
       loaded = subst (λ (s : Seat). g.S.Open.Section.loaded (g.S.Open.Section.section c.fill.new.arg2) s (c.in-Done.time - 1))
           (g.met.S.Store.same_seat _) c.in-Done.ensures.done.1;
+      won = subst (λ (s : Seat). g.S.Open.Section.has_trail
+          → IsOneWon (commit_exchanges (call_trail (g.S.Open.Section.section c.fill.new.arg2).seat s))) (g.met.S.Store.same_seat _) c.in-Done.ensures.one_won;
     }
 
 pub returns-in-Again : goal.returns-in-Again
@@ -72,6 +75,7 @@ returns-in-Again g c =
         after = c.in-Again.section;
         as_before = a.1;
         overtakes = a.2;
+        lost = c.in-Again.ensures.one_lost;
         leaves = subst (λ (s : Seat). Leaves (g.S.Open.Section.section c.in-Again.section) s) (g.met.S.Store.same_seat _) c.abort.ensures;
       },
     )

@@ -1,8 +1,5 @@
 use Rattle.std.proofs.Common.{refl}
 use Rattle.mv_history.specs.CallLaws.{Continues-itself}
-use Rattle.mv_client.specs.Closures.{Shows}
-use Rattle.mv_client.specs.Updates.{UpdatedLast}
-use Rattle.section_work.specs.Causes.{causes}
 use Rattle.mv_client.proofs.Filled.{opened_before, last_by, last_continues, last_commits, last_mine, last_worn}
 use Rattle.mv_client.proofs.updating.update_at_most.Goals.{in-Again, in_default}
 use Rattle.mv_client.proofs.updating.update_at_most.Goals as goal

@@ -1,4 +1,4 @@
-use Rattle.std.proofs.Common.{◌≡◌, ◌+◌, length, refl, ap, ◌∙◌, arith}
+use Rattle.std.proofs.Common.{◌+◌, length, refl, ap, ◌∙◌, arith}
 use Rattle.mv_history.specs.CallLaws.{Continues-itself}
 use Rattle.mv_history.proofs.Steps.{Continues-Continues}
 use Rattle.mv_client.specs.Updates.{commits_in, outcome_of}

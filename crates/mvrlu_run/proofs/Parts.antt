@@ -84,10 +84,3 @@ sent_more a b c bytes s n p q =
 
 pub part_fits : (bytes : List ℕ) (s n : ℕ) → s ≤ length bytes → n ≤ length (take (length bytes - s) (drop s bytes)) → s + n ≤ length bytes
 part_fits bytes s n le h = omega (arith, length-take (length bytes - s) (drop s bytes), length-drop s bytes)
-
--- the front of a buffer after a read of n bytes behind the first a
-pub front_more : (front into post : List ℕ) (a n : ℕ) → length front ≡ a → n ≤ length into → take (a + n) (front ++ (into ++ post)) ≡ front ++ take n into
-front_more front into post a n len le = rw (← len, take-append-add front (into ++ post) n, take-append-le n into post le) refl
-
-pub front_within : (front into post : List ℕ) (a n : ℕ) → length front ≡ a → n ≤ length into → a + n ≤ length (front ++ (into ++ post))
-front_within front into post a n len le = omega (arith, length-append front (into ++ post), length-append into post)

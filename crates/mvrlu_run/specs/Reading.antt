@@ -1,5 +1,5 @@
 -- What was read of a text.
-use Rattle.std.specs.Prelude.{◌≡◌, ◌<◌, ◌≤◌, ℕ, List, [], ◌∷◌, length, take, slice_get, Option, None, Some, Vec, ⊤}
+use Rattle.std.specs.Prelude.{◌≡◌, ◌≤◌, ℕ, List, [], ◌∷◌, length, slice_get, Option, None, Some, Vec, ⊤}
 use Rattle.std.specs.declared.alloc.Global.{Global}
 use Rattle.run_outside.specs.Outside.{Texts}
 use Rattle.mvrlu_run.specs.declared.finish.TheConstants.{MOST_BYTES}
@@ -13,11 +13,6 @@ AreTold (Some texts) = ⊤
 abbrev pub Says : Option Texts → List ℕ → (List ℕ → Type 0) → Type 0
 Says None name P = ⊤
 Says (Some texts) name P = (text : List ℕ) × (texts name ≡ Some text) × P text
-
--- a buffer's first n bytes are those of the text, and all of it where n is below the buffer's length
-pub record IsReadInto (buffer : List ℕ) (n : ℕ) (text : List ℕ) : Type 0 where
-  pub front : take n buffer ≡ take n text
-  pub whole : n < length buffer → take n buffer ≡ text
 
 -- the bytes of a text in memory
 abbrev pub text_of : Vec ℕ Global → List ℕ

@@ -15,7 +15,9 @@ use Rattle.mvrlu_run.specs.declared.finish.Finish.TheVariants.{Script, BlockScri
 use Rattle.mvrlu_run.specs.declared.finish.TheConstants.{MOST_BYTES}
 use Rattle.mvrlu_run.specs.declared.scripts.Grammar.{Grammar}
 use Rattle.mvrlu_run.specs.declared.scripts.Grammar.TheVariants.{Sets, Growing}
-use Rattle.mvrlu_run.specs.Reading.{Says}
+use Rattle.mvrlu_run.specs.declared.reading.Text.{Text}
+use Rattle.mvrlu_run.specs.declared.reading.Text.TheVariants.{Whole, TooLong, NoMemory}
+use Rattle.mvrlu_run.specs.Reading.{IsTextOf, Says}
 use Rattle.replay_rules.specs.Plans.{PlanOf}
 use Rattle.step_replay.specs.PlanTexts.{planned}
 use Rattle.replay_rules.specs.declared.plan.PlanKind.{PlanKind}
@@ -23,6 +25,12 @@ use Rattle.replay_rules.specs.declared.plan.PlanKind.{PlanKind}
 -- the text has too many bytes
 abbrev pub IsLong : List ℕ → Type 0
 IsLong text = MOST_BYTES < length text
+
+-- what was read of the text of this name, where the texts are told
+abbrev pub IsReadText : Text → Option Texts → List ℕ → Type 0
+IsReadText (Whole text) texts name = IsTextOf texts name text.items
+IsReadText TooLong texts name = Says texts name IsLong
+IsReadText NoMemory texts name = ⊤
 
 -- A grammar says what each text is: a script, or one with a first faulty line and what is wrong with it.
 module _ {A K : Type 0} (grammar : List ℕ → Result A (ℕ × K)) where

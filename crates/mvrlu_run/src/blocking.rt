@@ -11,11 +11,11 @@ ghost use Rattle.mvrlu_run.specs.Told.{IsTextFor};
 
 use crate::block_scripts::read_block_scripts;
 use crate::finish::{Closed, Finish};
-use crate::running::{USUAL, config, ran_or_met, zeros};
+use crate::running::{USUAL, config, ran_or_met};
 use crate::texts::Made;
 use block_domain::run_block_domain;
 use mv_history::LogTable;
-use mvrlu::{Closing, Domain, OpenFault, Seat, open};
+use mvrlu::{Closing, Domain, OpenFault, Seat, open_zeros};
 use run_outside::{Files, Gate};
 use run_report::{Line, order, render};
 use run_words::Options;
@@ -132,8 +132,7 @@ fn open_blocks(
     requires few { seats ≤ 64 }
     ensures { IfOk result (λ r. IsOpened (config_of options 64 seats) (replicate options.objects no_words) r.0 r.1.items) }
 {
-    let start = zeros(alloc, options.objects as usize)?;
-    match open(alloc, config(options, WRITE_MAX, seats), &start) {
+    match open_zeros(alloc, config(options, WRITE_MAX, seats)) {
         Ok(opened) => Ok(opened),
         Err(OpenFault::Memory) => Err(AllocError),
         Err(OpenFault::Config(_)) => unreachable!(),

@@ -14,14 +14,14 @@ ghost use Rattle.mvrlu_run.specs.Scripts.{AnyStop, NoneFails, commands as by_com
 ghost use Rattle.mvrlu_run.specs.Told.{IsTextFor};
 
 use crate::finish::{Closed, Finish};
-use crate::running::{USUAL, config, ran_or_met, zeros};
+use crate::running::{USUAL, config, ran_or_met};
 use crate::scripts::{Grammar, read_scripts};
 use crate::texts::Made;
 use grow_domain::run_grow_domain;
 use grow_hash::{GrowRules, read_grown, table_of};
 use grow_report::{order_grown, render_grown};
 use mv_history::{LogTable, View};
-use mvrlu::{Closing, Domain, OpenFault, Seat, open};
+use mvrlu::{Closing, Domain, OpenFault, Seat, open_zeros};
 use run_outside::{Files, Gate};
 use run_report::Line;
 use run_words::Options;
@@ -160,8 +160,7 @@ fn open_grown(
     requires few { seats ≤ 64 }
     ensures { IfOk result (λ r. IsOpened (config_of options 64 seats) (replicate options.objects no_words) r.0 r.1.items) }
 {
-    let start = zeros(alloc, options.objects as usize)?;
-    match open(alloc, config(options, WRITE_MAX, seats), &start) {
+    match open_zeros(alloc, config(options, WRITE_MAX, seats)) {
         Ok(opened) => Ok(opened),
         Err(OpenFault::Memory) => Err(AllocError),
         Err(OpenFault::Config(_)) => unreachable!(),

@@ -1,12 +1,26 @@
 // Reading the texts of files.
 ghost use Rattle.std.specs.Prelude.{◌≡◌, ◌≤◌, ◌<◌, ◌+◌, [], ℕ, Some, length, map, slice_get, string_bytes, All, IfErr, IfOk, IsOk, IsTrue};
 ghost use Rattle.run_outside.specs.Outside.{HasText, IsTold};
-ghost use Rattle.mvrlu_run.specs.Reading.{AreFirstTexts, IsReadInto, IsTextAt, Says, text_of};
-ghost use Rattle.mvrlu_run.specs.Scripts.{FirstStands, NoText, NoneFailed, NoneFails};
+ghost use Rattle.mvrlu_run.specs.Reading.{AreFirstTexts, IsTextAt, text_of};
+ghost use Rattle.mvrlu_run.specs.Scripts.{FirstStands, IsReadText, NoText, NoneFailed, NoneFails};
 
 use crate::finish::{Finish, MOST_BYTES};
 use run_outside::{Failed, Files};
 use std::alloc::{AllocError, Global};
+
+// How many bytes of a text are read at once, at most.
+const PIECE_BYTES: usize = 65_536;
+
+/// What reading a text comes to where no call of the files fails.
+#[derive(Drop)]
+pub(crate) enum Text {
+    /// All of it, within the limit.
+    Whole(Vec<u8>),
+    /// It has too many bytes.
+    TooLong,
+    /// There is no memory for it.
+    NoMemory,
+}
 
 /// Reads the texts of the files of these names, one after another. An error is the first reason why one has none within
 /// the limit: it can't be opened or read, has too many bytes, or there is no memory. Then the texts are those of the files
@@ -27,21 +41,21 @@ pub fn read_texts<F: Files>(
     ensures steady { IfErr result (λ finish. NoneFails finish (F.steady files.old) (F.texts files.old) (map string_bytes names.now)) }
     ensures short { All (λ text. length text.items ≤ MOST_BYTES) texts.new.items }
 {
-    let Ok(mut buffer) = zeros(alloc, MOST_BYTES + 1) else {
+    let Ok(mut piece) = zeros(alloc, PIECE_BYTES) else {
         return Err(Finish::Memory);
     };
-    read_each(alloc, files, names, &mut buffer, texts)
+    read_each(alloc, files, names, &mut piece, texts)
 }
 
-// The same, with a buffer in which each text is read.
+// The same, with room for one piece of a text.
 fn read_each<F: Files>(
     alloc: Global,
     files: &mut F,
     names: &[String],
-    buffer: &mut [u8],
+    piece: &mut [u8],
     texts: &mut Vec<Vec<u8>>,
 ) -> Result<(), Finish>
-    requires room { length buffer.old ≡ MOST_BYTES + 1 }
+    requires room { 0 < length piece.old }
     requires none { texts.old.items ≡ [] }
     requires few { length names.now ≤ 64 }
     ensures texts { AreFirstTexts (F.texts files.old) (map string_bytes names.now) (map text_of texts.new.items) }
@@ -53,7 +67,7 @@ fn read_each<F: Files>(
     ensures short { All (λ text. length text.items ≤ MOST_BYTES) texts.new.items }
 {
     for place in 0..names.len() {
-        match copy_text(alloc, files, names, place, buffer) {
+        match copy_text(alloc, files, names, place, piece) {
             Ok(text) => match texts.push(text) {
                 Ok(()) => {}
                 Err(_) => return Err(Finish::Memory),
@@ -64,17 +78,17 @@ fn read_each<F: Files>(
     Ok(())
 }
 
-// The text of the file of this place, in memory of its own.
+// The text of the file of this place.
 fn copy_text<F: Files>(
     alloc: Global,
     files: &mut F,
     names: &[String],
     place: usize,
-    buffer: &mut [u8],
+    piece: &mut [u8],
 ) -> Result<Vec<u8>, Finish>
     requires place { place < length names.now }
     requires few { length names.now ≤ 64 }
-    requires room { length buffer.old ≡ MOST_BYTES + 1 }
+    requires room { 0 < length piece.old }
     ensures text { IfOk result (λ text. IsTextAt (F.texts files.old) (map string_bytes names.now) place text.items) }
     ensures none { IfOk result (λ _. NoneFailed (F.faults files.old) (F.faults files.new)) }
     ensures stop { IfErr result (λ finish.
@@ -84,19 +98,15 @@ fn copy_text<F: Files>(
     ensures still { F.steady files.new ≡ F.steady files.old }
 {
     let name = names[place].as_str();
-    let Ok(count) = read_text(files, name, buffer) else {
-        return Err(Finish::Read {
-            script: first_place(names, name),
-        });
-    };
-    if count > MOST_BYTES {
-        return Err(Finish::Bytes {
+    match read_text(alloc, files, name, piece) {
+        Ok(Text::Whole(text)) => Ok(text),
+        Ok(Text::TooLong) => Err(Finish::Bytes {
             script: place as u32,
-        });
-    }
-    match Vec::from_slice(alloc, &buffer[..count]) {
-        Ok(text) => Ok(text),
-        Err(AllocError) => Err(Finish::Memory),
+        }),
+        Ok(Text::NoMemory) => Err(Finish::Memory),
+        Err(Failed) => Err(Finish::Read {
+            script: first_place(names, name),
+        }),
     }
 }
 
@@ -114,25 +124,33 @@ fn first_place(names: &[String], name: &str) -> u32
     unreachable!()
 }
 
-/// Reads the text of this name, as far as the buffer goes.
-pub fn read_text<F: Files>(files: &mut F, name: &str, buffer: &mut [u8]) -> Result<usize, Failed>
-    ensures within { IfOk result (λ n. n ≤ length buffer.new) }
-    ensures says { IfOk result (λ n. Says (F.texts files.old) name.now (IsReadInto buffer.new n)) }
+/// Reads the text of this name a piece at a time, and no byte of it behind the first one that is too much.
+fn read_text<F: Files>(
+    alloc: Global,
+    files: &mut F,
+    name: &str,
+    piece: &mut [u8],
+) -> Result<Text, Failed>
+    requires room { 0 < length piece.old }
+    ensures text { IfOk result (λ text. IsReadText text (F.texts files.old) name.now) }
     ensures texts { F.texts files.new ≡ F.texts files.old }
     ensures still { F.steady files.new ≡ F.steady files.old }
     ensures told { IsTold (F.faults files.old) (F.faults files.new) name.now result }
     ensures succeeds { IsTrue (F.steady files.old) → HasText (F.texts files.old) name.now → IsOk result }
 {
     files.open(name)?;
-    let mut count = 0;
-    while count < buffer.len() {
-        let got = files.read(&mut buffer[count..])?;
+    let mut text = Vec::new(alloc);
+    while text.len() <= MOST_BYTES {
+        let room = piece.len().min(MOST_BYTES + 1 - text.len());
+        let got = files.read(&mut piece[..room])?;
         if got == 0 {
-            break;
+            return Ok(Text::Whole(text));
         }
-        count += got;
+        if text.extend_from_slice(&piece[..got]).is_err() {
+            return Ok(Text::NoMemory);
+        }
     }
-    Ok(count)
+    Ok(Text::TooLong)
 }
 
 /// A buffer of zeros. The length is a variable here, since a proof would compute a list of a literal length.

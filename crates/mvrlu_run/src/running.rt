@@ -8,9 +8,9 @@ ghost use Rattle.run_words.specs.Words.{FitOptions};
 ghost use Rattle.script_workers.specs.Workers.{items_of};
 ghost use Rattle.mvrlu_run.specs.Kinds.{IsLeft, config_of, runs};
 
-use mv_history::{LogTable, Protocol, WORDS, Words};
+use mv_history::{LogTable, Protocol};
 use mv_layout::Config;
-use mvrlu::{Closing, Domain, OpenFault, Seat, open};
+use mvrlu::{Closing, Domain, OpenFault, Seat, open_zeros};
 use run_outside::Gate;
 use run_report::{Line, order};
 use run_words::Options;
@@ -116,17 +116,9 @@ pub fn open_sets(
     requires few { seats ≤ 64 }
     ensures { IfOk result (λ r. IsOpened (config_of options 16 seats) (replicate options.objects no_words) r.0 r.1.items) }
 {
-    let start = zeros(alloc, options.objects as usize)?;
-    match open(alloc, config(options, WRITE_MAX, seats), &start) {
+    match open_zeros(alloc, config(options, WRITE_MAX, seats)) {
         Ok(opened) => Ok(opened),
         Err(OpenFault::Memory) => Err(AllocError),
         Err(OpenFault::Config(_)) => unreachable!(),
     }
-}
-
-/// So many objects of zeros. The number is a variable here, since a proof would compute a list of a literal length.
-pub fn zeros(alloc: Global, count: usize) -> Result<Vec<Words>, AllocError>
-    ensures { IfOk result (λ objects. objects.items ≡ replicate count no_words) }
-{
-    vec![in alloc; [0; WORDS]; count]
 }

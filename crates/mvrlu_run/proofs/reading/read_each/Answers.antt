@@ -24,7 +24,7 @@ loop-place-preserved g c =
       len = rw c.in-Ok-push.ensures.items (grind (arith, common_steps));
       short = rw c.in-Ok-push.ensures.items
           (All-push (λ (text : Vec ℕ Global). length text.items ≤ MOST_BYTES) items c.in-Ok.text i.short is.2.short);
-      room = c.copy_text.auto.buffer ∙ i.room;
+      room = rw c.copy_text.auto.piece i.room;
       texts = c.copy_text.ensures.texts ∙ i.texts;
       steady = c.copy_text.ensures.still ∙ i.steady;
       none = none_from _ _ _ i.none c.in-Ok.ensures.none;

@@ -1,4 +1,4 @@
-use Rattle.std.proofs.Common.{◌≡◌, ◌≤◌, ◌+◌, map, length, string_bytes, All}
+use Rattle.std.proofs.Common.{◌≡◌, ◌≤◌, ◌<◌, map, length, string_bytes, All}
 use Rattle.mvrlu_run.specs.declared.finish.TheConstants.{MOST_BYTES}
 use Rattle.mvrlu_run.specs.Reading.{AreFirstTexts, text_of}
 use Rattle.mvrlu_run.specs.Scripts.{NoneFailed}
@@ -9,7 +9,7 @@ invariant-loop-place g l = record {
   first : AreFirstTexts (g.F.Files.texts l.fn.files) (map string_bytes l.names) (map text_of l.texts.items);
   len : length l.texts.items ≡ l.place;
   short : All (λ text. length text.items ≤ MOST_BYTES) l.texts.items;
-  room : length l.buffer ≡ MOST_BYTES + 1;
+  room : 0 < length l.piece;
   texts : g.F.Files.texts l.files ≡ g.F.Files.texts l.fn.files;
   steady : g.F.Files.steady l.files ≡ g.F.Files.steady l.fn.files;
   none : NoneFailed (g.F.Files.faults l.fn.files) (g.F.Files.faults l.files);

@@ -19,39 +19,21 @@ use Rattle.mv_core.specs.Rings.{own_of, spare_count}
 use Rattle.mv_core.specs.Times.{IsEntry, writes_to}
 use Rattle.version_chain.specs.Walks.{inside_of, time_at}
 use Rattle.object_lock.specs.Tops.{Tries}
-use Rattle.object_lock.specs.Locks.{LockAnswers, KeepsOwn, IsSetFull}
+use Rattle.object_lock.specs.Locks.{AnswersWith, KeepsOwn, IsSetFull}
 use Rattle.mvrlu.specs.Placed.{Placed, section_from}
 use Rattle.mvrlu.specs.Causes.{FoundLocked}
 use Rattle.mvrlu.proofs.LockMeant.{tried_continues}
 
--- the answers are apart
-apart_set : SetFull ≢ Held
-apart_set e = absurd cc
-
-apart_log : LogFull ≢ Held
-apart_log e = absurd cc
-
-apart_busy : (seat : ℕ) → Busy seat ≢ Held
-apart_busy seat e = absurd cc
-
-apart_stale : (time : ℕ) → Stale time ≢ Held
-apart_stale time e = absurd cc
-
--- an answer other than `Held` is of an object that isn't held
-lacked : (has : Bool) (a : LockAnswer) → (has ≡ true → a ≡ Held) → a ≢ Held → has ≡ false
-lacked true a again other = absurd (other (again refl))
-lacked false a again other = refl
-
-module _ (c : Config) (v w : View) (object : ℕ) where
+module _ (c : Config) (v w : View) (object : ℕ) (words : List ℕ) where
   -- a full set or a full log is answered, where the object isn't held
-  set_full_by : (a : LockAnswer) → LockAnswers c v w object a → IsSetFull c v → a ≡ SetFull
+  set_full_by : (a : LockAnswer) → AnswersWith c v w object words a → IsSetFull c v → a ≡ SetFull
   set_full_by SetFull h full = refl
   set_full_by LogFull h full = absurd (h.0 full)
   set_full_by Held h full = absurd (h.0.0 full)
   set_full_by (Busy seat) h full = absurd (h.0.0 full)
   set_full_by (Stale time) h full = absurd (h.0.0 full)
 
-  log_full_by : (a : LockAnswer) → LockAnswers c v w object a → ¬ (IsSetFull c v) → spare_count v.ring ≡ 0 → a ≡ LogFull
+  log_full_by : (a : LockAnswer) → AnswersWith c v w object words a → ¬ (IsSetFull c v) → spare_count v.ring ≡ 0 → a ≡ LogFull
   log_full_by LogFull h room none = refl
   log_full_by SetFull h room none = absurd (room h)
   log_full_by Held h room none = absurd (h.0.1 none)
@@ -74,13 +56,7 @@ stale_by p object time (Rest seat) after base is writes = absurd (cc)
 
 module _ (p q : Placed) (before after : ℕ) (tried : List Step) (config : q.config ≡ p.config) (table : q.table ≡ p.table)
     (t : Tries p.view q.view before after tried) (object : ℕ) (a : LockAnswer)
-    (again : touches (own_of p.config p.view.ring) object ≡ true → a ≡ Held)
-    (answers : touches (own_of p.config p.view.ring) object ≡ false → LockAnswers p.config p.view q.view object a) where
-  -- what was answered is of an object that isn't held
-  answered : a ≢ Held → Lacks (section_from p) object × LockAnswers p.config p.view q.view object a
-  answered other =
-      let lacks = lacked (touches (own_of p.config p.view.ring) object) a again other in (lacks, answers lacks)
-
+    (words : List ℕ) (lacks : Lacks (section_from p) object) (answers : AnswersWith p.config p.view q.view object words a) where
   pub as_before : KeepsOwn p.config p.view q.view → IsAsBefore (section_from p) (section_from q)
   as_before keeps = record {
     seat = record {
@@ -95,23 +71,22 @@ module _ (p q : Placed) (before after : ℕ) (tried : List Step) (config : q.con
 
   pub set_full : (a ≡ SetFull) ↔ (Lacks (section_from p) object × IsFullSection (section_from p))
   set_full = (
-    λ e. let is = answered (λ held. apart_set (sym e ∙ held)) in (is.0, subst (LockAnswers p.config p.view q.view object) e is.1),
-    λ is. set_full_by p.config p.view q.view object a (answers is.0) is.1,
+    λ e. (lacks, subst (AnswersWith p.config p.view q.view object words) e answers),
+    λ is. set_full_by p.config p.view q.view object words a answers is.1,
   )
 
   pub log_full : (a ≡ LogFull) ↔ (Lacks (section_from p) object × ¬ IsFullSection (section_from p) × IsLogFull (section_from p))
   log_full = (
     λ e.
-        let is = answered (λ held. apart_log (sym e ∙ held)) in
-        let l = subst (LockAnswers p.config p.view q.view object) e is.1 in
-        (is.0, l.0, l.1),
-    λ is. log_full_by p.config p.view q.view object a (answers is.0) is.1 is.2,
+        let l = subst (AnswersWith p.config p.view q.view object words) e answers in
+        (lacks, l.0, l.1),
+    λ is. log_full_by p.config p.view q.view object words a answers is.1 is.2,
   )
 
   -- another seat was found holding it
   pub found_locked : (seat : ℕ) → a ≡ Busy seat → (seat ≢ p.view.number) × FoundLocked (section_from p) (section_from q) object seat
   found_locked seat e =
-      let is = subst (LockAnswers p.config p.view q.view object) e (answered (λ held. apart_busy seat (sym e ∙ held))).1 in (
+      let is = subst (AnswersWith p.config p.view q.view object words) e answers in (
         is.1.0,
         record {
           config = p.config;
@@ -124,7 +99,7 @@ module _ (p q : Placed) (before after : ℕ) (tried : List Step) (config : q.con
   -- a commit after the section's time writes it
   pub found_stale : (time : ℕ) → a ≡ Stale time → q.view.base ≡ q.config.base → IsStale (section_from q) object time
   found_stale time e base =
-      let is = subst (LockAnswers p.config p.view q.view object) e (answered (λ held. apart_stale time (sym e ∙ held))).1 in
+      let is = subst (AnswersWith p.config p.view q.view object words) e answers in
       let phase : q.view.phase ≡ p.view.phase = ap (λ (u : View). u.phase) t.rest in
       let here : time_at q.view ≡ time_at p.view = ap (λ (f : Phase). time_in (inside_of f)) phase in
       let w = is.1.1 in

@@ -1,12 +1,13 @@
 -- What a lock means.
-use Rattle.std.proofs.Common.{◌≡◌, ℕ, ◌+◌, ◌-◌, ◌≤◌, false, List, [], ◌∷◌, ◌++◌, length, refl, sym, ap, ◌∙◌}
+use Rattle.std.proofs.Common.{◌≡◌, ℕ, ◌+◌, ◌-◌, ◌≤◌, false, List, [], ◌∷◌, ◌++◌, length, Option, refl, sym, ap, ◌∙◌}
+use Rattle.std.specs.Prelude.{unwrap_or}
 use Rattle.mv_history.specs.declared.Step.{Step}
 use Rattle.mv_history.specs.declared.StepKind.{StepKind}
 use Rattle.mv_history.specs.declared.StepKind.TheVariants.{LoadHead, LoadFirst, LoadStamp, LoadData, LoadMaster, StoreBuilt, LockHead}
 use Rattle.mv_history.specs.Trail.{is_commit_exchange, commit_exchanges}
 use Rattle.mv_history.specs.State.{touches}
 use Rattle.mv_history.specs.Meaning.{InSection, Lacks, snapshot_of, state_of, words_at}
-use Rattle.mv_history.specs.Calls.{Continues, GoesOn, Locks}
+use Rattle.mv_history.specs.Calls.{Continues, GoesOn, LocksWith}
 use Rattle.mv_history.proofs.Writing.{words-written_other}
 use Rattle.mv_history.proofs.Snapshots.{snapshot_of-later}
 use Rattle.mv_layout.specs.declared.Config.{Config}
@@ -65,16 +66,17 @@ module _ (p q : Placed) (before after : ℕ) (tried : List Step) (config : q.con
     names_no_commit = ap commit_exchanges (made p.view.trail q.view.trail t.trail.0 t.trail.1) ∙ none_named IsLockStep no_name t.trail.0 t.trail.3;
   }
 
-  pub tried_locks : (o : ℕ) → p.view.base ≡ p.config.base → time_at p.view - p.config.base ≤ length p.view.past.seen
+  pub tried_locks : (o : ℕ) (given : Option (List ℕ)) → p.view.base ≡ p.config.base → time_at p.view - p.config.base ≤ length p.view.past.seen
       → touches (own_of p.config p.view.ring) o ≡ false → own_of p.config q.view.ring ≡ own_of p.config p.view.ring ++
-      (o, words_in p.config q.view o) ∷ [] → spare_count q.view.ring + 1 ≡ spare_count p.view.ring → Locks (section_from p) (section_from q) o
-  tried_locks o base past lacks own spare = record {
+      (o, unwrap_or given (words_in p.config q.view o)) ∷ [] → spare_count q.view.ring + 1 ≡ spare_count p.view.ring
+      → LocksWith (section_from p) (section_from q) o (unwrap_or given (words_at (state_of (section_from p)) o))
+  tried_locks o given base past lacks own spare = record {
     continues = tried_continues;
     mine = ap (λ (u : View). u.past.mine) t.rest;
     rests = ap (λ (u : View). u.past.rests) t.rest;
     spare = spare;
     at = tried_at;
     own = ap (λ (d : Config). own_of d q.view.ring) config ∙ own
-        ∙ ap (λ ws. own_of p.config p.view.ring ++ (o, ws) ∷ []) (snapshot_words p q o config (ap (λ (u : View). u.phase) t.rest) tried_continues past
+        ∙ ap (λ ws. own_of p.config p.view.ring ++ (o, unwrap_or given ws) ∷ []) (snapshot_words p q o config (ap (λ (u : View). u.phase) t.rest) tried_continues past
         ∙ below_words (section_from p) o lacks);
   }

@@ -1,12 +1,12 @@
 // Locking objects in a section, and writing what it holds.
-ghost use Rattle.std.specs.Prelude.{◌≡◌, ◌≢◌, ◌↔◌, ℕ, ◌<◌, ◌≤◌, length, All, false, IfSome, IfNone};
+ghost use Rattle.std.specs.Prelude.{◌≡◌, ◌≢◌, ◌↔◌, ℕ, ◌<◌, ◌≤◌, length, All, false, unwrap_or, IfSome, IfNone};
 ghost use Rattle.mv_history.specs.State.{touches, maker_of};
 ghost use Rattle.mv_history.specs.Meaning.{IsSection, state_of, words_at, Holds, Lacks};
-ghost use Rattle.mv_history.specs.Calls.{GoesOn, IsAsBefore, IsSetFull, IsLogFull, Locks, Rewrites, IsStale};
+ghost use Rattle.mv_history.specs.Calls.{GoesOn, IsAsBefore, IsSetFull, IsLogFull, LocksWith, Rewrites, IsStale};
 ghost use Rattle.mv_history.specs.declared.answers.LockAnswer.TheVariants.{Held, Busy as IsTaken, Stale, SetFull, LogFull};
 ghost use Rattle.mv_core.specs.Passes.{start_of};
 ghost use Rattle.seat_log.specs.Notes.{held_from, IsNoteAt};
-ghost use Rattle.object_lock.specs.Locks.{HoldsObject};
+ghost use Rattle.object_lock.specs.Locks.{HoldsObject, most_to_lock};
 ghost use Rattle.mvrlu.specs.Placed.{section_from, Fits};
 ghost use Rattle.mvrlu.specs.Causes.{FoundLocked};
 ghost use Rattle.mvrlu.specs.Bounds.{MakesAtMost};
@@ -15,7 +15,7 @@ ghost use Rattle.mvrlu.specs.Holding.{seats_of};
 use crate::places::{Busy, Place};
 use mv_core::{Shared, Steps};
 use mv_history::{LockAnswer, Protocol, Words};
-use object_lock::{lock, write};
+use object_lock::{lock_new, write};
 use seat_log::{Log, Note, held, live, note};
 use std::sync::ledger::{Blank, Ledger};
 
@@ -46,22 +46,23 @@ pub(crate) fn held_words<P: Protocol>(busy: &Busy<P>, object: u32) -> Option<Wor
     }
 }
 
-// Tries to hold an object.
+// Tries to hold an object that isn't held, with the given words, or else with those that the section reads.
 pub(crate) fn locked<P: Protocol, L: Ledger>(
     shared: &Shared<P>,
     busy: &mut Busy<P>,
     object: u32,
+    given: Option<Words>,
     blank: Blank,
 ) -> LockAnswer
     requires name { blank.name ≡ L.name }
     requires parts { (blank.parts ≡ L.parts) × (0 < L.parts) }
     requires fits { Fits shared.now busy.old }
     requires range { object < length (start_of shared.now) }
+    requires lacks { Lacks (section_from busy.old) object }
     ensures fits { Fits shared.now busy.new }
     ensures lawful { IsSection P.start P.allowed (section_from busy.new) }
     ensures goes_on { GoesOn (section_from busy.old) (section_from busy.new) }
     ensures refused { result ≢ Held → IsAsBefore (section_from busy.old) (section_from busy.new) }
-    ensures again { Holds (section_from busy.old) object → (result ≡ Held) × (section_from busy.new ≡ section_from busy.old) }
     ensures set_full { (result ≡ SetFull) ↔ (Lacks (section_from busy.old) object × IsSetFull (section_from busy.old)) }
     ensures log_full { (result ≡ LogFull) ↔ (Lacks (section_from busy.old) object × ¬ IsSetFull (section_from busy.old) × IsLogFull (section_from busy.old)) }
     ensures taken { (seat : ℕ) → result ≡ IsTaken seat →
@@ -69,13 +70,14 @@ pub(crate) fn locked<P: Protocol, L: Ledger>(
     ensures stale { (time : ℕ) → result ≡ Stale time → IsStale (section_from busy.new) object time }
     ensures range { (section_from busy.old).seat.number < seats_of (section_from busy.old).seat }
     ensures makers { All (λ e. maker_of e < seats_of (section_from busy.old).seat) (section_from busy.new).seat.seen }
-    ensures held { result ≡ Held → Lacks (section_from busy.old) object → Locks (section_from busy.old) (section_from busy.new) object }
+    ensures held { result ≡ Held → LocksWith (section_from busy.old) (section_from busy.new) object
+        (unwrap_or given (words_at (state_of (section_from busy.old)) object)) }
     ensures aborts { busy.new.log.aborts ≡ busy.old.log.aborts }
-    ensures bound { MakesAtMost (section_from busy.old).seat (section_from busy.new).seat 24 }
+    ensures bound { MakesAtMost (section_from busy.old).seat (section_from busy.new).seat (most_to_lock given) }
 {
     let mut steps = Steps::<L>::open(blank);
     let Place { pass, log } = &mut *busy.place;
-    lock(shared, pass, log, object, &mut steps)
+    lock_new(shared, pass, log, object, given, &mut steps)
 }
 
 // Gives a held object these words.

@@ -99,7 +99,7 @@ impl<'d, P: Protocol> Section for Session<'d, P> {
     ghost use Rattle.std.specs.Prelude.{refl, ◌≡◌, ◌≢◌, ◌↔◌, ℕ, ◌+◌, ◌-◌, ◌<◌, ◌≤◌, [], length};
     ghost use Rattle.mv_history.specs.Meaning.{state_of, snapshot_of, Holds, Lacks, IsWorn};
     ghost use Rattle.mv_history.specs.Answer.{OnDone, OnAgain, OnEnd, seat_after};
-    ghost use Rattle.mv_history.specs.Calls.{call_trail, IsAsBefore, GoesOn, IsSetFull, IsLogFull, Locks, Rewrites, Leaves, Commits, IsStale, Overtakes};
+    ghost use Rattle.mv_history.specs.Calls.{call_trail, IsAsBefore, GoesOn, IsSetFull, IsLogFull, Locks, LocksWith, Rewrites, Leaves, Commits, IsStale, Overtakes};
     ghost use Rattle.mv_history.specs.Drift.{IsFit};
     ghost use Rattle.mv_history.specs.Trail.{commit_exchanges, IsOneWon, IsOneLost};
     ghost use Rattle.mv_history.specs.declared.answers.LockAnswer.TheVariants.{Held, Busy as IsTaken, Stale, SetFull, LogFull};
@@ -169,9 +169,46 @@ impl<'d, P: Protocol> Section for Session<'d, P> {
         ensures aborts { aborts_before self.new ≡ aborts_before self.old }
         ensures bound { MakesAtMost (section_of self.old).seat (section_of self.new).seat 24 }
     {
+        if self.has_lock(object) {
+            return LockAnswer::Held;
+        }
         let domain = self.domain;
         let part = &mut self.part;
-        locked::<P, Brand>(&domain.shared, &mut part.busy, object, Blank::new(1))
+        locked::<P, Brand>(&domain.shared, &mut part.busy, object, None, Blank::new(1))
+    }
+
+    // In a domain of one seat it never answers `Busy` or `Stale`. It reads none of the object's words.
+    fn try_lock_with(&mut self, object: u32, words: Words) -> LockAnswer
+        requires { object < length (state_of (section_of self.old)) }
+        ensures goes_on { GoesOn (section_of self.old) (section_of self.new) }
+        ensures refused { result ≢ Held → IsAsBefore (section_of self.old) (section_of self.new) }
+        ensures again { Holds (section_of self.old) object → (result ≡ Held) × Rewrites (section_of self.old) (section_of self.new) object words }
+        ensures set_full { (result ≡ SetFull) ↔ (Lacks (section_of self.old) object × IsSetFull (section_of self.old)) }
+        ensures log_full { (result ≡ LogFull) ↔
+            (Lacks (section_of self.old) object × ¬ IsSetFull (section_of self.old) × IsLogFull (section_of self.old)) }
+        ensures busy { (seat : ℕ) → result ≡ IsTaken seat →
+            ⟦<Session<'d, P> as Section>⟧.may_refuse × (seat ≢ (section_of self.old).seat.number)
+            × FoundLocked (section_of self.old) (section_of self.new) object seat }
+        ensures stale { (time : ℕ) → result ≡ Stale time → ⟦<Session<'d, P> as Section>⟧.may_refuse × IsStale (section_of self.new) object time }
+        ensures held { result ≡ Held → Lacks (section_of self.old) object → LocksWith (section_of self.old) (section_of self.new) object words }
+        ensures log_full_only { result ≡ LogFull → ⟦<Session<'d, P> as Section>⟧.may_refuse }
+        ensures alone { seats_of (section_of self.old).seat ≡ 1 → ((seat : ℕ) → result ≢ IsTaken seat) × ((time : ℕ) → result ≢ Stale time) }
+        ensures aborts { aborts_before self.new ≡ aborts_before self.old }
+        ensures bound { MakesAtMost (section_of self.old).seat (section_of self.new).seat 18 }
+    {
+        if self.has_lock(object) {
+            self.write(object, words);
+            return LockAnswer::Held;
+        }
+        let domain = self.domain;
+        let part = &mut self.part;
+        locked::<P, Brand>(
+            &domain.shared,
+            &mut part.busy,
+            object,
+            Some(words),
+            Blank::new(1),
+        )
     }
 
     fn write(&mut self, object: u32, words: Words)

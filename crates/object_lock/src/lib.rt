@@ -33,5 +33,5 @@ mod locking;
 mod top;
 mod writing;
 
-pub use locking::{StartedLock, holds, lock, lock_end, lock_start, lock_with};
+pub use locking::{StartedLock, holds, lock, lock_end, lock_new, lock_start, lock_with};
 pub use writing::write;

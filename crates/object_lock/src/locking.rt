@@ -276,9 +276,10 @@ pub fn lock_end<P: Protocol, L: Ledger>(
     }
 }
 
-// Locks an object that the section doesn't hold, with the given words, or else with those that the
-// section reads.
-fn lock_new<P: Protocol, L: Ledger>(
+/// Locks an object that the section doesn't hold, for a caller who has looked: with the given words as
+/// `lock_with`, or where none are given with those that the section reads as `lock`. The condition but
+/// for that, the answers and what is left are theirs. It makes at most 18 steps, or 24.
+pub fn lock_new<P: Protocol, L: Ledger>(
     shared: &Shared<P>,
     pass: &mut Pass<P>,
     log: &mut Log,

@@ -241,16 +241,16 @@ static inline int32_t mvrlu_lock(mvrlu_seat *seat, uint32_t object, uint64_t *by
  * begin; any hint may be given. Writing zeros to an object makes it vacant again. MVRLU_FULL: no object of the domain is vacant, and both stay.
  * MVRLU_BUSY, MVRLU_STALE, MVRLU_LOG_FULL, MVRLU_SET_FULL: it was found, and not locked, as mvrlu_lock says; after the first two the call may
  * be made again in the same section, for the next vacant one. It reads each object once at most. */
-static inline int32_t mvrlu_find_vacant(mvrlu_raw *seat, uint32_t *hint, uint32_t *object) {
-    uint32_t next = *hint, found = *object;
-    int32_t status = mvrlu_raw_vacant(seat, &next, &found);
-    *hint = next;
-    *object = found;
-    return status;
-}
 static inline int32_t mvrlu_vacant(mvrlu_seat *seat, uint32_t *hint, uint32_t *object) {
-    if (hint == NULL || object == NULL) return MVRLU_NULL;
-    MVRLU_ON(seat, mvrlu_find_vacant(&seat->raw, hint, object));
+    uint32_t next, found;
+    int32_t status;
+    if (seat == NULL || hint == NULL || object == NULL) return MVRLU_NULL;
+    next = *hint, found = *object; /* the two may be one */
+    status = mvrlu_begin_call(seat, &seat->in_call, &seat->raw.is_open, &seat->self);
+    if (status != MVRLU_OK) return status;
+    status = mvrlu_raw_vacant(&seat->raw, &next, &found);
+    *hint = next, *object = found;
+    return mvrlu_end_call(&seat->in_call, status);
 }
 
 /* Gives a locked object new words. Nobody else sees them before the commit. */

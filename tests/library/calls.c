@@ -386,8 +386,10 @@ static void misuse_of_a_handle(void) {
     seats[0].in_call = 1;
     WANT(mvrlu_enter(&seats[0]), MVRLU_IN_USE);
     WANT(mvrlu_close(&seats[0]), MVRLU_IN_USE);
+    WANT(mvrlu_vacant(&seats[0], &object, &object), MVRLU_IN_USE);
     seats[0].in_call = 0;
     WANT(mvrlu_enter(NULL), MVRLU_NULL);
+    WANT(mvrlu_vacant(NULL, &object, &object), MVRLU_NULL);
     WANT(mvrlu_read(&seats[0], 0, NULL), MVRLU_NULL);
     WANT(mvrlu_read_pair(&seats[0], 0, 0, NULL), MVRLU_NULL);
     WANT(mvrlu_write(&seats[0], 0, NULL), MVRLU_NULL);

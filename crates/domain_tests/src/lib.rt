@@ -1,6 +1,7 @@
 //! Worked cases of a domain, over the public calls of `mvrlu` alone: opening one, with each fault of its
 //! numbers; sections of its seats, what holds their logs, and their meeting, by schedules; and that its
-//! seats, handles and sections may go to threads. The accounts of `accounts` run here too, over a plain store.
+//! seats, handles and sections may go to threads; and over those of `object_seats` and `set_seats`. The
+//! accounts of `accounts` run here too, over a plain store.
 //!
 //! **The model.** A schedule is a value: its name, the numbers of a domain, its turns, each with the number
 //! of a seat, its move, and the answer that is wanted, and the closing that is wanted. An interpreter plays
@@ -28,6 +29,8 @@ mod opening;
 mod owned_rows;
 #[cfg(test)]
 mod owned_seats;
+#[cfg(test)]
+mod owned_sets;
 #[cfg(test)]
 mod playing;
 #[cfg(test)]

@@ -75,24 +75,31 @@ module _ {heads size : ℕ} {next place : ℕ → ℕ} (after : ℕ → ℕ) (r 
       let most = closed_below (place u) (place h) size (apart r h u lh lu (λ q. uh (sym q))) (r.below h lh) (r.below u lu) in
       inl (e ∙ back.0, ap (λ (n : ℕ). n + 1) (at_other o nu) ∙ open_last j (closed (place u) (place o)) size (not_j o l nu nh) most back.1)
   goes_to o x l nu nh e (inr on) =
-      inr (subst (λ y. (y < size) × (moved_to y ≡ moved_to o + 1)) (sym e) (on.0,
+      inr (subst (λ y. (y < size) × (moved_to y ≡ moved_to o + 1)) (sym e) (
+        on.0,
         at_other x on.1 ∙ ap (opened_behind j) on.2 ∙ open_next j (closed (place u) (place o)) (not_j o l nu nh)
-            ∙ ap (λ (n : ℕ). n + 1) (sym (at_other o nu))))
+            ∙ ap (λ (n : ℕ). n + 1) (sym (at_other o nu)),
+      ))
 
   follows : (o : ℕ) → o < size → Follows size after moved_to o
   follows o l = go (cases_eq o u) (cases_eq o h) (cases_eq o p)
     where
       go : (o ≡ u) ⊎ (o ≢ u) → (o ≡ h) ⊎ (o ≢ h) → (o ≡ p) ⊎ (o ≢ p) → Follows size after moved_to o
       go (inl e) b c = subst (Follows size after moved_to) (sym e) (elim (r.follows h lh) [
-        | inl back ↦ inl (mu ∙ back.0, ap (λ (n : ℕ). n + 1) at_u
-            ∙ omega (arith, closed_last (place u) (place h) size (apart r h u lh lu (λ q. uh (sym q))) (r.below u lu) back.1))
+        | inl back ↦ inl (
+          mu ∙ back.0,
+          ap (λ (n : ℕ). n + 1) at_u
+              ∙ omega (arith, closed_last (place u) (place h) size (apart r h u lh lu (λ q. uh (sym q))) (r.below u lu) back.1),
+        )
         | inr on ↦
             let nu : next h ≢ u = λ q. ph (r.own p h lp lh (let a = ap place q in omega (arith, a, on.1, behind))) in
             let k = apart r (next h) u on.0 lu nu in
             let c = closed_next (place u) (place h) (apart r h u lh lu (λ q. uh (sym q))) (λ q. k (on.1 ∙ q)) in
-            inr (subst (λ y. (y < size) × (moved_to y ≡ moved_to u + 1)) (sym mu) (on.0,
+            inr (subst (λ y. (y < size) × (moved_to y ≡ moved_to u + 1)) (sym mu) (
+              on.0,
               at_other (next h) nu ∙ ap (λ (i : ℕ). opened_behind j (closed (place u) i)) on.1 ∙ ap (opened_behind j) c
-                  ∙ (let z : opened_behind j (j + 1) ≡ j + 1 + 1 = omega arith in z) ∙ ap (λ (n : ℕ). n + 1) (sym at_u)))
+                  ∙ (let z : opened_behind j (j + 1) ≡ j + 1 + 1 = omega arith in z) ∙ ap (λ (n : ℕ). n + 1) (sym at_u),
+            ))
       ])
       go (inr n) (inl e) c = subst (Follows size after moved_to) (sym e)
           (inr (subst (λ y. (y < size) × (moved_to y ≡ moved_to h + 1)) (sym mh)

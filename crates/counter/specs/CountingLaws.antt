@@ -1,5 +1,5 @@
 -- That the rules are propositions, as a `Protocol` asks.
-use Rattle.std.specs.Prelude.{◌≡◌, ℕ, List}
+use Rattle.std.specs.Prelude.{ℕ, List}
 use Rattle.std.proofs.Props.{props}
 use Rattle.mv_history.specs.State.{State, Writes}
 use Rattle.mv_client.specs.Rewriting.{Rewrites-prop}

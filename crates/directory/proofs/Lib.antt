@@ -1,7 +1,5 @@
-pub mod Rings
-mod Moved
+pub mod Placed
 pub mod Keeps
 pub mod Opens
-mod Walks
 mod Planned
 pub mod Seeing

@@ -1,23 +1,22 @@
 -- What a move plans in a section that holds nothing.
-use Rattle.std.proofs.Common.{◌≡◌, ◌≢◌, ℕ, zero, suc, ◌-◌, ◌<◌, ◌≤◌, true, List, [], ◌∷◌, length, refl, sym, ap, ◌∙◌, inl, inr, ◌⊎◌, subst, arith}
-use Rattle.std.proofs.lemmas.Bool.{cases_eq}
+use Rattle.std.proofs.Common.{◌≡◌, ◌≢◌, ℕ, ◌-◌, ◌<◌, List, [], ◌∷◌, length, refl, sym, ap, ◌∙◌, subst, arith}
 use Rattle.std.proofs.lemmas.Bool.Decides.{nat_tests}
-use Rattle.mv_history.specs.State.{State, Writes, touches}
-use Rattle.mv_history.specs.Legal.{are_distinct, AreWithin}
+use Rattle.mv_history.specs.State.{State, Writes}
+use Rattle.mv_history.specs.Legal.{AreWithin}
 use Rattle.mv_history.specs.Drift.{IsFit}
 use Rattle.mv_history.specs.Meaning.{InSection, IsSection, state_of, words_at}
 use Rattle.section_work.specs.Works.{IsPlanned}
 use Rattle.section_work.proofs.Entering.{reads_snapshot}
 use Rattle.mv_client.proofs.Invariants.{keeps_in}
 use Rattle.mv_client.proofs.Fits.{fit_by_held}
-use Rattle.directory.specs.declared.rules.TheConstants.{OBJECTS, SHELVES}
+use Rattle.mv_client.proofs.Keeping.{three_distinct}
+use Rattle.directory.specs.declared.rules.TheConstants.{SHELVES}
 use Rattle.directory.specs.declared.moving.Found.TheVariants.{Away}
-use Rattle.directory.specs.Ring.{link_of, linked, next_of, IsUser, IsRing, IsOn, IsDirectory}
-use Rattle.directory.specs.Searches.{IsBefore}
+use Rattle.directory.specs.Ring.{link_of, linked, IsDirectory}
+use Rattle.directory.specs.Ring.{IsBefore}
 use Rattle.directory.specs.Moves.{IsOpening, before_in, user_in, shelf_in, IsMove, IsMoving, move_meaning, tag_of_plan}
-use Rattle.directory.proofs.Keeps.{three_distinct, move_keeps}
+use Rattle.directory.proofs.Keeps.{move_keeps}
 use Rattle.directory.proofs.Opens.{opened}
-use Rattle.directory.proofs.Rings.{placed}
 
 -- what a section reads that holds nothing is a directory
 pub directory_read : (s : InSection) (u : State) → u ≡ state_of s → s.own ≡ [] → IsSection IsOpening IsMove s → IsDirectory u
@@ -27,12 +26,6 @@ directory_read s u reads none lawful =
 -- the other of the two shelves
 pub other_below : (shelf : ℕ) → shelf < SHELVES → 1 - shelf < SHELVES
 other_below shelf l = omega (arith, l)
-
--- a user that isn't on the one shelf is on the other
-pub there : (s : State) (shelf user : ℕ) → IsDirectory s → IsMoving user shelf → (IsOn s (1 - shelf) user → ⊥) → IsOn s shelf user
-there s zero user d m none = elim (placed d.1 user m.user_is m.below).on [ inl on ↦ on | inr on ↦ absurd (none on) ]
-there s (suc zero) user d m none = elim (placed d.1 user m.user_is m.below).on [ inl on ↦ absurd (none on) | inr on ↦ on ]
-there s (suc (suc shelf)) user d m none = absurd (omega (arith, m.shelf_is))
 
 -- a move depends on the three objects that it writes
 move_fit : (tag : List ℕ) (from : State) (ws : Writes) → IsMove tag from ws → IsFit IsMove from tag ws
@@ -61,24 +54,24 @@ pub planned : (s : State) (before user shelf : ℕ) (w1 w2 w3 first second third
     → IsPlanned IsMove (move_meaning user shelf) s (tag_of_plan user shelf ((before, first) ∷ (user, second) ∷ (shelf, third) ∷ []))
     ((before, first) ∷ (user, second) ∷ (shelf, third) ∷ []) Away
 planned s before user shelf w1 w2 w3 first second third d m b e1 e2 e3 f1 f2 f3 =
-    let apart : before ≢ shelf = b.not_shelf shelf m.shelf_is (λ e. omega (arith, e, m.shelf_is)) in
+    let apart : before ≢ shelf = b.not_head shelf m.shelf_is (λ e. omega (arith, e, m.shelf_is)) in
     let us : user ≢ shelf = λ e. omega (arith, e, m.user_is, m.shelf_is) in
     let moves : IsMove (before ∷ user ∷ shelf ∷ 0 ∷ []) s ((before, first) ∷ (user, second) ∷ (shelf, third) ∷ []) = record {
-      many = d.1.many;
+      many = d.0;
       from = b.below;
       user = m.user_is;
       below = m.below;
       shelf = m.shelf_is;
       apart = apart;
-      other = b.not_user;
-      here = b.next;
+      other = b.not_item;
+      here = b.next_is;
       moves = rw (f1, f2, f3, e1, e2, e3) refl;
     } in record {
       plan = record { user_is = refl; shelf_is = refl; moves = moves };
       some = omega arith;
       few = omega arith;
-      distinct = three_distinct before user shelf first second third b.not_user apart us;
-      within = three_within before user shelf (length s) first second third (omega (arith, b.below, d.1.many)) (omega (arith, m.below, d.1.many))
-          (omega (arith, m.shelf_is, d.1.many));
+      distinct = three_distinct before user shelf first second third b.not_item apart us;
+      within = three_within before user shelf (length s) first second third (omega (arith, b.below, d.0)) (omega (arith, m.below, d.0))
+          (omega (arith, m.shelf_is, d.0));
       fit = move_fit _ s _ moves;
     }

@@ -1,9 +1,8 @@
 -- What a section of a directory shows, and what its states have.
-use Rattle.std.proofs.Common.{◌≡◌, ◌≢◌, ℕ, ◌+◌, ◌<◌, ◌≤◌, List, []}
-use Rattle.std.proofs.Common.{length, refl, sym, ap, subst, ◌∙◌, arith}
+use Rattle.std.proofs.Common.{◌≡◌, ℕ, ◌+◌, ◌<◌}
+use Rattle.std.proofs.Common.{refl, sym, ap, subst, ◌∙◌, arith}
 use Rattle.std.specs.Prelude.{slice_index}
-use Rattle.std.proofs.lemmas.Bool.{cases_eq}
-use Rattle.mv_history.specs.State.{State, Writes, written, state_at}
+use Rattle.mv_history.specs.State.{State, state_at}
 use Rattle.mv_history.specs.Meaning.{Seat, InSection, IsSeat, IsSection, state_of, words_at}
 use Rattle.mv_history.specs.Calls.{Continues, Enters, IsAsBefore, Leaves}
 use Rattle.mv_history.proofs.Steps.{Continues-Continues, length-seen, state_at-later}
@@ -11,16 +10,16 @@ use Rattle.section_work.proofs.Entering.{reads_snapshot}
 use Rattle.mv_client.proofs.Invariants.{keeps_at}
 use Rattle.directory.specs.declared.rules.TheConstants.{OBJECTS}
 use Rattle.directory.specs.declared.reading.Seen.{Seen}
-use Rattle.directory.specs.Ring.{details_of, linked, next_of, IsUser, IsOn, IsPlaced, IsDirectory}
-use Rattle.directory.specs.Moves.{IsOpening, before_in, user_in, shelf_in, IsMove}
+use Rattle.directory.specs.Ring.{details_of, IsUser, IsOn, IsPlaced, IsDirectory}
+use Rattle.directory.specs.Moves.{IsOpening, IsMove}
 use Rattle.directory.specs.Reads.{IsSeen}
 use Rattle.directory.proofs.Keeps.{move_keeps, details_move}
 use Rattle.directory.proofs.Opens.{opened}
-use Rattle.directory.proofs.Rings.{placed}
+use Rattle.directory.proofs.Placed.{placed}
 
 pub placed_at : (s : Seat) → IsSeat IsOpening IsMove s → (t user : ℕ) → IsUser user → user < OBJECTS → IsPlaced (state_at s.start s.seen t) user
 placed_at s lawful t user is below =
-    let d = keeps_at IsMove IsDirectory move_keeps IsOpening s lawful (opened s.start lawful.start) t in placed d.1 user is below
+    let d = keeps_at IsMove IsDirectory move_keeps IsOpening s lawful (opened s.start lawful.start) t in placed d user is below
 
 pub details_at : (s : Seat) → IsSeat IsOpening IsMove s → (t o : ℕ) → details_of (words_at (state_at s.start s.seen t) o) ≡ details_of (words_at s.start o)
 details_at s lawful t o =

@@ -1,5 +1,4 @@
 pub mod Ring
-pub mod Searches
 pub mod Moves
 pub mod MoveLaws
 pub mod Reads

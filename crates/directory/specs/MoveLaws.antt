@@ -1,12 +1,12 @@
 -- That the rules are propositions, as a `Protocol` asks, and that a commit of a move makes it.
-use Rattle.std.proofs.Common.{◌≡◌, ◌≢◌, ℕ, ◌<◌, ◌≤◌, List, [], length, map, set, sym, ap, ◌∙◌, arith, length-set, get_or-set_same}
+use Rattle.std.proofs.Common.{◌≡◌, ◌≢◌, ℕ, ◌<◌, ◌≤◌, List, length, map, sym, ap, ◌∙◌, arith}
 use Rattle.std.specs.Coded.{Coded-set, coded_ℕ, coded_list}
 use Rattle.std.proofs.Props.{props}
 use Rattle.directory.specs.declared.rules.TheConstants.{OBJECTS, SHELVES}
 use Rattle.mv_history.specs.State.{State, Writes, written}
-use Rattle.mv_history.specs.Meaning.{words_at}
 use Rattle.mv_client.specs.Rules.{Writes-set}
-use Rattle.directory.specs.Ring.{link_of, linked, next_of}
+use Rattle.mv_client.proofs.Keeping.{written_third}
+use Rattle.directory.specs.Ring.{link_of, next_of}
 use Rattle.directory.specs.Moves.{IsOpening, before_in, user_in, shelf_in, IsMove, PlansMove}
 
 pub IsOpening-prop : (s : State) → IsProp (IsOpening s)
@@ -34,21 +34,10 @@ IsMove-prop tag before writes x y =
       moves = Writes-set writes _ x.moves y.moves i;
     }
 
--- the shelf's link is the last that is set
+-- the shelf leads to the user
 pub makes_move : (user shelf : ℕ) (s before : State) (tag : List ℕ) (ws : Writes) → PlansMove user shelf s tag ws → IsMove tag before ws
     → next_of (written before ws) shelf ≡ user
 makes_move user shelf s before tag ws p m =
-    let first : State = set before (before_in tag) (linked (words_at before (before_in tag)) (next_of before (user_in tag))) in
-    let second : State = set first (user_in tag) (linked (words_at before (user_in tag)) (next_of before (shelf_in tag))) in
-    let within : shelf_in tag < length second =
-    omega (
-      arith,
-      m.many,
-      m.shelf,
-      length-set first (user_in tag) (linked (words_at before (user_in tag)) (next_of before (shelf_in tag))),
-      length-set before (before_in tag) (linked (words_at before (before_in tag)) (next_of before (user_in tag))),
-    ) in
-    ap (next_of (written before ws)) (sym p.shelf_is)
-    ∙ ap (λ (v : Writes). next_of (written before v) (shelf_in tag)) m.moves
-    ∙ ap link_of (get_or-set_same second (shelf_in tag) (linked (words_at before (shelf_in tag)) (user_in tag)) [] within)
-    ∙ p.user_is
+    let apart : user_in tag ≢ shelf_in tag = λ e. omega (arith, e, m.user, m.shelf) in
+    ap (next_of (written before ws)) (sym p.shelf_is) ∙ ap (λ (v : Writes). next_of (written before v) (shelf_in tag)) m.moves
+    ∙ ap link_of (written_third before _ _ _ _ _ _ m.other m.apart apart (omega (arith, m.many, m.shelf))) ∙ p.user_is

@@ -1,5 +1,5 @@
 -- Which states a directory opens with, and which commits move a user.
-use Rattle.std.specs.Prelude.{◌≡◌, ◌≢◌, ℕ, ◌-◌, ◌<◌, ◌≤◌, true, Bool, List, [], ◌∷◌, length, map, slice_index}
+use Rattle.std.specs.Prelude.{◌≡◌, ◌≢◌, ℕ, ◌-◌, ◌<◌, true, Bool, List, [], ◌∷◌, length, map, slice_index}
 use Rattle.directory.specs.declared.rules.TheConstants.{OBJECTS, SHELVES}
 use Rattle.directory.specs.declared.moving.Found.{Found}
 use Rattle.directory.specs.declared.moving.Found.TheVariants.{Away, There, Late}
@@ -27,6 +27,13 @@ abbrev pub first_object : Writes → ℕ
 first_object [] = 0
 first_object (w ∷ ws) = w.0
 
+-- What the move with this tag writes in a state: links alone. What was behind the user comes behind the object before it, the user leads to what
+-- was first on the shelf, and the shelf leads to the user.
+abbrev pub move_writes : List ℕ → State → Writes
+move_writes tag s = (before_in tag, linked (words_at s (before_in tag)) (next_of s (user_in tag)))
+    ∷ (user_in tag, linked (words_at s (user_in tag)) (next_of s (shelf_in tag)))
+    ∷ (shelf_in tag, linked (words_at s (shelf_in tag)) (user_in tag)) ∷ []
+
 -- The commit with this tag takes the user from behind the one object to the front of the shelf, and changes links alone.
 pub record IsMove (tag : List ℕ) (before : State) (writes : Writes) : Type 0 where
   pub many : length before ≡ OBJECTS
@@ -37,9 +44,7 @@ pub record IsMove (tag : List ℕ) (before : State) (writes : Writes) : Type 0 w
   pub apart : before_in tag ≢ shelf_in tag
   pub other : before_in tag ≢ user_in tag
   pub here : next_of before (before_in tag) ≡ user_in tag
-  pub moves : writes ≡ (before_in tag, linked (words_at before (before_in tag)) (next_of before (user_in tag)))
-      ∷ (user_in tag, linked (words_at before (user_in tag)) (next_of before (shelf_in tag)))
-      ∷ (shelf_in tag, linked (words_at before (shelf_in tag)) (user_in tag)) ∷ []
+  pub moves : writes ≡ move_writes tag before
 
 -- a move of this user to this shelf is planned
 pub record PlansMove (user shelf : ℕ) (s : State) (tag : List ℕ) (ws : Writes) : Type 0 where

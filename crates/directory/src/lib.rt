@@ -23,10 +23,11 @@
 //!
 //! 1. *Rules.* `Directory` allows moves alone (`specs/Moves.antt`). They speak of the three objects that a move writes, and so a
 //!    move is fit: `fit_by_held` of `mv_client`.
-//! 2. *What the rules keep.* There is a ring that meets each object once (`IsRing`, `specs/Ring.antt`). A move takes one object
-//!    out of it and puts it in elsewhere (`proofs/Moved.antt`); `keeps_in` and `keeps_at` of `mv_client` do the rest.
-//! 3. *What a ring gives.* Each user is on exactly one shelf (`proofs/Places.antt`).
-//! 4. *A walk* along a shelf ends, since fewer objects are ahead at each step (`proofs/Walks.antt`).
+//! 2. *What the rules keep.* Each object has a place of its own in one ring, and leads to the next (`IsRing` of `mv_client`). A move
+//!    takes one out and puts it in elsewhere (`proofs/Keeps.antt`, by `LinkedMoves` of `mv_client`); `keeps_in` and `keeps_at` of
+//!    `mv_client` do the rest.
+//! 3. *What a ring gives.* Each user is on exactly one shelf (`proofs/Placed.antt`, by `Linked` of `mv_client`).
+//! 4. *A walk* along a shelf ends, since each step is a place further (`LinkedWalks` of `mv_client`).
 //! 5. *One attempt.* A move is a `Work` of `section_work`.
 //!
 //! # Its place

@@ -1,8 +1,7 @@
 // The search for a user along a shelf.
 ghost use Rattle.std.specs.Prelude.{◌≡◌, ◌≢◌, ℕ, ◌<◌, ◌≤◌, Some, None};
 ghost use Rattle.directory.specs.declared.rules.TheConstants.{OBJECTS as objects, SHELVES as shelves};
-ghost use Rattle.directory.specs.Ring.{IsDirectory, IsOn, next_of};
-ghost use Rattle.directory.specs.Searches.{IsBefore};
+ghost use Rattle.directory.specs.Ring.{IsDirectory, IsOn, IsBefore, next_of};
 
 use crate::rules::{NEXT, OBJECTS, SHELVES};
 use mv_history::View;

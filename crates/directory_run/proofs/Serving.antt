@@ -15,7 +15,7 @@ use Rattle.directory.specs.Ring.{IsOn, IsDirectory}
 use Rattle.directory.specs.Moves.{IsOpening, IsMove}
 use Rattle.directory.proofs.Keeps.{move_keeps}
 use Rattle.directory.proofs.Opens.{opened}
-use Rattle.directory.proofs.Rings.{placed}
+use Rattle.directory.proofs.Placed.{placed}
 use Rattle.directory_run.specs.declared.clerk.Clerk.{Clerk}
 use Rattle.directory_run.specs.Runs.{AsksForUser, Served, EachServed}
 
@@ -42,7 +42,7 @@ each_served {start = start} opens ran asks k n e =
         within = there.0;
         time_is = omega (arith, looks.time_is, on.continues.base, ran.base);
         on = subst (λ (u : State). IsOn u n.seen.shelf r.1.asked.user) there.1 looks.on;
-        placed = placed directory.1 r.1.asked.user asked.0 asked.1;
+        placed = placed directory r.1.asked.user asked.0 asked.1;
         id_is = looks.id_is ∙ ap (λ (u : State). slice_index (words_at u r.1.asked.user) 1) there.1;
       },
     )

@@ -4,3 +4,5 @@ pub mod Invariants
 pub mod Rules
 pub mod Rewriting
 pub mod Locks
+pub mod Linked
+pub mod Keeping

@@ -25,6 +25,11 @@
 //! seat. `specs/Rules.antt` has what shows that rules are propositions, and `specs/Rewriting.antt` the rules of one object
 //! (`Rewrites`), whose lemmas are in `proofs/Rewriting.antt`.
 //!
+//! Of objects that links put on lists `specs/Linked.antt` says what a ring is, and what it is to be on a list. `proofs/Linked.antt`
+//! has what a ring gives, `LinkedOpening` that objects open as one, `LinkedWalks` a walk along a list, which ends, and
+//! `LinkedMoves` the ring from which one object is taken and put elsewhere. `Keeping` is of writes over a state: what each of
+//! them keeps of its object's words every object keeps, and what three of them leave.
+//!
 //! # Its place
 //!
 //! It stands on the traits of `mv_history` and on the causes of `section_work`, and knows no store. Who has a longer unit of

@@ -15,7 +15,7 @@ shelf_of-shelf-requires-clause-directory g c =
 pub read-requires : goal.read-requires
 read-requires g c =
     let d = directory_read _ _ (g.met.S.Open.Section.reads c.begin-section.result) c.begin-section.ensures.enters.own (g.met.S.Open.Section.lawful _) in
-    let same = g.met.S.Open.View.same_state _ _ c.shelf_of-shelf.ensures.as_before in omega (arith, ap length same, d.1.many, c.requires.below)
+    let same = g.met.S.Open.View.same_state _ _ c.shelf_of-shelf.ensures.as_before in omega (arith, ap length same, d.0, c.requires.below)
 
 pub returns-clause-seen : goal.returns-clause-seen
 returns-clause-seen g c =

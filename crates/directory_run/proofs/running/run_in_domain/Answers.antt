@@ -2,7 +2,7 @@ use Rattle.std.proofs.Common.{arith}
 use Rattle.directory.specs.Ring.{IsDirectory}
 use Rattle.directory.proofs.Keeps.{move_keeps}
 use Rattle.directory.proofs.Opens.{opened}
-use Rattle.directory.proofs.Rings.{placed}
+use Rattle.directory.proofs.Placed.{placed}
 use Rattle.directory_run.specs.Runs.{AsksForUser}
 use Rattle.directory_run.proofs.Serving.{each_served}
 use Rattle.domain_run.proofs.Rows.{all_at}
@@ -22,4 +22,4 @@ returns-clause-directory g c = then_ok c.run_over.result c.run_over.ensures.ran 
 
 pub returns-clause-last : goal.returns-clause-last
 returns-clause-last g c = then_ok c.run_over.result c.run_over.ensures.ran (λ done ran user is below.
-    let d = kept_last ran.2 IsDirectory move_keeps (opened _ c.opening-start.ensures) in placed d.1 user is below)
+    let d = kept_last ran.2 IsDirectory move_keeps (opened _ c.opening-start.ensures) in placed d user is below)

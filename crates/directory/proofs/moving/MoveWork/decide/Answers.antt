@@ -2,7 +2,8 @@ use Rattle.std.proofs.Common.{◌≡◌, ℕ, length, ap, ◌∙◌, refl, arith
 use Rattle.std.specs.Prelude.{Option}
 use Rattle.mv_history.specs.State.{State}
 use Rattle.mv_history.specs.Meaning.{words_at}
-use Rattle.directory.proofs.Planned.{directory_read, other_below, there, planned}
+use Rattle.directory.proofs.Placed.{there}
+use Rattle.directory.proofs.Planned.{directory_read, other_below, planned}
 use Rattle.directory.proofs.moving.MoveWork.decide.Goals as goal
 
 none_is : (r : Option ℕ) → ((x : ℕ) → r ≡ Some x → ⊥) → r ≡ None
@@ -23,31 +24,27 @@ returns-in_default-clause-found g c = λ last.
 
 pub read-source-requires : goal.read-source-requires
 read-source-requires g c =
-    let here = c.requires.here.1 in
-    let d = directory_read _ _ here.state_is here.own here.lawful in
+    let d = directory_read _ _ c.requires.here.1.state_is c.requires.here.1.own c.requires.here.1.lawful in
     let b = c.find_before.ensures.found c.in-Some.before c.in-Some.is in
     let same = g.met.V.View.same_state _ _ c.find_before.ensures.as_before in
-    omega (arith, b.below, d.1.many, ap length same)
+    omega (arith, b.below, d.0, ap length same)
 
 pub read-node-requires : goal.read-node-requires
 read-node-requires g c =
-    let here = c.requires.here.1 in
-    let d = directory_read _ _ here.state_is here.own here.lawful in
+    let d = directory_read _ _ c.requires.here.1.state_is c.requires.here.1.own c.requires.here.1.lawful in
     let same = g.met.V.View.same_state _ _ c.read-source.ensures.as_before ∙ g.met.V.View.same_state _ _ c.find_before.ensures.as_before in
-    omega (arith, c.requires.accepts.below, d.1.many, ap length same)
+    omega (arith, c.requires.accepts.below, d.0, ap length same)
 
 pub read-target-requires : goal.read-target-requires
 read-target-requires g c =
-    let here = c.requires.here.1 in
-    let d = directory_read _ _ here.state_is here.own here.lawful in
+    let d = directory_read _ _ c.requires.here.1.state_is c.requires.here.1.own c.requires.here.1.lawful in
     let same = g.met.V.View.same_state _ _ c.read-node.ensures.as_before ∙ g.met.V.View.same_state _ _ c.read-source.ensures.as_before
     ∙ g.met.V.View.same_state _ _ c.find_before.ensures.as_before in
-    omega (arith, c.requires.accepts.shelf_is, d.1.many, ap length same)
+    omega (arith, c.requires.accepts.shelf_is, d.0, ap length same)
 
 pub returns-clause-found : goal.returns-clause-found
 returns-clause-found g c =
-    let here = c.requires.here.1 in
-    let d = directory_read _ _ here.state_is here.own here.lawful in
+    let d = directory_read _ _ c.requires.here.1.state_is c.requires.here.1.own c.requires.here.1.lawful in
     let b = c.find_before.ensures.found c.in-Some.before c.in-Some.is in
     let one = g.met.V.View.same_state _ _ c.find_before.ensures.as_before in
     let two = g.met.V.View.same_state _ _ c.read-source.ensures.as_before ∙ one in

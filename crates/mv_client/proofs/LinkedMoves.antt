@@ -1,11 +1,9 @@
--- A ring from which one object is taken and put elsewhere.
-use Rattle.std.proofs.Common.{◌≡◌, ◌≢◌, ℕ, ◌+◌, ◌-◌, ◌<◌, ◌≤◌, length, min, cond, eqb, refl, sym, ap, subst, ◌∙◌, inl, inr, ◌⊎◌, arith}
+-- A ring of linked objects from which one is taken and put elsewhere.
+use Rattle.std.proofs.Common.{◌≡◌, ◌≢◌, ℕ, ◌+◌, ◌-◌, ◌<◌, min, cond, eqb, sym, ap, subst, ◌∙◌, inl, inr, ◌⊎◌, arith}
 use Rattle.std.proofs.lemmas.Bool.{cases_eq}
 use Rattle.std.proofs.lemmas.Bool.Decides.{nat_tests}
-use Rattle.directory.specs.declared.rules.TheConstants.{OBJECTS}
-use Rattle.mv_history.specs.State.{State}
-use Rattle.directory.specs.Ring.{next_of, Follows, IsRing}
-use Rattle.directory.proofs.Rings.{apart}
+use Rattle.mv_client.specs.Linked.{Follows, IsRing}
+use Rattle.mv_client.proofs.Linked.{apart}
 
 -- the place of what stood at i, once place k is empty
 abbrev closed : ℕ → ℕ → ℕ
@@ -43,9 +41,9 @@ test_other : (o u a b : ℕ) → o ≢ u → cond (eqb o u) a b ≡ b
 test_other o u a b n = grind (arith, nat_tests)
 
 -- The ring after a move: u is taken from behind p and put behind h.
-module _ (s t : State) (place : ℕ → ℕ) (r : IsRing s place) (p u h : ℕ) (lp : p < OBJECTS) (lu : u < OBJECTS) (lh : h < OBJECTS)
-    (ph : p ≢ h) (uh : u ≢ h) (some : u ≢ 0) (here : next_of s p ≡ u) (mp : next_of t p ≡ next_of s u) (mu : next_of t u ≡ next_of s h)
-    (mh : next_of t h ≡ u) (others : (o : ℕ) → o ≢ p → o ≢ u → o ≢ h → next_of t o ≡ next_of s o) where
+module _ {heads size : ℕ} {next place : ℕ → ℕ} (after : ℕ → ℕ) (r : IsRing heads size next place) (p u h : ℕ) (lp : p < size) (lu : u < size) (lh : h < size)
+    (ph : p ≢ h) (uh : u ≢ h) (some : u ≢ 0) (here : next p ≡ u) (mp : after p ≡ next u) (mu : after u ≡ next h)
+    (mh : after h ≡ u) (others : (o : ℕ) → o ≢ p → o ≢ u → o ≢ h → after o ≡ next o) where
   abbrev j : ℕ
   j = closed (place u) (place h)
 
@@ -65,55 +63,62 @@ module _ (s t : State) (place : ℕ → ℕ) (r : IsRing s place) (p u h : ℕ) 
     | inr on ↦ ap place (sym here) ∙ on.1
   ]
 
-  not_j : (o : ℕ) → o < OBJECTS → o ≢ u → o ≢ h → closed (place u) (place o) ≢ j
+  not_j : (o : ℕ) → o < size → o ≢ u → o ≢ h → closed (place u) (place o) ≢ j
   not_j o l nu nh q =
       apart r o h l lh nh (closed_one (place u) (place o) (place h) (apart r o u l lu nu) (apart r h u lh lu (λ w. uh (sym w))) q)
 
   -- an object that was followed by another than u, or by what followed u, is followed by it at the next place
-  goes_to : (o x : ℕ) → o < OBJECTS → o ≢ u → o ≢ h → next_of t o ≡ x
-      → ((x ≡ 0) × (closed (place u) (place o) + 2 ≡ OBJECTS)) ⊎ ((x < OBJECTS) × (x ≢ u) × (closed (place u) (place x) ≡ closed (place u) (place o) + 1))
-      → Follows (next_of t) moved_to o
+  goes_to : (o x : ℕ) → o < size → o ≢ u → o ≢ h → after o ≡ x
+      → ((x ≡ 0) × (closed (place u) (place o) + 2 ≡ size)) ⊎ ((x < size) × (x ≢ u) × (closed (place u) (place x) ≡ closed (place u) (place o) + 1))
+      → Follows size after moved_to o
   goes_to o x l nu nh e (inl back) =
-      let most = closed_below (place u) (place h) OBJECTS (apart r h u lh lu (λ q. uh (sym q))) (r.below h lh) (r.below u lu) in
-      inl (e ∙ back.0, ap (λ (n : ℕ). n + 1) (at_other o nu) ∙ open_last j (closed (place u) (place o)) OBJECTS (not_j o l nu nh) most back.1)
+      let most = closed_below (place u) (place h) size (apart r h u lh lu (λ q. uh (sym q))) (r.below h lh) (r.below u lu) in
+      inl (e ∙ back.0, ap (λ (n : ℕ). n + 1) (at_other o nu) ∙ open_last j (closed (place u) (place o)) size (not_j o l nu nh) most back.1)
   goes_to o x l nu nh e (inr on) =
-      inr (subst (λ y. (y < OBJECTS) × (moved_to y ≡ moved_to o + 1)) (sym e) (on.0,
+      inr (subst (λ y. (y < size) × (moved_to y ≡ moved_to o + 1)) (sym e) (
+        on.0,
         at_other x on.1 ∙ ap (opened_behind j) on.2 ∙ open_next j (closed (place u) (place o)) (not_j o l nu nh)
-            ∙ ap (λ (n : ℕ). n + 1) (sym (at_other o nu))))
+            ∙ ap (λ (n : ℕ). n + 1) (sym (at_other o nu)),
+      ))
 
-  follows : (o : ℕ) → o < OBJECTS → Follows (next_of t) moved_to o
+  follows : (o : ℕ) → o < size → Follows size after moved_to o
   follows o l = go (cases_eq o u) (cases_eq o h) (cases_eq o p)
     where
-      go : (o ≡ u) ⊎ (o ≢ u) → (o ≡ h) ⊎ (o ≢ h) → (o ≡ p) ⊎ (o ≢ p) → Follows (next_of t) moved_to o
-      go (inl e) b c = subst (Follows (next_of t) moved_to) (sym e) (elim (r.follows h lh) [
-        | inl back ↦ inl (mu ∙ back.0, ap (λ (n : ℕ). n + 1) at_u
-            ∙ omega (arith, closed_last (place u) (place h) OBJECTS (apart r h u lh lu (λ q. uh (sym q))) (r.below u lu) back.1))
+      go : (o ≡ u) ⊎ (o ≢ u) → (o ≡ h) ⊎ (o ≢ h) → (o ≡ p) ⊎ (o ≢ p) → Follows size after moved_to o
+      go (inl e) b c = subst (Follows size after moved_to) (sym e) (elim (r.follows h lh) [
+        | inl back ↦ inl (
+          mu ∙ back.0,
+          ap (λ (n : ℕ). n + 1) at_u
+              ∙ omega (arith, closed_last (place u) (place h) size (apart r h u lh lu (λ q. uh (sym q))) (r.below u lu) back.1),
+        )
         | inr on ↦
-            let nu : next_of s h ≢ u = λ q. ph (r.own p h lp lh (let a = ap place q in omega (arith, a, on.1, behind))) in
-            let k = apart r (next_of s h) u on.0 lu nu in
+            let nu : next h ≢ u = λ q. ph (r.own p h lp lh (let a = ap place q in omega (arith, a, on.1, behind))) in
+            let k = apart r (next h) u on.0 lu nu in
             let c = closed_next (place u) (place h) (apart r h u lh lu (λ q. uh (sym q))) (λ q. k (on.1 ∙ q)) in
-            inr (subst (λ y. (y < OBJECTS) × (moved_to y ≡ moved_to u + 1)) (sym mu) (on.0,
-              at_other (next_of s h) nu ∙ ap (λ (i : ℕ). opened_behind j (closed (place u) i)) on.1 ∙ ap (opened_behind j) c
-                  ∙ (let z : opened_behind j (j + 1) ≡ j + 1 + 1 = omega arith in z) ∙ ap (λ (n : ℕ). n + 1) (sym at_u)))
+            inr (subst (λ y. (y < size) × (moved_to y ≡ moved_to u + 1)) (sym mu) (
+              on.0,
+              at_other (next h) nu ∙ ap (λ (i : ℕ). opened_behind j (closed (place u) i)) on.1 ∙ ap (opened_behind j) c
+                  ∙ (let z : opened_behind j (j + 1) ≡ j + 1 + 1 = omega arith in z) ∙ ap (λ (n : ℕ). n + 1) (sym at_u),
+            ))
       ])
-      go (inr n) (inl e) c = subst (Follows (next_of t) moved_to) (sym e)
-          (inr (subst (λ y. (y < OBJECTS) × (moved_to y ≡ moved_to h + 1)) (sym mh)
+      go (inr n) (inl e) c = subst (Follows size after moved_to) (sym e)
+          (inr (subst (λ y. (y < size) × (moved_to y ≡ moved_to h + 1)) (sym mh)
           (lu, at_u ∙ ap (λ (n : ℕ). n + 1) (sym (at_other h (λ q. uh (sym q)) ∙ (let z : opened_behind j j ≡ j = omega arith in z))))))
-      go (inr n) (inr m) (inl e) = goes_to o (next_of s u) l n m (ap (next_of t) e ∙ mp) (elim (r.follows u lu) [
+      go (inr n) (inr m) (inl e) = goes_to o (next u) l n m (ap after e ∙ mp) (elim (r.follows u lu) [
         | inl back ↦ let q = ap place e in inl (back.0, omega (arith, q, behind, back.1))
         | inr on ↦
             let q = ap place e in
             inr (on.0, (λ w. let z = ap place w in omega (arith, z, on.1)), omega (arith, q, behind, on.1))
       ])
-      go (inr n) (inr m) (inr k) = goes_to o (next_of s o) l n m (others o k n m) (elim (r.follows o l) [
-        | inl back ↦ inl (back.0, closed_last (place u) (place o) OBJECTS (apart r o u l lu n) (r.below u lu) back.1)
+      go (inr n) (inr m) (inr k) = goes_to o (next o) l n m (others o k n m) (elim (r.follows o l) [
+        | inl back ↦ inl (back.0, closed_last (place u) (place o) size (apart r o u l lu n) (r.below u lu) back.1)
         | inr on ↦
-            let nu : next_of s o ≢ u = λ q. k (r.own o p l lp (let a = ap place q in omega (arith, a, on.1, behind))) in
-            let d = apart r (next_of s o) u on.0 lu nu in
+            let nu : next o ≢ u = λ q. k (r.own o p l lp (let a = ap place q in omega (arith, a, on.1, behind))) in
+            let d = apart r (next o) u on.0 lu nu in
             inr (on.0, nu, ap (closed (place u)) on.1 ∙ closed_next (place u) (place o) (apart r o u l lu n) (λ q. d (on.1 ∙ q)))
       ])
 
-  own : (a b : ℕ) → a < OBJECTS → b < OBJECTS → moved_to a ≡ moved_to b → a ≡ b
+  own : (a b : ℕ) → a < size → b < size → moved_to a ≡ moved_to b → a ≡ b
   own a b la lb e = go (cases_eq a u) (cases_eq b u)
     where
       go : (a ≡ u) ⊎ (a ≢ u) → (b ≡ u) ⊎ (b ≢ u) → a ≡ b
@@ -124,16 +129,17 @@ module _ (s t : State) (place : ℕ → ℕ) (r : IsRing s place) (p u h : ℕ) 
           r.own a b la lb (closed_one (place u) (place a) (place b) (apart r a u la lu x) (apart r b u lb lu y)
           (open_one j (closed (place u) (place a)) (closed (place u) (place b)) (sym (at_other a x) ∙ e ∙ at_other b y)))
 
-  below : (o : ℕ) → o < OBJECTS → moved_to o < OBJECTS
+  below : (o : ℕ) → o < size → moved_to o < size
   below o l = elim (cases_eq o u) [
     | inl e ↦ let z = ap moved_to e ∙ at_u in let k = apart r h u lh lu (λ q. uh (sym q)) in
         let a = r.below h lh in let b = r.below u lu in omega (arith, z, k, a, b)
     | inr n ↦ let z = at_other o n in let k = apart r o u l lu n in let a = r.below o l in let b = r.below u lu in omega (arith, z, k, a, b)
   ]
 
-  pub moved : length t ≡ length s → IsRing t moved_to
-  moved many = record {
-    many = many ∙ r.many;
+  pub moved : IsRing heads size after moved_to
+  moved = record {
+    some = r.some;
+    few = r.few;
     first = elim (cases_eq u 0) [
       | inl e ↦ absurd (some e)
       | inr n ↦ at_other 0 (λ q. n (sym q)) ∙ (let z = r.first in omega (arith, z))

@@ -4,7 +4,7 @@ ghost use Rattle.std.specs.Prelude.{◌≡◌, ◌<◌, length};
 use crate::comparing::assert_same;
 use mv_history::{AnyRules, View, Words};
 use mv_layout::{Config, ConfigFault};
-use mvrlu::{OpenFault, open};
+use mvrlu::{OpenFault, open, open_zeros};
 use std::alloc::Global;
 use std::test::Fail;
 
@@ -23,6 +23,18 @@ fn fault_of(alloc: Global, config: Config, start: &[Words]) -> Option<OpenFault>
     requires sized { length start.now ≡ config.objects }
 {
     match open::<AnyRules>(alloc, config, start) {
+        Ok((domain, seats)) => {
+            let closing = domain.meet(seats);
+            let _ = closing.time();
+            None
+        }
+        Err(fault) => Some(fault),
+    }
+}
+
+// The same, of a domain whose words are all 0.
+fn fault_of_zeros(alloc: Global, config: Config) -> Option<OpenFault> {
+    match open_zeros::<AnyRules>(alloc, config) {
         Ok((domain, seats)) => {
             let closing = domain.meet(seats);
             let _ = closing.time();
@@ -60,6 +72,26 @@ fn new_seats_meet(rt: HostRuntime) -> Result<(), Fail> {
         &(7, 2, [1, 2, 3, 4, 5, 6]),
         "seats that meet at once",
     );
+    Ok(())
+}
+
+// The same, of a domain whose words are all 0.
+fn meet_zeros_at_once(alloc: Global, config: Config) -> Result<(u64, u32, Words), OpenFault>
+    requires some { 0 < config.objects }
+{
+    match open_zeros::<AnyRules>(alloc, config) {
+        Ok((domain, seats)) => {
+            let mut closing = domain.meet(seats);
+            Ok((closing.time(), closing.objects(), closing.read(0)))
+        }
+        Err(fault) => Err(fault),
+    }
+}
+
+#[test]
+fn zeros_are_opened_without_a_list(rt: HostRuntime) -> Result<(), Fail> {
+    let met = meet_zeros_at_once(rt.alloc(), GOOD)?;
+    assert_same(&rt, &met, &(7, 2, [0; 6]), "a domain of zeros");
     Ok(())
 }
 
@@ -115,8 +147,17 @@ fn first_fault_of_the_numbers(rt: HostRuntime) -> Result<(), Fail> {
     for (numbers, fault) in &NUMBERS {
         let found = fault_with_two(rt.alloc(), numbers);
         assert_same(&rt, &found, &fault.map(OpenFault::Config), "numbers");
+        let found = fault_of_zeros(rt.alloc(), *numbers);
+        assert_same(
+            &rt,
+            &found,
+            &fault.map(OpenFault::Config),
+            "numbers of zeros",
+        );
     }
     let wanted = Some(OpenFault::Config(ConfigFault::Objects));
     assert_same(&rt, &fault_with_none(rt.alloc()), &wanted, "no objects");
+    let none = Config { objects: 0, ..GOOD };
+    assert_same(&rt, &fault_of_zeros(rt.alloc(), none), &wanted, "no zeros");
     Ok(())
 }

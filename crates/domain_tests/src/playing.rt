@@ -10,7 +10,7 @@ use crate::lending::{give_back, lend};
 use crate::moves::{Answer, Move, make};
 use mv_history::{AnyRules, View, Words};
 use mv_layout::Config;
-use mvrlu::{Closing, Domain, OpenFault, Seat, open};
+use mvrlu::{Closing, Domain, OpenFault, Seat, open_zeros};
 use std::alloc::{AllocError, Global};
 use std::process::Abort;
 use std::test::Fail;
@@ -186,11 +186,7 @@ fn play_all<'d>(
 ///
 /// The error is that of `open`, or want of memory for the clients; no turn was made then.
 pub fn played(alloc: Global, schedule: &Schedule) -> Result<Option<Otherwise>, OpenFault> {
-    let numbers = schedule.domain;
-    let Ok(start) = vec![in alloc; [0; 6]; numbers.objects as usize] else {
-        return Err(OpenFault::Memory);
-    };
-    let (domain, seats) = open::<AnyRules>(alloc, numbers, start.as_slice())?;
+    let (domain, seats) = open_zeros::<AnyRules>(alloc, schedule.domain)?;
     let clients = match Vec::with_capacity(alloc, seats.len()) {
         Ok(clients) => clients,
         Err(AllocError) => {

@@ -4,9 +4,8 @@ ghost use Rattle.mvrlu.specs.Opened.{IsOpened};
 ghost use Rattle.set_script.specs.Objects.{no_words};
 
 use grow_hash::GrowRules;
-use mv_history::{WORDS, Words};
 use mv_layout::Config;
-use mvrlu::{Domain, OpenFault, Seat, open};
+use mvrlu::{Domain, OpenFault, Seat, open_zeros};
 use std::alloc::{AllocError, Global};
 use std::test::Fail;
 
@@ -27,13 +26,6 @@ pub(crate) fn numbers(objects: u32, base: u64) -> Config
     }
 }
 
-// So many objects of zeros.
-fn zeros(alloc: Global, count: usize) -> Result<Vec<Words>, AllocError>
-    ensures { IfOk result (λ objects. objects.items ≡ replicate count no_words) }
-{
-    vec![in alloc; [0; WORDS]; count]
-}
-
 // A domain of an empty set, of these numbers.
 pub(crate) fn open_grown(
     alloc: Global,
@@ -43,8 +35,7 @@ pub(crate) fn open_grown(
     requires few { config.objects < 65536 }
     ensures { IfOk result (λ r. IsOpened config (replicate config.objects no_words) r.0 r.1.items) }
 {
-    let start = zeros(alloc, config.objects as usize)?;
-    match open(alloc, config, &start) {
+    match open_zeros(alloc, config) {
         Ok(opened) => Ok(opened),
         Err(OpenFault::Memory) => Err(AllocError.into()),
         Err(OpenFault::Config(_)) => Err(Fail::new("the numbers are in range")),

@@ -5,9 +5,9 @@ ghost use Rattle.mvrlu.specs.Opened.{IsOpened};
 ghost use Rattle.set_script.specs.Objects.{no_words};
 ghost use Rattle.set_script.specs.declared.script.TheConstants.{MOST_COMMANDS};
 
-use mv_history::{LogTable, WORDS, Words};
+use mv_history::LogTable;
 use mv_layout::Config;
-use mvrlu::{Closing, Domain, OpenFault, Seat, open};
+use mvrlu::{Closing, Domain, OpenFault, Seat, open_zeros};
 use run_outside::OpenGate;
 use run_report::Line;
 use script_domain::run_domain;
@@ -30,21 +30,13 @@ const TWO: Config = Config {
     base: 40,
 };
 
-// So many objects of zeros.
-fn zeros(alloc: Global, count: usize) -> Result<Vec<Words>, AllocError>
-    ensures { IfOk result (λ objects. objects.items ≡ replicate count no_words) }
-{
-    vec![in alloc; [0; WORDS]; count]
-}
-
 // A domain of the sets of these numbers.
 fn open_sets(alloc: Global, config: Config) -> Result<(Domain<SetRules>, Vec<Seat<SetRules>>), Fail>
     requires some { 180 < config.objects }
     requires few { config.objects < 65536 }
     ensures { IfOk result (λ r. IsOpened config (replicate config.objects no_words) r.0 r.1.items) }
 {
-    let start = zeros(alloc, config.objects as usize)?;
-    match open(alloc, config, &start) {
+    match open_zeros(alloc, config) {
         Ok(opened) => Ok(opened),
         Err(OpenFault::Memory) => Err(AllocError.into()),
         Err(OpenFault::Config(_)) => Err(Fail::new("the numbers are in range")),

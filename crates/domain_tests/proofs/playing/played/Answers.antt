@@ -5,12 +5,12 @@ use Rattle.domain_tests.proofs.playing.played.Goals as goal
 
 pub meet-requires : goal.meet-requires
 meet-requires c = record {
-  all = opened_all c.in_ok-domain.domain c.in_ok-domain.seats.items c.args.schedule.now.domain c.as_slice.result.now c.in_ok-domain.ensures.opened.1;
+  all = opened_all c.in_ok-domain.domain c.in_ok-domain.seats.items c.args.schedule.now.domain _ c.in_ok-domain.ensures.opened.1;
 }
 
 pub play_all-seats-requires-clause-rising : goal.play_all-seats-requires-clause-rising
 play_all-seats-requires-clause-rising c =
-    opened_rising c.in_ok-domain.domain c.in_ok-domain.seats.items c.args.schedule.now.domain c.as_slice.result.now c.in_ok-domain.ensures.opened.1
+    opened_rising c.in_ok-domain.domain c.in_ok-domain.seats.items c.args.schedule.now.domain _ c.in_ok-domain.ensures.opened.1
 
 pub meet-requires-2 : goal.meet-requires-2
 meet-requires-2 c =

@@ -1,9 +1,9 @@
 -- What clerks did, by the whole history.
-use Rattle.std.proofs.Common.{◌≡◌, ℕ, ◌<◌, List, length, ap, subst, ◌∙◌, arith}
+use Rattle.std.proofs.Common.{◌≡◌, ℕ, List, length, ap, subst, ◌∙◌, arith}
 use Rattle.std.specs.Prelude.{slice_index}
 use mathlib.Core.Option.{some}
 use lib.ListN.{get_elem?}
-use Rattle.mv_history.specs.State.{State, state_at}
+use Rattle.mv_history.specs.State.{State}
 use Rattle.mv_history.specs.Meaning.{Seat, words_at}
 use Rattle.mv_history.proofs.Steps.{Continues-Continues}
 use Rattle.mv_layout.specs.declared.Config.{Config}

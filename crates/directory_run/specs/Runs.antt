@@ -7,7 +7,6 @@ use Rattle.mv_history.specs.Meaning.{Seat, InSection, words_at}
 use Rattle.mv_client.specs.Updates.{Repeated}
 use Rattle.client_run.specs.Over.{IsOver}
 use Rattle.directory.specs.declared.rules.TheConstants.{OBJECTS}
-use Rattle.directory.specs.declared.reading.Seen.{Seen}
 use Rattle.directory.specs.Ring.{IsUser, IsOn, IsPlaced}
 use Rattle.directory.specs.Reads.{IsSeen}
 use Rattle.directory_run.specs.declared.clerk.Clerk.{Clerk}

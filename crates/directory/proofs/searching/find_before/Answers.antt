@@ -51,7 +51,7 @@ loop-nth-preserved g c =
       as_before = g.met.V.View.as_long_before _ _ _ i.as_before c.read.ensures.as_before;
       other = c.if-next-user.false;
       walked = λ place r. subst (λ n.
-           Walked SHELVES OBJECTS (next_of (g.V.View.state c.args.view.now)) place c.args.shelf n c.args.user (c.loop-nth._nth + 1)) (sym is)
+          Walked SHELVES OBJECTS (next_of (g.V.View.state c.args.view.now)) place c.args.shelf n c.args.user (c.loop-nth._nth + 1)) (sym is)
           (walked_next r c.requires.shelf c.requires.user (i.walked place r) (subst IsUser is c.if-next-lt-SHELVES.false)
           (λ next. c.if-next-user.false (is ∙ next)));
     }

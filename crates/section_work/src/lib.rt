@@ -7,7 +7,7 @@
 //! which states it changes something, which tag, writes and reply it plans there, which reply it has
 //! where it changes nothing, and what a commit of it makes of the state just before. An attempt makes
 //! room in the seat's log, enters one section, and lets the work decide in it. What changes nothing
-//! leaves the section again. What is planned is locked and written by one `rewrite`, and given to one
+//! leaves the section again. What is planned is locked, each object with its words, and given to one
 //! `try_commit`. At the last time, where no commit is left, a second look answers.
 //!
 //! # The contract
@@ -22,14 +22,16 @@
 //!   what is planned, or that the log had no room (`Cause`). What only a store can show of a cause it
 //!   defines itself (`specs/Causes.antt`).
 //! - The calls of an attempt are said one after another (`specs/Steps.antt`): one `prepare`, one `enter`,
-//!   and reads. Then it leaves; or it locks, writes and tries to commit. A second section is entered only
+//!   and reads. Then it leaves; or it locks with the words to be committed and tries to commit. After a
+//!   refused lock the section, which holds such words, is given up. A second section is entered only
 //!   where that found no time left. What changes nothing locks nothing and gives nothing up.
 //! - An attempt has at most one exchange on CLOCK for a commit in its trail.
 //! - What is remembered from one section to the next (`Work::Memo`) stays right for the seat, and is
 //!   what one look, or two, did to it.
 //!
 //! `rewrite` locks different objects in their order and then writes them, or answers the first lock
-//! that was refused (`specs/Locking.antt`); all that changes a section ends with it. A section reads a
+//! that was refused (`specs/Locking.antt`); the calls end with it that go on after a refusal, with the
+//! state as it was. A section reads a
 //! snapshot and a commit checks only what it holds (snapshot isolation), so a work shows that what it
 //! plans is fit: allowed on every state to which others may lead that write nothing of it.
 //!

@@ -18,8 +18,10 @@
 //! section's time writes what it holds is known of every pass (`KnownSection` of `mv_core`). It makes
 //! at most 24 steps, waits for nothing and takes no memory; the trail has a record for each step,
 //! and none is an exchange on CLOCK. At most two are exchanges of HEAD, the second only after the first
-//! found a chain that was cut. `write` gives a held object other words, in what is held alone,
-//! in six steps; it never refuses.
+//! found a chain that was cut. `lock_with` does the same with words of the caller's: none is read, so
+//! that it makes at most 18 steps, and an object that is held already gets them as by `write`.
+//! `lock_new` is either of them, for a caller who knows that the object isn't held. `write` gives a held
+//! object other words, in what is held alone, in six steps; it never refuses.
 //!
 //! `lock` is `lock_start`, which does all before the first exchange of HEAD, and then `lock_end`. A
 //! caller may stop between them, where a version is built and nobody else sees it (`IsStarted`): what
@@ -33,5 +35,5 @@ mod locking;
 mod top;
 mod writing;
 
-pub use locking::{StartedLock, holds, lock, lock_end, lock_new, lock_start, lock_with};
-pub use writing::write;
+pub use locking::{StartedLock, lock, lock_end, lock_new, lock_start, lock_with};
+pub use writing::{holds, write};

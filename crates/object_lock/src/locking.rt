@@ -19,26 +19,12 @@ ghost use Rattle.object_lock.specs.Locks.{TriesFew, FewOutcome, OneOutcome, Lost
 ghost use Rattle.object_lock.specs.Writes.{Rewrites};
 
 use crate::top::{stamp_at, top_of};
-use crate::writing::write;
+use crate::writing::{holds, write};
 use mv_core::{Pass, Shared, Steps, Swap};
 use mv_history::{LockAnswer, Protocol, Words};
 use mv_layout::{is_unset, link_seat};
-use seat_log::{Log, build, clear_previous, drop_built, held, live, note, note_held, room};
+use seat_log::{Log, build, clear_previous, drop_built, held, note_held, room};
 use std::sync::ledger::Ledger;
-
-/// Whether the section whose log this is holds the object.
-pub fn holds(log: &Log, object: u32) -> bool
-    ensures yes { result ≡ true → HoldsObject log.now object }
-    ensures not { result ≡ false → ¬ (HoldsObject log.now object) }
-{
-    let end = live(log);
-    for index in end - held(log)..end {
-        if note(log, index).object == object {
-            return true;
-        }
-    }
-    false
-}
 
 // Exchanges HEAD of the object from this link to that of the version that was built at a position.
 pub(crate) fn exchange<P: Protocol, L: Ledger>(

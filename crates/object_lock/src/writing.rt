@@ -1,5 +1,5 @@
 // Writing an object that is held.
-ghost use Rattle.std.specs.Prelude.{◌≡◌, ◌+◌, true, None};
+ghost use Rattle.std.specs.Prelude.{◌≡◌, ◌+◌, true, false, None};
 ghost use Rattle.mv_history.specs.State.{touches, rewritten};
 ghost use Rattle.mv_core.specs.Rings.{own_of, spare_count};
 ghost use Rattle.mv_core.specs.Passes.{view, IsOf, IsSame, config_of};
@@ -12,6 +12,20 @@ use mv_core::{Pass, Shared, Steps};
 use mv_history::{Protocol, Words};
 use seat_log::{Log, held, live, note, put_words};
 use std::sync::ledger::Ledger;
+
+/// Whether the section whose log this is holds the object.
+pub fn holds(log: &Log, object: u32) -> bool
+    ensures yes { result ≡ true → HoldsObject log.now object }
+    ensures not { result ≡ false → ¬ (HoldsObject log.now object) }
+{
+    let end = live(log);
+    for index in end - held(log)..end {
+        if note(log, index).object == object {
+            return true;
+        }
+    }
+    false
+}
 
 // The position of the section's version of an object that it holds.
 fn position_of(log: &Log, object: u32) -> u64

@@ -1,6 +1,7 @@
 -- Where each move leaves a client.
-use Rattle.std.proofs.Common.{◌≡◌, ℕ, List, refl, sym, ap, ◌∙◌, subst, Option, Some, None}
+use Rattle.std.proofs.Common.{◌≡◌, ℕ, Bool, true, false, List, refl, sym, ap, ◌∙◌, subst, Option, Some, None}
 use Rattle.std.specs.Prelude.{Contains}
+use Rattle.mv_history.specs.State.{touches}
 use Rattle.mv_history.specs.declared.Step.{Step}
 use Rattle.mv_history.specs.declared.Entry.{Entry}
 use Rattle.mv_history.specs.declared.StepKind.{StepKind}
@@ -9,6 +10,7 @@ use Rattle.mv_layout.specs.declared.Config.{Config}
 use Rattle.mv_core.specs.declared.view.View.{View}
 use Rattle.mv_core.specs.declared.view.LoadedClocks.{LoadedClocks}
 use Rattle.mv_core.specs.declared.view.Section.{Section}
+use Rattle.mv_core.specs.Rings.{own_of}
 use Rattle.mv_core.specs.EnterSteps.{IsWhole, check_loaded, mark_cleared}
 use Rattle.mv_core.specs.WalkSteps.{IsWalking}
 use Rattle.mv_core.proofs.kinds.locking.lock_head.LockedLog.{none_held}
@@ -21,9 +23,9 @@ use Rattle.version_chain.specs.Walks.{inside_of, section_in, MayWalk, IsWalkStep
 use Rattle.version_chain.specs.Reads.{Reads}
 use Rattle.mv_history.specs.declared.answers.LockAnswer.{LockAnswer}
 use Rattle.object_lock.specs.declared.locking.StartedLock.{StartedLock}
-use Rattle.object_lock.specs.Locks.{IsStarted, Outcome}
+use Rattle.object_lock.specs.Locks.{IsStarted, Outcome, TriesFew}
 use Rattle.object_lock.specs.Tops.{Tries}
-use Rattle.object_lock.specs.Writes.{Stores}
+use Rattle.object_lock.specs.Writes.{Stores, Rewrites}
 use Rattle.commit_abort.proofs.Tried.{stands_next, phase_next, helped_next}
 use Rattle.runtime_tests.specs.Clients.{IsOutside, IsInside, HasStarted}
 use Rattle.runtime_tests.proofs.Begun.{may_walk}
@@ -114,6 +116,17 @@ pub written : (c : Config) (v w : View) (l m : Noted) (word : Option ℕ) (n : �
     → m.built ≡ None → IsInside c w m word
 written c v w l m word n i s may stands unbuilt =
     still_inside c v w l m word i (ap (λ (u : View). u.scan) s.rest) (ap (λ (u : View). u.clocks) s.rest) may stands unbuilt
+
+-- a lock with given words, of an object that the section holds, or doesn't
+pub tried_with : (c : Config) (v w : View) (l m : Noted) (object : ℕ) (words : List ℕ) (word : Option ℕ) (before after : ℕ) → IsInside c v l word
+    → (touches (own_of c v.ring) object ≡ true → Rewrites c v w object words before after)
+    → (touches (own_of c v.ring) object ≡ false → TriesFew c v w object before after)
+    → MayWalk w → Stands c w m → m.built ≡ None → IsInside c w m word
+tried_with c v w l m object words word before after i again new may stands unbuilt = go (touches (own_of c v.ring) object) refl
+  where
+    go : (t : Bool) → touches (own_of c v.ring) object ≡ t → IsInside c w m word
+    go true e = written c v w l m word 6 i (again e).stores may stands unbuilt
+    go false e = tried c v w l m word before after i (new e).1 may stands unbuilt
 
 -- CLOCK was loaded, and its word helped
 pub loaded : (c : Config) (v x y : View) (l : Noted) (old : Option ℕ) (word : ℕ) (h : List Entry) → IsInside c v l old → IsWhole c v word h

@@ -25,7 +25,8 @@
 //! gone by then and whose slot is built anew. `enter_stop_rows` and `stop_rows` stop a seat after single
 //! steps of a call and have another one enter, read, lock, commit and tidy, `version_stop_rows` does so
 //! where the objects have versions, and `back_stop_rows` within a write-back. `lost_lock_rows` has locks
-//! whose exchange of HEAD is lost or won after others moved, and stops after a lost one. `join_rows` joins
+//! whose exchange of HEAD is lost or won after others moved, and stops after a lost one, and `lock_with_rows`
+//! has locks with words of the caller's. `join_rows` joins
 //! the passes of a domain, and has what CLOCK is then; `close_rows` closes it, and has its last words.
 //! `reads` counts steps, which are known in proofs alone, in the contracts of its functions: sections of a
 //! domain in which nobody has committed have the opening time, and read the opening words in the masters,
@@ -78,6 +79,8 @@ mod lock_moves;
 mod lock_rows;
 #[cfg(test)]
 mod lock_stops;
+#[cfg(test)]
+mod lock_with_rows;
 #[cfg(test)]
 mod lost_lock_rows;
 #[cfg(test)]

@@ -10,7 +10,7 @@ use crate::lock_stops::{first_of_lock, first_of_lock_end};
 use crate::marking::{entering_by_parts, knowing, scanning};
 use crate::reclaiming::{giving_up, rounding, tidying};
 use crate::resting::{helping, resting, taking_clock};
-use crate::sections::{entering, leaving, loading, locking, reading, writing};
+use crate::sections::{entering, leaving, loading, locking, locking_with, reading, writing};
 use crate::stops::{first_of_abort, first_of_finish, first_of_help, first_of_now};
 use log_reclaim::{BackEnd, NoBack};
 use mv_core::{Shared, Steps};
@@ -29,6 +29,8 @@ pub enum Move {
     /// `find`, and the matching reader.
     Read(u32),
     Lock(u32),
+    /// A lock with these words.
+    LockWith(u32, Words),
     Write(u32, Words),
     /// Loads CLOCK. In a section it also helps the commit that the word names.
     Now,
@@ -285,6 +287,7 @@ pub(crate) fn make<L: Ledger>(
         },
         Move::Read(object) => reading(shared, client, object, steps),
         Move::Lock(object) => locking(shared, client, object, steps),
+        Move::LockWith(object, words) => locking_with(shared, client, object, words, steps),
         Move::Write(object, words) => writing(shared, client, object, words, steps),
         Move::Abort => aborting(shared, client, steps),
         Move::FirstOf(call, count, _) => stopping(shared, client, call, count, steps),

@@ -7,7 +7,7 @@ use crate::moves::{Answer, clock, tried};
 use commit_clock::{help, now};
 use mv_core::{Shared, Steps};
 use mv_history::{AnyRules, Words};
-use object_lock::{holds, lock, write};
+use object_lock::{holds, lock, lock_with, write};
 use reader_marks::{enter, leave};
 use seat_log::held;
 use std::sync::ledger::Ledger;
@@ -86,6 +86,26 @@ pub(crate) fn locking<L: Ledger>(
         return Answer::Skipped;
     }
     tried(lock(shared, &mut client.pass, &mut client.log, object, steps))
+}
+
+pub(crate) fn locking_with<L: Ledger>(
+    shared: &Shared<AnyRules>,
+    client: &mut Client,
+    object: u32,
+    words: Words,
+    steps: &mut Steps<L>,
+) -> Answer
+    requires ready { IsReady shared.now client.old }
+    ensures ready { IsReady shared.now client.new }
+{
+    let Stage::Inside(_) = client.stage else {
+        return Answer::Skipped;
+    };
+    if object >= shared.config().objects || held(&client.log) > shared.config().write_max {
+        return Answer::Skipped;
+    }
+    let pass = &mut client.pass;
+    tried(lock_with(shared, pass, &mut client.log, object, words, steps))
 }
 
 pub(crate) fn writing<L: Ledger>(

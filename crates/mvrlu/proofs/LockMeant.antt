@@ -77,6 +77,6 @@ module _ (p q : Placed) (before after : ℕ) (tried : List Step) (config : q.con
     spare = spare;
     at = tried_at;
     own = ap (λ (d : Config). own_of d q.view.ring) config ∙ own
-        ∙ ap (λ ws. own_of p.config p.view.ring ++ (o, unwrap_or given ws) ∷ []) (snapshot_words p q o config (ap (λ (u : View). u.phase) t.rest) tried_continues past
-        ∙ below_words (section_from p) o lacks);
+        ∙ ap (λ ws. own_of p.config p.view.ring ++ (o, unwrap_or given ws) ∷ []) (snapshot_words p q o config (ap (λ (u : View). u.phase) t.rest)
+        tried_continues past ∙ below_words (section_from p) o lacks);
   }

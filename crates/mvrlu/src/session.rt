@@ -99,7 +99,8 @@ impl<'d, P: Protocol> Section for Session<'d, P> {
     ghost use Rattle.std.specs.Prelude.{refl, ◌≡◌, ◌≢◌, ◌↔◌, ℕ, ◌+◌, ◌-◌, ◌<◌, ◌≤◌, [], length};
     ghost use Rattle.mv_history.specs.Meaning.{state_of, snapshot_of, Holds, Lacks, IsWorn};
     ghost use Rattle.mv_history.specs.Answer.{OnDone, OnAgain, OnEnd, seat_after};
-    ghost use Rattle.mv_history.specs.Calls.{call_trail, IsAsBefore, GoesOn, IsSetFull, IsLogFull, Locks, LocksWith, Rewrites, Leaves, Commits, IsStale, Overtakes};
+    ghost use Rattle.mv_history.specs.Calls.{call_trail, IsAsBefore, GoesOn, IsSetFull, IsLogFull, Locks, LocksWith, Rewrites};
+    ghost use Rattle.mv_history.specs.Calls.{Leaves, Commits, IsStale, Overtakes};
     ghost use Rattle.mv_history.specs.Drift.{IsFit};
     ghost use Rattle.mv_history.specs.Trail.{commit_exchanges, IsOneWon, IsOneLost};
     ghost use Rattle.mv_history.specs.declared.answers.LockAnswer.TheVariants.{Held, Busy as IsTaken, Stale, SetFull, LogFull};

@@ -87,7 +87,8 @@ found_before c object seat start next trail made at f = record {
 }
 
 -- what a lock makes from then on it makes in all
-pub makes_before : (c : Config) (v w x : View) (object : ℕ) (words : List ℕ) (answer : LockAnswer) (made : List Step) → w.trail ≡ v.trail ++ made → w.number ≡ v.number
+pub makes_before : (c : Config) (v w x : View) (object : ℕ) (words : List ℕ) (answer : LockAnswer) (made : List Step) → w.trail ≡ v.trail ++ made
+    → w.number ≡ v.number
     → w.phase ≡ v.phase → KeepsOwn c v w → LockMakes c w x object words answer
     → LockMakes c v x object words answer
 makes_before c v w x object words Held made at number phase own makes = (makes.0 ∙ ap (λ ws. ws ++ (object, words) ∷ []) own.0, makes.1 ∙ own.1)

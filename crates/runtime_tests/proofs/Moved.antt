@@ -102,8 +102,8 @@ pub has_started : (c : Config) (v w : View) (l m : Noted) (word : Option ℕ) (b
 has_started c v w l m word before after lock i t started = record { started = started; no_scan = ap (λ (u : View). u.scan) t.rest ∙ i.no_scan }
 
 -- and ended
-pub has_ended : {words : List ℕ} (c : Config) (v w : View) (l m : Noted) (object before after : ℕ) (lock : StartedLock) (answer : LockAnswer) → HasStarted c v l lock
-    → {exchanged : List Step} → Outcome c v w m object words answer before after exchanged → IsInside c w m None
+pub has_ended : {words : List ℕ} (c : Config) (v w : View) (l m : Noted) (object before after : ℕ) (lock : StartedLock) (answer : LockAnswer)
+    → HasStarted c v l lock → {exchanged : List Step} → Outcome c v w m object words answer before after exchanged → IsInside c w m None
 has_ended c v w l m object before after lock answer k o = record {
   may = o.may;
   no_scan = ap (λ (u : View). u.scan) o.tries.rest ∙ k.no_scan;

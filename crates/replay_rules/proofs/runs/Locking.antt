@@ -222,7 +222,8 @@ module _ (c : Config) (k : Checked c) (n : ℕ) (lt : n < c.seats) (made : List 
         let so = stands_locked c v (record l { built = Some m }) m whole refl in
         record {
           noted = held_noted (record l { built = Some m });
-          stands = subst (λ (x : ℕ). Stands c (head_locked c v x version.previous at version.words) (held_noted (record l { built = Some m }))) builds.object_is so;
+          stands = subst (λ (x : ℕ). Stands c (head_locked c v x version.previous at version.words) (held_noted (record l { built = Some m })))
+              builds.object_is so;
           is = record {
             live = ap (λ ns. ns ++ m ∷ []) is.live
                 ∙ ap (λ p. notes_from freed (drop freed log) ++ note_of p version ∷ []) (let d = length-drop freed log in omega (arith, at_is, d, within))

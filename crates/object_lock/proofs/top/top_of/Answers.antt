@@ -4,7 +4,8 @@ use Rattle.std.specs.Prelude.{unwrap_or}
 use Rattle.mv_layout.specs.Words.{link_of}
 use Rattle.mv_core.specs.Passes.{view, config_of}
 use Rattle.version_chain.specs.Walks.{section_in}
-use Rattle.object_lock.proofs.Looks.{held_elsewhere, version_there, stands_to_lock, stands_at_lock, words_there, head_tries, looked_tries, tries_read, stands_top}
+use Rattle.object_lock.proofs.Looks.{held_elsewhere, version_there, stands_to_lock, stands_at_lock, words_there}
+use Rattle.object_lock.proofs.Looks.{head_tries, looked_tries, tries_read, stands_top}
 use Rattle.object_lock.proofs.Looks.{later_commit, head_bound, master_bound, looked_bound, version_bound}
 use mathlib.Core.Logic.{dite}
 use native.Mathlib.Decide.{dec_lt}
@@ -167,7 +168,8 @@ returns-then-link-eq0-clause-same g c =
     same_on c.args.pass.now c.load_head-link.new.pass c.read_master.new.pass c.load_head-link.ensures.same c.read_master.ensures.same
 
 pub returns-then-link-eq0-clause-bound : goal.returns-then-link-eq0-clause-bound
-returns-then-link-eq0-clause-bound g c = master_bound c.args.given _ c.load_head-link.new.steps _ c.in_default.is c.load_head-link.ensures.step c.read_master.ensures.cost
+returns-then-link-eq0-clause-bound g c =
+    master_bound c.args.given _ c.load_head-link.new.steps _ c.in_default.is c.load_head-link.ensures.step c.read_master.ensures.cost
 
 pub returns-then-stamp-time-clause-may : goal.returns-then-stamp-time-clause-may
 returns-then-stamp-time-clause-may g c = c.stamp_at-stamp.ensures.may
@@ -199,8 +201,8 @@ returns-clause-same g c =
 
 pub returns-clause-bound : goal.returns-clause-bound
 returns-clause-bound g c =
-    version_bound c.args.given _ c.load_head-link.new.steps c.stamp_at-stamp.new.steps _ c.in_default-given.is c.load_head-link.ensures.step c.stamp_at-stamp.ensures.step
-    c.read_version.ensures.cost
+    version_bound c.args.given _ c.load_head-link.new.steps c.stamp_at-stamp.new.steps _ c.in_default-given.is c.load_head-link.ensures.step
+    c.stamp_at-stamp.ensures.step c.read_version.ensures.cost
 
 pub returns-then-stamp-time-clause-answers : goal.returns-then-stamp-time-clause-answers
 returns-then-stamp-time-clause-answers g c =

@@ -108,7 +108,8 @@ module _ (o : ℕ) (c : Config) (k : Checked c) (n : ℕ) (lt : n < c.seats) (ma
   module _ (ne : (state_of c made).memory (Head version.object) ≢ version.previous) where
     told : IsLinkOf c found × (found ≢ 0 → link_seat_of found ≢ v.number)
     told =
-        let r = (lock_swaps any_start any_commit c (zeros c) v c.write_max version.object version.previous at version.words build i may (link_of v.number at) refl).1
+        let r = (lock_swaps any_start any_commit c (zeros c) v c.write_max version.object version.previous at version.words build i may
+        (link_of v.number at) refl).1
         s.memory s.history s.seats (facts c k n made each) (view_there c k n made each) (seated c k n made each lt).range (starts c k n made each) ne
         (word_small c k n made each (Head version.object)) in
         r.2.0.2 ne

@@ -134,7 +134,8 @@ module _ {starts : State → Type 0} {allows : List ℕ → State → Writes →
 
   -- the top that a lost exchange found is in another log
   pub lost_other : (write_max object previous position : ℕ) (words : List ℕ) (b : Build) (inside : Section)
-      → MayLock c write_max v object previous position words b inside → m (Head object) ≢ previous → m (Head object) ≢ 0 → link_seat_of (m (Head object)) ≢ v.number
+      → MayLock c write_max v object previous position words b inside → m (Head object) ≢ previous → m (Head object) ≢ 0
+      → link_seat_of (m (Head object)) ≢ v.number
   lost_other write_max object previous position words b inside may lost some seat =
       ⊎_elim
       (λ a.

@@ -13,10 +13,10 @@
  *     options.objects = 1024;
  *     if (mvrlu_open(&options, seats, 4) != MVRLU_OK) ...
  *     ... hand &seats[i] to thread i ...
- *     for (;;) {                                         // moves 1 from object 3 to object 7
- *         mvrlu_prepare(seat);
+ *     do {                                               // moves 1 from object 3 to object 7
+ *         if ((status = mvrlu_prepare(seat)) != MVRLU_OK) continue;
  *         mvrlu_enter(seat);
- *         if (mvrlu_lock(seat, 3, NULL) == MVRLU_OK && mvrlu_lock(seat, 7, NULL) == MVRLU_OK) {
+ *         if ((status = mvrlu_lock(seat, 3, NULL)) == MVRLU_OK && (status = mvrlu_lock(seat, 7, NULL)) == MVRLU_OK) {
  *             mvrlu_read(seat, 3, a), mvrlu_read(seat, 7, b);
  *             a[0]--, b[0]++;
  *             mvrlu_write(seat, 3, a), mvrlu_write(seat, 7, b);
@@ -24,7 +24,7 @@
  *             if (status == MVRLU_OK) break;
  *         }
  *         mvrlu_abort(seat);                             // another seat came first: begin again
- *     }
+ *     } while (mvrlu_may_retry(status));                 // else the last time was reached
  *
  * What is proved of the library: its memory is safe whatever the order of these calls and the numbers given to them, and
  * what each call of a section promises below holds under every interleaving of the seats' atomic steps (docs/CONTRACTS.md).

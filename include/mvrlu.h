@@ -245,11 +245,12 @@ static inline int32_t mvrlu_vacant(mvrlu_seat *seat, uint32_t *hint, uint32_t *o
     uint32_t next, found;
     int32_t status;
     if (seat == NULL || hint == NULL || object == NULL) return MVRLU_NULL;
-    next = *hint, found = *object; /* the two may be one */
+    next = *hint, found = UINT32_MAX; /* the two may be one, and no object has this number */
     status = mvrlu_begin_call(seat, &seat->in_call, &seat->raw.is_open, &seat->self);
     if (status != MVRLU_OK) return status;
     status = mvrlu_raw_vacant(&seat->raw, &next, &found);
-    *hint = next, *object = found;
+    *hint = next;
+    if (found != UINT32_MAX) *object = found;
     return mvrlu_end_call(&seat->in_call, status);
 }
 

@@ -229,6 +229,13 @@ public:
         return live;
     }
 
+    /* The counts of the log. */
+    mvrlu_counts count() {
+        mvrlu_counts found = {};
+        detail::must(mvrlu_sets_counts(held("mvrlu_sets_counts"), &found), "mvrlu_sets_counts");
+        return found;
+    }
+
     /* Where the last call took place that was done. */
     place last() const noexcept { return {told_.time, told_.committed != 0}; }
 

@@ -1,7 +1,7 @@
 #!/bin/bash
 # Checks by the sources that each access to a shared word of a domain is counted: the table of a domain is private to one module of
 # mv_core, each function of it makes at most one access, outside any loop, and an access of a word comes with one `tick`; no other code
-# has the table's calls, or atomics of its own.
+# has the table's calls, or atomics of its own, but a run's count of the threads that have begun.
 cd "$(dirname "$0")/.." || exit 1
 python3 - <<'PYTHON'
 import pathlib, re, sys
@@ -10,6 +10,7 @@ MODULE = pathlib.Path("crates/mv_core/src/shared/accesses.rt")
 STRUCT = pathlib.Path("crates/mv_core/src/shared.rt")
 COUNTER = pathlib.Path("crates/mv_core/src/steps.rt")
 JOIN = pathlib.Path("crates/mv_core/src/joining.rt")
+BEGUN = pathlib.Path("crates/item_workers/src/threads.rt")
 
 WORD = ["load", "store", "swap", "compare_exchange", "compare_exchange_with", "exchange", "fetch_max", "fetch_min", "fetch_add",
         "fetch_sub", "fetch_and", "fetch_or", "fetch_xor", "peek", "load_new_seat", "swap_new_seat", "park", "park_timeout"]
@@ -59,7 +60,7 @@ if seen != len(re.findall(r"\bfn \w+", accesses)):
 # No other code has the table's calls, counts a step, or has atomics of its own.
 for path in sorted(pathlib.Path("crates").glob("*/src/**/*.rt")):
     text = code(path)
-    if not path.parts[1].endswith("_tests") and re.search(r"\b(sync::atomic|Atomic\w*)\b", text):
+    if path != BEGUN and not path.parts[1].endswith("_tests") and re.search(r"\b(sync::atomic|Atomic\w*)\b", text):
         faults.append(f"{path}: atomics")
     if re.search(r"\.\s*peek\(", text) and "atomic_table" in text:
         faults.append(f"{path}: peek")

@@ -1,7 +1,7 @@
 #!/bin/bash
 # Checks that what the documents name is there: each link's file, and in docs/CONTRACTS.md and docs/RULE.md each file,
 # each call that stands in it, and each must-fail edit; that docs/QUICKSTART.md and README.md have the text of the counter's
-# crates; and that the files in which docs/PROVING.md finds a lemma have it.
+# crates, and README.md's code in C that of an example; and that the files in which docs/PROVING.md finds a lemma have it.
 cd "$(dirname "$0")/.." || exit 1
 python3 - <<'PYTHON'
 import pathlib, re, sys
@@ -59,17 +59,19 @@ for row in cells(rule):
     if len(row) == 2 and "`:" in row[1]:
         check_edits(rule, row[1], [])
 
-# The code of the quickstart and of README is that of the counter's crates.
+# The code of the quickstart and of README is that of the counter's crates, and README's code in C that of an example.
 quick = pathlib.Path("docs/QUICKSTART.md")
 least = [*pathlib.Path("crates/counter").glob("s*/*.[ra]*"), pathlib.Path("crates/counter_main/src/main.rt")]
 sources = [path.read_text() for path in least]
+examples = [path.read_text() for path in pathlib.Path("examples/c").glob("*.c")]
 for page in (quick, pathlib.Path("README.md")):
     blocks = re.findall(r"^```(\w+)\n(.*?)^```$", page.read_text(), flags=re.DOTALL | re.MULTILINE)
     if not blocks:
         missing.append(f"{page}: no code of the counter")
     for kind, block in blocks:
-        if not any(block in source for source in sources):
-            missing.append(f"{page}: the {kind} that begins {block.splitlines()[0].strip()} stands in no source of the counter")
+        if not any(block in source for source in (examples if kind == "c" else sources)):
+            where = "example" if kind == "c" else "source of the counter"
+            missing.append(f"{page}: the {kind} that begins {block.splitlines()[0].strip()} stands in no {where}")
 told = pathlib.Path("crates/counter_main/stdout").read_text()
 listed = [line for line in pathlib.Path("crates.txt").read_text().splitlines() if re.match(r"counter(_main)?:", line)]
 for lines in (told.splitlines(), listed, pathlib.Path("HANDLES").read_text().splitlines()):

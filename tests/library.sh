@@ -1,5 +1,5 @@
 #!/bin/bash
-# The library for C: builds the archive, and runs each call of include/mvrlu.h, the bank of examples/c and random histories, with
+# The library for C: builds the archive, and runs each call of include/mvrlu.h, the bank and the list of examples/c, and random histories, with
 # each compiler and sanitizer that is there. Ends with 1 at the first that fails.
 cd "$(dirname "$0")/.." || exit 1
 room=$(mktemp -d) || exit 1
@@ -35,6 +35,7 @@ sets='sets: '
 moves='moves 100000 beside pairs 100000, none wrong'
 walks='walks 30000, each of one state'
 bank='transfers 100000, each sum 64000'
+list='changes 40000, each walk 64 keys'
 grace='replaced 20000, freed 20000, read none that was freed'
 under=()
 run=0
@@ -42,11 +43,12 @@ for compiler in gcc clang; do
     command -v "$compiler" >/dev/null || { echo "library: $compiler isn't there, not run"; continue; }
     expect "calls by $compiler" "$calls" "$compiler" "${strict[@]}" -O2 tests/library/calls.c
     expect "bank by $compiler" "$bank" "$compiler" "${strict[@]}" -O2 examples/c/bank.c
+    expect "list by $compiler" "$list" "$compiler" "${strict[@]}" -O2 examples/c/list.c
     expect "grace by $compiler" "$grace" "$compiler" "${strict[@]}" -O2 tests/library/grace.c
     expect "calls on sets by $compiler" "$sets" "$compiler" "${strict[@]}" -O2 tests/library/sets_calls.c
     expect "moves by $compiler" "$moves" "$compiler" "${strict[@]}" -O2 tests/library/sets_moves.c
     expect "walks by $compiler" "$walks" "$compiler" "${strict[@]}" -O2 tests/library/sets_walks.c
-    run=$((run + 6))
+    run=$((run + 7))
 done
 if gcc "${strict[@]}" -O2 -pthread tests/library/single_steps.c -o "$room/single" 2>/dev/null && "$room/single"; then
     expect "calls in the middle of a call" "steps: " gcc "${strict[@]}" -O2 tests/library/sets_steps.c

@@ -3,9 +3,10 @@
  * top of the repository:
  *     cc -O2 examples/c/list.c $(pkg-config --cflags --libs mvrlu) -o list
  *
- * Object 0 is the head. An object whose word TAKEN is 0 is vacant. That is part of the state and is committed with the rest, so the
- * node of a key that was taken out may be used again at once: a walk that began before still reads what it was. The one rule is to
- * lock all that a commit depends on: to put a node in, the one before it; to take it out, that one and the node itself. */
+ * Object 0 is the head, and each other one a node or vacant. A vacant object has words that are all 0, which mvrlu_vacant looks for; a
+ * node has a key, and keys begin at 1. That is part of the state and is committed with the rest, so the node of a key that was taken
+ * out may be used again at once: a walk that began before still reads what it was. The one rule is to lock all that a commit depends
+ * on: to put a node in, the one before it; to take it out, that one and the node itself. */
 #include <mvrlu.h>
 #include <pthread.h>
 #include <stdatomic.h>
@@ -14,7 +15,7 @@
 
 enum { PAIRS = 32, CHANGERS = 2, WALKERS = 2, SEATS = CHANGERS + WALKERS, CHANGES = 20000 };
 enum { LENGTH = PAIRS * CHANGERS, NODES = 2 * LENGTH };
-enum { KEY, NEXT, TAKEN }; /* the words of a node, of which the head has NEXT alone */
+enum { KEY, NEXT }; /* the words of a node, of which the head has NEXT alone */
 enum { HEAD = 0, END = 0 };
 
 typedef struct user { mvrlu_seat *seat; uint32_t hint; unsigned number; } user;
@@ -44,7 +45,7 @@ static place find(mvrlu_seat *seat, uint64_t key) {
     return (place){before, node, node != END && found == key};
 }
 
-/* Has a node lead elsewhere. This and the next three tell a refusal, a status above 0: then the section is to be aborted. */
+/* Has a node lead elsewhere. This and the next two tell a refusal, a status above 0: then the section is to be aborted. */
 static int32_t lead(mvrlu_seat *seat, uint32_t node, uint32_t next) {
     uint64_t words[MVRLU_WORDS];
     int32_t status = mvrlu_lock(seat, node, NULL);
@@ -54,26 +55,16 @@ static int32_t lead(mvrlu_seat *seat, uint32_t node, uint32_t next) {
     return mvrlu_write(seat, node, words);
 }
 
-/* Locks a vacant node, so that it is vacant at the commit, too. The search goes on from where the last one ended. */
-static int32_t take_vacant(user *me, uint32_t *node) {
-    uint64_t words[MVRLU_WORDS];
-    for (int looked = 0; looked < NODES; looked++) {
-        *node = me->hint = me->hint % NODES + 1;
-        must("read", mvrlu_read(me->seat, *node, words));
-        int32_t status = words[TAKEN] ? MVRLU_BUSY : mvrlu_lock(me->seat, *node, NULL);
-        if (status != MVRLU_BUSY && status != MVRLU_STALE) return status;
-    }
-    return MVRLU_BUSY; /* the list is full, or others hold all that is vacant */
-}
-
-/* Puts a key in, where it isn't there. */
+/* Puts a key in, where it isn't there. The node before it is locked first, so that a head whose list is empty isn't found as vacant. */
 static int32_t put_in(user *me, uint64_t key) {
     place at = find(me->seat, key);
-    uint32_t node;
+    uint32_t node = END;
     int32_t status;
     if (at.is_there) return MVRLU_OK;
-    if ((status = take_vacant(me, &node)) != MVRLU_OK || (status = lead(me->seat, at.before, node)) != MVRLU_OK) return status;
-    return mvrlu_write(me->seat, node, (uint64_t[MVRLU_WORDS]){[KEY] = key, [NEXT] = at.node, [TAKEN] = 1});
+    if ((status = mvrlu_lock(me->seat, at.before, NULL)) != MVRLU_OK) return status;
+    if ((status = mvrlu_vacant(me->seat, &me->hint, &node)) != MVRLU_OK) return status;
+    must("lead", lead(me->seat, at.before, node));
+    return mvrlu_write(me->seat, node, (uint64_t[MVRLU_WORDS]){[KEY] = key, [NEXT] = at.node});
 }
 
 /* Takes a key out, where it is there. */

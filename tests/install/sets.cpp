@@ -79,6 +79,12 @@ void commands() {
     WANT(seat.add(t2, 0xffffffffu) == reply::yes && seat.next(t2, 0xffffffffu) == 0xffffffffu);
 }
 
+void counts_of_a_log() {
+    auto seats = mvrlu::open_sets({}, 2);
+    WANT(seats[0].add(l0, 5) == reply::yes && seats[0].count().commits == 1 && seats[1].count().commits == 0);
+    WANT_THROWN(mvrlu::sets().count(), mvrlu::errc::closed);
+}
+
 /* Whether these are the entries of a walk, by their keys, each with its key and 1 as its value. */
 bool has_keys(const mvrlu::walk &found, const std::vector<std::uint32_t> &keys) {
     if (found.entries.size() != keys.size()) return false;
@@ -171,6 +177,7 @@ void a_block_is_seen_whole() {
 int main() {
     seats_move_and_close();
     commands();
+    counts_of_a_log();
     walks_are_of_one_state();
     misuse_is_thrown();
     full_is_a_reply();

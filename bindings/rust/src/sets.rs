@@ -5,6 +5,7 @@ use crate::options::SEATS_MAX;
 use crate::raw::sets::{RawCommand, RawReply, RawSets, RawWalk};
 use crate::raw::Status;
 use crate::retry::{At, Done};
+use crate::seat::Counts;
 use std::thread::yield_now;
 
 /// The fewest objects that a domain of sets may have.
@@ -248,6 +249,23 @@ impl Sets {
         let mut live = 0;
         self.raw.tidy(&mut live).must_be_done();
         live
+    }
+
+    /// Tells the counts of the seat's log.
+    ///
+    /// ```
+    /// # fn main() -> Result<(), Box<dyn std::error::Error>> {
+    /// let mut seats = mvrlu::open_sets(mvrlu::SetsOptions::default(), 1)?;
+    /// seats[0].add(mvrlu::Set::List(0), 7)?;
+    /// let counts = seats[0].count();
+    /// assert_eq!((counts.commits, counts.live), (1, 2)); // versions of the list's head and of the key's node
+    /// # Ok(())
+    /// # }
+    /// ```
+    pub fn count(&mut self) -> Counts {
+        let mut counts = Counts::default();
+        self.raw.count(&mut counts).must_be_done();
+        counts
     }
 
     /// Makes a call, and makes it again where another seat came first, at most `limit` times, 0 or more. The thread yields before

@@ -102,6 +102,18 @@ fn what_calls_fail_by() {
 }
 
 #[test]
+fn counts_of_a_log() {
+    let [mut first, mut second]: [Sets; 2] = open_sets(SetsOptions::default(), 2).unwrap().try_into().unwrap();
+    for key in 0..10 {
+        first.add(LIST, key).unwrap();
+    }
+    let counts = first.count();
+    assert_eq!((counts.commits, counts.aborts, counts.live + counts.freed), (10, 0, 20));
+    assert_eq!((first.tidy(), first.count().freed, first.count().live), (0, 20, 0));
+    assert_eq!(second.count().commits, 0);
+}
+
+#[test]
 fn a_block_is_one_commit_or_one_read() {
     let mut sets = open_one(4096);
     let done = sets.block([

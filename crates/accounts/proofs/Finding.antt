@@ -3,7 +3,8 @@ use Rattle.std.proofs.Common.{◌≡◌, ◌≢◌, ℕ, ◌+◌, ◌-◌, ◌<�
 use Rattle.std.proofs.lemmas.Bool.Decides.{nat_tests}
 use Rattle.mv_history.specs.State.{State}
 use Rattle.mv_history.specs.Legal.{are_distinct, AreWithin}
-use Rattle.accounts.specs.Rules.{balance, account_of, IsTransfer}
+use Rattle.accounts.specs.Layout.{words_of, account_of}
+use Rattle.accounts.specs.Rules.{balance, IsTransfer}
 use Rattle.accounts.proofs.Fits.{transfer-fit}
 use Rattle.section_work.specs.Works.{IsPlanned}
 use Rattle.accounts.specs.Transfers.{transfer_tag, transfer_meaning}
@@ -16,7 +17,7 @@ two_within : (a b n : ℕ) (x y : List ℕ) → a < n → b < n → AreWithin ((
 two_within a b n x y la lb o t = grind (arith, nat_tests)
 
 pub planned : (s : State) (from to amount had got : ℕ) (left gained : List ℕ) → from < length s → to < length s → from ≢ to → 0 < amount → had ≡ balance s from
-    → got ≡ balance s to → amount ≤ had → left ≡ account_of (had - amount) → gained ≡ account_of (got + amount)
+    → got ≡ balance s to → amount ≤ had → left ≡ words_of (account_of (had - amount)) → gained ≡ words_of (account_of (got + amount))
     → IsPlanned IsTransfer (transfer_meaning (transfer_tag from to amount)) s (transfer_tag from to amount) ((from, left) ∷ (to, gained) ∷ []) Enough
 planned s from to amount had got left gained lf lt n some had_is got_is enough left_is gained_is =
     let moves : IsTransfer (transfer_tag from to amount) s ((from, left) ∷ (to, gained) ∷ []) =

@@ -7,22 +7,23 @@ use Rattle.mv_history.specs.State.{State, Writes, written, state_after, state_at
 use Rattle.mv_history.specs.Legal.{IsAllowed}
 use Rattle.mv_history.specs.Meaning.{Seat, IsSeat}
 use Rattle.mv_client.proofs.Invariants.{keeps_after, keeps_at}
-use Rattle.accounts.specs.Rules.{balance_of, account_of, balance, total, IsOpening, from_of, to_of, amount_of, IsTransfer}
+use Rattle.accounts.specs.Layout.{words_of, account_of}
+use Rattle.accounts.specs.Rules.{balance_of, balance, total, IsOpening, from_of, to_of, amount_of, IsTransfer}
 
 -- an account that gets another balance changes the total by the difference
-total-set : (s : State) (a b : ℕ) → a < length s → total (set s a (account_of b)) + balance s a ≡ total s + b
-total-set s a b l = sum_by-set balance_of s a (account_of b) [] l
+total-set : (s : State) (a b : ℕ) → a < length s → total (set s a (words_of (account_of b))) + balance s a ≡ total s + b
+total-set s a b l = sum_by-set balance_of s a (words_of (account_of b)) [] l
 
 -- a transfer keeps the total
 pub total-transfer : (tag : List ℕ) (s : State) (ws : Writes) → IsTransfer tag s ws → total (written s ws) ≡ total s
 total-transfer tag s ws t =
     let from = from_of tag in
     let to = to_of tag in
-    let paid : State = set s from (account_of (balance s from - amount_of tag)) in
+    let paid : State = set s from (words_of (account_of (balance s from - amount_of tag))) in
     let first = total-set s from (balance s from - amount_of tag) t.from in
     let second = total-set paid to (balance s to + amount_of tag) (rw length-set t.to) in
     let same : balance paid to ≡ balance s to =
-    ap balance_of (get_or-set_other s from to (account_of (balance s from - amount_of tag)) [] (λ e. t.other (sym e))) in
+    ap balance_of (get_or-set_other s from to (words_of (account_of (balance s from - amount_of tag))) [] (λ e. t.other (sym e))) in
     rw t.moves (omega (arith, first, second, same, t.enough))
 
 -- after an allowed history the total is the opening one
@@ -38,8 +39,8 @@ total-state_at s lawful t =
 -- the two balances of different accounts are part of the total
 pub balances-le : (s : State) (a b : ℕ) → a < length s → b < length s → a ≢ b → balance s a + balance s b ≤ total s
 balances-le s a b la lb n =
-    let without : State = set s a (account_of 0) in
+    let without : State = set s a (words_of (account_of 0)) in
     let one = total-set s a 0 la in
-    let same : balance without b ≡ balance s b = ap balance_of (get_or-set_other s a b (account_of 0) [] (λ e. n (sym e))) in
+    let same : balance without b ≡ balance s b = ap balance_of (get_or-set_other s a b (words_of (account_of 0)) [] (λ e. n (sym e))) in
     let other : balance without b ≤ total without = get_or-le-sum_by balance_of without b [] (rw length-set lb) in
     omega (arith, one, same, other)

@@ -1,16 +1,13 @@
 -- Which states the accounts open with, and which commits are transfers.
 use Rattle.std.specs.Prelude.{◌≡◌, ◌≢◌, ℕ, ◌+◌, ◌-◌, ◌^◌, ◌<◌, ◌≤◌, List, [], ◌∷◌, length, slice_index, sum_by}
 use Rattle.accounts.specs.declared.rules.TheConstants.{ACCOUNTS}
+use Rattle.accounts.specs.Layout.{words_of, account_in, account_of}
 use Rattle.mv_history.specs.State.{State, Writes}
 use Rattle.mv_history.specs.Meaning.{words_at}
 
 -- the balance that the words of an account say
 abbrev pub balance_of : List ℕ → ℕ
-balance_of words = slice_index words 0
-
--- the words of an account with this balance
-abbrev pub account_of : ℕ → List ℕ
-account_of balance = balance ∷ 0 ∷ 0 ∷ 0 ∷ 0 ∷ 0 ∷ []
+balance_of words = (account_in words).balance
 
 -- the balance of an account in a state
 abbrev pub balance : State → ℕ → ℕ
@@ -42,5 +39,5 @@ pub record IsTransfer (tag : List ℕ) (before : State) (writes : Writes) : Type
   pub other : from_of tag ≢ to_of tag
   pub some : 0 < amount_of tag
   pub enough : amount_of tag ≤ balance before (from_of tag)
-  pub moves : writes ≡ (from_of tag, account_of (balance before (from_of tag) - amount_of tag))
-      ∷ (to_of tag, account_of (balance before (to_of tag) + amount_of tag)) ∷ []
+  pub moves : writes ≡ (from_of tag, words_of (account_of (balance before (from_of tag) - amount_of tag)))
+      ∷ (to_of tag, words_of (account_of (balance before (to_of tag) + amount_of tag))) ∷ []

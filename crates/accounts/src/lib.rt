@@ -2,7 +2,7 @@
 //!
 //! # The model
 //!
-//! An account is an object whose first word is its balance. The store may be any whose rules are
+//! An account is an object that says a balance ([`Account`]). The store may be any whose rules are
 //! [`Accounts`]: one section moves an amount between two accounts, another reads them all, in as many
 //! threads as the store has seats.
 //!
@@ -16,7 +16,8 @@
 //! # How it is made
 //!
 //! 1. *Rules.* `Accounts` is a `Protocol`: which opening states there may be, and which commits
-//!    (`specs/Rules.antt`). A commit's tag says which transfer it is, so that the rules can compare
+//!    (`specs/Rules.antt`). What an account's words say is a `Record` of `mv_client`, and the rules speak of
+//!    its fields (`specs/Layout.antt`). A commit's tag says which transfer it is, so that the rules can compare
 //!    its writes with it.
 //! 2. *What the rules keep.* A transfer keeps the sum, so each allowed history does
 //!    (`proofs/Totals.antt`). A store's law says that what it has seen is allowed.
@@ -39,12 +40,14 @@
 #![tactic(auto)]
 
 mod attempt;
+mod layout;
 mod reading;
 mod repeating;
 mod rules;
 mod transfer_work;
 
 pub use attempt::{Attempt, transfer};
+pub use layout::Account;
 pub use reading::{SumAt, keeps_total, sum, total};
 pub use repeating::{Moved, make_transfers, read_sums};
-pub use rules::{ACCOUNTS, Accounts, BALANCE, account, opening};
+pub use rules::{ACCOUNTS, Accounts, opening};

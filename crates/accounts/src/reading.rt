@@ -6,7 +6,9 @@ ghost use Rattle.mv_history.specs.Calls.{Continues};
 ghost use Rattle.accounts.specs.Repeats.{IsSum};
 ghost use Rattle.accounts.specs.Rules.{total as total_of};
 
-use crate::rules::{ACCOUNTS, Accounts, BALANCE};
+use crate::layout::Account;
+use crate::rules::{ACCOUNTS, Accounts};
+use mv_client::read_record;
 use mv_history::{Section, Store, View};
 
 /// A sum of all accounts.
@@ -28,8 +30,9 @@ pub fn total<V: View>(view: &mut V) -> u64
     ensures as_before { V.as_before view.old view.new }
 {
     let mut sum = 0;
-    for account in 0..ACCOUNTS {
-        sum += view.read(account)[BALANCE];
+    for number in 0..ACCOUNTS {
+        let account: Account = read_record(view, number);
+        sum += account.balance;
     }
     sum
 }

@@ -1,14 +1,13 @@
 // The rules of the accounts.
 ghost use Rattle.std.specs.Prelude.{◌≡◌, ◌*◌};
-ghost use Rattle.accounts.specs.Rules.{account_of, IsOpening, total};
+ghost use Rattle.accounts.specs.Rules.{IsOpening, total};
 
+use crate::layout::Account;
+use mv_client::Record;
 use mv_history::{Protocol, Words};
 
 /// How many accounts there are. Account `a`, 0 to 7, is the object `a`.
 pub const ACCOUNTS: u32 = 8;
-
-/// Which of an account's words is its balance.
-pub const BALANCE: usize = 0;
 
 /// The rules of the accounts, which every commit of a store over them keeps.
 ///
@@ -33,17 +32,13 @@ impl Protocol for Accounts {
     ghost one_allowed = { IsTransfer-prop };
 }
 
-/// The words of an account with this balance.
-pub fn account(balance: u64) -> Words
-    ensures { result ≡ account_of balance }
-{
-    [balance, 0, 0, 0, 0, 0]
-}
-
 /// An opening state in which each account has this balance.
 pub fn opening(balance: u32) -> [Words; ACCOUNTS as usize]
     ensures lawful { IsOpening result }
     ensures total { total result ≡ 8 * balance }
 {
-    [account(balance as u64); ACCOUNTS as usize]
+    let account = Account {
+        balance: balance as u64,
+    };
+    [account.to_words(); ACCOUNTS as usize]
 }

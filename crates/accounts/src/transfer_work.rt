@@ -1,5 +1,7 @@
 // What a transfer reads and writes, as a unit of work.
-use crate::rules::{Accounts, BALANCE, account};
+use crate::layout::Account;
+use crate::rules::Accounts;
+use mv_client::{Record, read_record};
 use mv_history::{Tag, View, Words};
 use section_work::{Decision, Work};
 
@@ -54,13 +56,19 @@ impl Work for Transfer {
         _time: u64,
     ) -> (V, Decision<Found, [(u32, Words); 2]>) {
         let mut view = view;
-        let has = view.read(self.from)[BALANCE];
-        if has < self.amount {
-            return (view, Decision::Settled(Found::Short { balance: has }));
+        let payer: Account = read_record(&mut view, self.from);
+        let balance = payer.balance;
+        if balance < self.amount {
+            return (view, Decision::Settled(Found::Short { balance }));
         }
-        let left = account(has - self.amount);
-        let gained = account(view.read(self.to)[BALANCE] + self.amount);
-        let plan = [(self.from, left), (self.to, gained)];
+        let payee: Account = read_record(&mut view, self.to);
+        let left = Account {
+            balance: balance - self.amount,
+        };
+        let gained = Account {
+            balance: payee.balance + self.amount,
+        };
+        let plan = [(self.from, left.to_words()), (self.to, gained.to_words())];
         let reply = Found::Enough;
         (view, Decision::Change { plan, reply })
     }

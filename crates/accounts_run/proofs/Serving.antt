@@ -20,7 +20,7 @@ use Rattle.mvrlu.specs.Causes.{Took}
 use Rattle.mvrlu.specs.Opened.{new_seat}
 use Rattle.mvrlu.specs.Whole.{Whole, last_state}
 use Rattle.domain_run.specs.Runs.{RanOn, IsRun}
-use Rattle.domain_run.proofs.Rows.{place_below, at_below}
+use Rattle.domain_loan.proofs.Rows.{place_below, at_below}
 
 -- sums that were read go on
 reads_continue : (old new : Seat) (sums : List SumAt) → ReadsEach Took old new sums → Continues old new

@@ -9,7 +9,7 @@ use Rattle.set_script.specs.declared.commands.Reply.{Reply}
 use Rattle.section_work.specs.Causes.{Causes}
 use Rattle.section_work.specs.declared.place.Place.TheVariants.{Read}
 use Rattle.mvrlu.specs.Whole.{Whole}
-use Rattle.domain_run.specs.Met.{HasMet}
+use Rattle.domain_loan.specs.Met.{HasMet}
 use Rattle.script_domain.proofs.Fresh.{fresh_between}
 use Rattle.block_workers.specs.BlockLinks.{LinkedBlock}
 use Rattle.block_workers.proofs.Fresh.{linked_fresh}

@@ -27,7 +27,7 @@ use Rattle.run_report.proofs.history.Inserted.{some_order}
 use Rattle.run_report.proofs.history.OneRun.{lines_permuted, made_by_seat}
 use Rattle.run_report.proofs.history.Replay.{IsLeft}
 use Rattle.run_report.proofs.history.Steps.{IsSamePlace}
-use Rattle.domain_run.specs.Met.{AllContinue}
+use Rattle.domain_loan.specs.Met.{AllContinue}
 use Rattle.script_domain.proofs.OneHistory.{IsOneHistory}
 use Rattle.block_workers.specs.BlockLines.{DoneBlock, lines_of}
 use Rattle.block_workers.specs.BlockRuns.{AllRanBlocks}

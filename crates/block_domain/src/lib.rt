@@ -23,7 +23,7 @@
 //!
 //! **Its place.** The crate stands on `block_workers`, which runs scripts of blocks over any stores in threads, and on `mvrlu`,
 //! whose handles are such stores and whose meeting knows the whole history. The loan of the domain to its seats is that of
-//! `domain_run`. How the lines of seats stand in one history, whatever they reply, comes from `run_report`.
+//! `domain_loan`. How the lines of seats stand in one history, whatever they reply, comes from `run_report`.
 #![tactic(auto)]
 
 mod running;

@@ -9,14 +9,14 @@ ghost use Rattle.block_workers.specs.BlockRuns.{AllRanBlocks};
 ghost use Rattle.block_workers.specs.Workers.{blocks_of, count_of};
 ghost use Rattle.block_workers.specs.BlockLinks.{AllLinkedBlocks};
 ghost use Rattle.set_blocks.specs.BlockRules.{IsBlockCommit};
-ghost use Rattle.domain_run.specs.Met.{AreTablesOf, MetAlong};
-ghost use Rattle.domain_run.specs.New.{AreNewFrom};
-ghost use Rattle.domain_run.specs.Shown.{handle_causes};
+ghost use Rattle.domain_loan.specs.Met.{AreTablesOf, MetAlong};
+ghost use Rattle.domain_loan.specs.New.{AreNewFrom};
+ghost use Rattle.domain_loan.specs.Shown.{handle_causes};
 ghost use Rattle.script_domain.specs.Joined.{past_of_whole};
 ghost use Rattle.block_domain.specs.Whole.{BlocksRunOf};
 
 use block_workers::run_blocks;
-use domain_run::lending::{lend_all, meet_all, take_back};
+use domain_loan::{lend_all, meet_all, take_back};
 use mv_history::LogTable;
 use mvrlu::{Closing, Domain, Seat};
 use run_outside::Gate;

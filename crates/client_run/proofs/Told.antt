@@ -15,7 +15,7 @@ use Rattle.mv_layout.specs.declared.Config.{Config}
 use Rattle.mvrlu.specs.Opened.{new_seat}
 use Rattle.mvrlu.specs.Whole.{Whole, last_state}
 use Rattle.domain_run.specs.Runs.{RanOn, IsRun}
-use Rattle.domain_run.proofs.Rows.{place_below, at_below, if_ok}
+use Rattle.domain_loan.proofs.Rows.{place_below, at_below, if_ok}
 use Rattle.client_run.specs.Over.{IsOver, EachTold}
 use Rattle.mv_client.specs.Invariants.{IsKept, IsRaised, count_changes}
 use Rattle.mv_client.specs.Updates.{Repeated}

@@ -6,7 +6,8 @@ use Rattle.mv_history.proofs.Writing.{length-written}
 use Rattle.mv_client.specs.Invariants.{IsKept}
 use Rattle.mv_client.proofs.Keeping.{kept_written, written_first, written_second, written_third, written_none}
 use Rattle.mv_client.proofs.LinkedMoves.{moved}
-use Rattle.directory.specs.Ring.{link_of, details_of, next_of, IsDirectory}
+use Rattle.directory.specs.Layout.{link_of, details_of}
+use Rattle.directory.specs.Ring.{next_of, IsDirectory}
 use Rattle.directory.specs.Moves.{before_in, user_in, shelf_in, move_writes, IsMove}
 
 pub details_move : {tag : List ℕ} {s : State} {ws : Writes} → IsMove tag s ws → (o : ℕ)

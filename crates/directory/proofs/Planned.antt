@@ -4,16 +4,16 @@ use Rattle.std.proofs.lemmas.Bool.Decides.{nat_tests}
 use Rattle.mv_history.specs.State.{State, Writes}
 use Rattle.mv_history.specs.Legal.{AreWithin}
 use Rattle.mv_history.specs.Drift.{IsFit}
-use Rattle.mv_history.specs.Meaning.{InSection, IsSection, state_of, words_at}
+use Rattle.mv_history.specs.Meaning.{InSection, IsSection, state_of}
 use Rattle.section_work.specs.Works.{IsPlanned}
 use Rattle.section_work.proofs.Entering.{reads_snapshot}
 use Rattle.mv_client.proofs.Invariants.{keeps_in}
 use Rattle.mv_client.proofs.Fits.{fit_by_held}
 use Rattle.mv_client.proofs.Keeping.{three_distinct}
-use Rattle.directory.specs.declared.rules.TheConstants.{SHELVES}
 use Rattle.directory.specs.declared.moving.Found.TheVariants.{Away}
-use Rattle.directory.specs.Ring.{link_of, linked, IsDirectory}
-use Rattle.directory.specs.Ring.{IsBefore}
+use Rattle.directory.specs.declared.layout.Node.{Node}
+use Rattle.directory.specs.Layout.{link_of, words_of, with_link}
+use Rattle.directory.specs.Ring.{node_at, IsDirectory, IsBefore}
 use Rattle.directory.specs.Moves.{IsOpening, before_in, user_in, shelf_in, IsMove, IsMoving, move_meaning, tag_of_plan}
 use Rattle.directory.proofs.Keeps.{move_keeps}
 use Rattle.directory.proofs.Opens.{opened}
@@ -22,10 +22,6 @@ use Rattle.directory.proofs.Opens.{opened}
 pub directory_read : (s : InSection) (u : State) → u ≡ state_of s → s.own ≡ [] → IsSection IsOpening IsMove s → IsDirectory u
 directory_read s u reads none lawful =
     subst IsDirectory (sym (reads ∙ reads_snapshot s none)) (keeps_in IsMove IsDirectory move_keeps IsOpening s lawful (opened s.seat.start lawful.seat.start))
-
--- the other of the two shelves
-pub other_below : (shelf : ℕ) → shelf < SHELVES → 1 - shelf < SHELVES
-other_below shelf l = omega (arith, l)
 
 -- a move depends on the three objects that it writes
 move_fit : (tag : List ℕ) (from : State) (ws : Writes) → IsMove tag from ws → IsFit IsMove from tag ws
@@ -48,12 +44,12 @@ move_fit tag from ws m = fit_by_held IsMove from tag ws (λ s long held.
 three_within : (a b c n : ℕ) (x y z : List ℕ) → a < n → b < n → c < n → AreWithin ((a, x) ∷ (b, y) ∷ (c, z) ∷ []) n
 three_within a b c n x y z la lb lc o t = grind (arith, nat_tests)
 
-pub planned : (s : State) (before user shelf : ℕ) (w1 w2 w3 first second third : List ℕ) → IsDirectory s → IsMoving user shelf
-    → IsBefore s (1 - shelf) before user → w1 ≡ words_at s before → w2 ≡ words_at s user → w3 ≡ words_at s shelf → first ≡ linked w1 (link_of w2)
-    → second ≡ linked w2 (link_of w3) → third ≡ linked w3 user
+pub planned : (s : State) (before user shelf : ℕ) (source node target : Node) (first second third : List ℕ) → IsDirectory s → IsMoving user shelf
+    → IsBefore s (1 - shelf) before user → source ≡ node_at s before → node ≡ node_at s user → target ≡ node_at s shelf
+    → first ≡ words_of (with_link source node.next) → second ≡ words_of (with_link node target.next) → third ≡ words_of (with_link target user)
     → IsPlanned IsMove (move_meaning user shelf) s (tag_of_plan user shelf ((before, first) ∷ (user, second) ∷ (shelf, third) ∷ []))
     ((before, first) ∷ (user, second) ∷ (shelf, third) ∷ []) Away
-planned s before user shelf w1 w2 w3 first second third d m b e1 e2 e3 f1 f2 f3 =
+planned s before user shelf source node target first second third d m b e1 e2 e3 f1 f2 f3 =
     let apart : before ≢ shelf = b.not_head shelf m.shelf_is (λ e. omega (arith, e, m.shelf_is)) in
     let us : user ≢ shelf = λ e. omega (arith, e, m.user_is, m.shelf_is) in
     let moves : IsMove (before ∷ user ∷ shelf ∷ 0 ∷ []) s ((before, first) ∷ (user, second) ∷ (shelf, third) ∷ []) = record {

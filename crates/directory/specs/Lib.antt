@@ -1,3 +1,4 @@
+pub mod Layout
 pub mod Ring
 pub mod Moves
 pub mod MoveLaws

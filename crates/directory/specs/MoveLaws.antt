@@ -6,7 +6,8 @@ use Rattle.directory.specs.declared.rules.TheConstants.{OBJECTS, SHELVES}
 use Rattle.mv_history.specs.State.{State, Writes, written}
 use Rattle.mv_client.specs.Rules.{Writes-set}
 use Rattle.mv_client.proofs.Keeping.{written_third}
-use Rattle.directory.specs.Ring.{link_of, next_of}
+use Rattle.directory.specs.Layout.{link_of}
+use Rattle.directory.specs.Ring.{next_of}
 use Rattle.directory.specs.Moves.{IsOpening, before_in, user_in, shelf_in, IsMove, PlansMove}
 
 pub IsOpening-prop : (s : State) → IsProp (IsOpening s)

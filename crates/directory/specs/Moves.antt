@@ -6,7 +6,8 @@ use Rattle.directory.specs.declared.moving.Found.TheVariants.{Away, There, Late}
 use Rattle.mv_history.specs.State.{State, Writes}
 use Rattle.mv_history.specs.Meaning.{words_at}
 use Rattle.section_work.specs.Works.{Meaning}
-use Rattle.directory.specs.Ring.{link_of, linked, next_of, IsUser, IsOn}
+use Rattle.directory.specs.Layout.{link_of, linked}
+use Rattle.directory.specs.Ring.{next_of, IsUser, IsOn}
 
 -- each object leads to the next one, so all users stand on shelf 1
 abbrev pub IsOpening : State → Type 0

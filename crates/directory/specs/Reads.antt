@@ -1,10 +1,10 @@
 -- What a reader tells.
-use Rattle.std.specs.Prelude.{◌≡◌, ◌+◌, ◌≤◌, ℕ, length, slice_index}
+use Rattle.std.specs.Prelude.{◌≡◌, ◌+◌, ◌≤◌, ℕ, length}
 use Rattle.mv_history.specs.State.{state_at}
-use Rattle.mv_history.specs.Meaning.{Seat, InSection, words_at}
+use Rattle.mv_history.specs.Meaning.{Seat, InSection}
 use Rattle.mv_history.specs.Calls.{Continues, Enters}
 use Rattle.directory.specs.declared.reading.Seen.{Seen}
-use Rattle.directory.specs.Ring.{IsOn}
+use Rattle.directory.specs.Ring.{node_at, IsOn}
 
 -- Between the two seats a section was entered, which took the time of its snapshot then and made no commit. Its snapshot has the printed time
 -- that is told, and there the user is on the shelf that is told, with the id that is told.
@@ -17,4 +17,4 @@ pub record IsSeen (took : Seat → InSection → Type 0) (old new : Seat) (user 
   pub within : entered.at ≤ length new.seen
   pub time_is : seen.time ≡ new.base + entered.at
   pub on : IsOn (state_at new.start new.seen entered.at) seen.shelf user
-  pub id_is : seen.id ≡ slice_index (words_at (state_at new.start new.seen entered.at) user) 1
+  pub id_is : seen.id ≡ (node_at (state_at new.start new.seen entered.at) user).id

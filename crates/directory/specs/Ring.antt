@@ -1,26 +1,20 @@
 -- What a directory is: its links form one ring.
-use Rattle.std.specs.Prelude.{◌≡◌, ℕ, ◌≤◌, ◌⊎◌, List, ◌∷◌, length, drop, slice_index}
+use Rattle.std.specs.Prelude.{◌≡◌, ℕ, ◌≤◌, ◌⊎◌, length}
 use Rattle.directory.specs.declared.rules.TheConstants.{OBJECTS, SHELVES}
+use Rattle.directory.specs.declared.layout.Node.{Node}
+use Rattle.directory.specs.Layout.{node_in}
 use Rattle.mv_history.specs.State.{State}
 use Rattle.mv_history.specs.Meaning.{words_at}
 use Rattle.mv_client.specs.Linked as links
 use Rattle.mv_client.specs.Linked.{IsRing}
 
--- the link that the words of an object have
-abbrev pub link_of : List ℕ → ℕ
-link_of words = slice_index words 0
-
--- what the words of an object say beside its link
-abbrev pub details_of : List ℕ → List ℕ
-details_of words = drop 1 words
-
--- these words, with another link
-abbrev pub linked : List ℕ → ℕ → List ℕ
-linked words next = next ∷ details_of words
+-- what an object says in a state
+abbrev pub node_at : State → ℕ → Node
+node_at s o = node_in (words_at s o)
 
 -- the object to which an object's link leads
 abbrev pub next_of : State → ℕ → ℕ
-next_of s o = link_of (words_at s o)
+next_of s o = (node_at s o).next
 
 -- the object is a user
 abbrev pub IsUser : ℕ → Type 0

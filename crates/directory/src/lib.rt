@@ -2,9 +2,9 @@
 //!
 //! # The model
 //!
-//! Objects 0 and 1 are the shelves, of the archived users and of the active ones; objects 2 to 9 are users. An object's first
-//! word is its link; the others, as a user's id, are its details. The links form one ring: shelf 0, the users on it, shelf 1, the
-//! users on it, and back to shelf 0. So each shelf is a linked list that ends at a shelf.
+//! Objects 0 and 1 are the shelves, of the archived users and of the active ones; objects 2 to 9 are users. Each says a [`Node`]: a
+//! link, and beside it the details, as a user's id. The links form one ring: shelf 0, the users on it, shelf 1, the users on it, and
+//! back to shelf 0. So each shelf is a linked list that ends at a shelf.
 //!
 //! A move takes one user, wherever it stands, to the front of the other shelf. It is one commit of three objects: the one before
 //! the user, the user, and the shelf. Readers walk along the links in a section of their own.
@@ -21,8 +21,9 @@
 //!
 //! # How it is made
 //!
-//! 1. *Rules.* `Directory` allows moves alone (`specs/Moves.antt`). They speak of the three objects that a move writes, and so a
-//!    move is fit: `fit_by_held` of `mv_client`.
+//! 1. *Rules.* A [`Node`] is a `Record` of `mv_client` (`specs/Layout.antt`): code reads and writes it by the names of its fields.
+//!    `Directory` allows moves alone (`specs/Moves.antt`), which change links. They speak of the three objects that a move writes,
+//!    and so a move is fit: `fit_by_held` of `mv_client`.
 //! 2. *What the rules keep.* Each object has a place of its own in one ring, and leads to the next (`IsRing` of `mv_client`). A move
 //!    takes one out and puts it in elsewhere (`proofs/Keeps.antt`, by `LinkedMoves` of `mv_client`); `keeps_in` and `keeps_at` of
 //!    `mv_client` do the rest.
@@ -35,14 +36,16 @@
 //! It stands on `mv_client` and `section_work`, over any store.
 #![tactic(auto)]
 
+mod layout;
 mod moving;
 mod reading;
 mod repeating;
 mod rules;
 mod searching;
 
+pub use layout::Node;
 pub use moving::{Found, move_user};
 pub use reading::{Seen, keeps_directory, look_up, shelf_of};
 pub use repeating::make_moves;
-pub use rules::{Directory, ENTRIES, HASH, ID, NEXT, OBJECTS, SHELVES, opening};
+pub use rules::{Directory, ENTRIES, OBJECTS, SHELVES, opening};
 pub use searching::find_before;

@@ -4,11 +4,13 @@ ghost use Rattle.directory.specs.declared.rules.TheConstants.{OBJECTS as objects
 ghost use Rattle.mv_history.specs.Calls.{Continues};
 ghost use Rattle.section_work.specs.Causes.{causes};
 ghost use Rattle.section_work.specs.Attempts.{Attempted};
-ghost use Rattle.directory.specs.Ring.{linked as linked_to};
+ghost use Rattle.directory.specs.Layout.{words_of, with_link};
 ghost use Rattle.directory.specs.Moves.{move_meaning};
 
-use crate::rules::{Directory, NEXT};
+use crate::layout::Node;
+use crate::rules::Directory;
 use crate::searching::find_before;
+use mv_client::{Record, read_record};
 use mv_history::{Store, Tag, View, Words};
 use section_work::{Attempt, Decision, Work, attempt_work};
 
@@ -30,13 +32,11 @@ pub(crate) struct Move {
     pub shelf: u32,
 }
 
-// These words, with this link.
-fn linked(words: Words, next: u64) -> Words
-    ensures { result ≡ linked_to words next }
+// The words of this node, with this link.
+fn linked(node: Node, next: u32) -> Words
+    ensures { result ≡ words_of (with_link node next) }
 {
-    let mut words = words;
-    words[NEXT] = next;
-    words
+    Node { next, ..node }.to_words()
 }
 
 impl Work for Move {
@@ -74,13 +74,13 @@ impl Work for Move {
         let Some(before) = find_before(&mut view, 1 - self.shelf, self.user) else {
             return (view, Decision::Settled(Found::There));
         };
-        let source = view.read(before);
-        let node = view.read(self.user);
-        let target = view.read(self.shelf);
+        let source: Node = read_record(&mut view, before);
+        let node: Node = read_record(&mut view, self.user);
+        let target: Node = read_record(&mut view, self.shelf);
         let plan = [
-            (before, linked(source, node[NEXT])),
-            (self.user, linked(node, target[NEXT])),
-            (self.shelf, linked(target, self.user as u64)),
+            (before, linked(source, node.next)),
+            (self.user, linked(node, target.next)),
+            (self.shelf, linked(target, self.user)),
         ];
         let reply = Found::Away;
         (view, Decision::Change { plan, reply })

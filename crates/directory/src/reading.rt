@@ -4,12 +4,14 @@ ghost use Rattle.directory.specs.declared.rules.TheConstants.{OBJECTS as objects
 ghost use Rattle.mv_history.specs.State.{state_at};
 ghost use Rattle.mv_history.specs.Calls.{Continues};
 ghost use Rattle.mv_history.specs.Meaning.{words_at};
-ghost use Rattle.directory.specs.Ring.{IsDirectory, IsOn, IsPlaced, details_of};
+ghost use Rattle.directory.specs.Layout.{details_of};
+ghost use Rattle.directory.specs.Ring.{IsDirectory, IsOn, IsPlaced};
 ghost use Rattle.directory.specs.Reads.{IsSeen};
 
-use crate::rules::{Directory, ID};
+use crate::layout::Node;
+use crate::rules::Directory;
 use crate::searching::find_before;
-use mv_client::begin;
+use mv_client::{begin, read_record};
 use mv_history::{Section, Store, View};
 
 /// Where a user was seen.
@@ -49,7 +51,8 @@ pub fn look_up<S: Store<Rules = Directory>>(store: S, user: u32) -> (S, Seen)
     let mut section = begin(store);
     let time = section.at();
     let shelf = shelf_of(&mut section, user);
-    let id = section.read(user)[ID];
+    let node: Node = read_record(&mut section, user);
+    let id = node.id;
     (section.leave(), Seen { time, shelf, id })
 }
 

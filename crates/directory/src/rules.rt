@@ -1,6 +1,10 @@
-// The rules of the directory, and the layout of its objects.
+// The rules of the directory, and its opening state.
+ghost use Rattle.std.specs.Prelude.{◌≡◌};
+ghost use Rattle.directory.specs.Layout.{link_of};
 ghost use Rattle.directory.specs.Moves.{IsOpening};
 
+use crate::layout::Node;
+use mv_client::Record;
 use mv_history::{Protocol, Words};
 
 /// The objects 0 and 1 are the shelves: 0 of the archived users, 1 of the active ones.
@@ -11,15 +15,6 @@ pub const ENTRIES: u32 = 8;
 
 /// How many objects there are.
 pub const OBJECTS: u32 = 10;
-
-/// Which word of an object is its link: the object behind it.
-pub const NEXT: usize = 0;
-
-/// Which word of a user is the id.
-pub const ID: usize = 1;
-
-/// Which word of a user is the hash of the name.
-pub const HASH: usize = 2;
 
 /// The rules of the directory: each commit takes one user to the front of a shelf, and changes links alone.
 pub struct Directory;
@@ -42,15 +37,29 @@ pub fn opening() -> [Words; OBJECTS as usize]
     ensures { IsOpening result }
 {
     [
-        [1, 0, 0, 0, 0, 0],
-        [2, 0, 0, 0, 0, 0],
-        [3, 101, 7001, 0, 0, 0],
-        [4, 102, 7002, 0, 0, 0],
-        [5, 103, 7003, 0, 0, 0],
-        [6, 104, 7004, 0, 0, 0],
-        [7, 105, 7005, 0, 0, 0],
-        [8, 106, 7006, 0, 0, 0],
-        [9, 107, 7007, 0, 0, 0],
-        [0, 108, 7008, 0, 0, 0],
+        node_words(1, 0, 0),
+        node_words(2, 0, 0),
+        node_words(3, 101, 7001),
+        node_words(4, 102, 7002),
+        node_words(5, 103, 7003),
+        node_words(6, 104, 7004),
+        node_words(7, 105, 7005),
+        node_words(8, 106, 7006),
+        node_words(9, 107, 7007),
+        node_words(0, 108, 7008),
     ]
+}
+
+// The words of a node with this link, id and hash.
+fn node_words(next: u32, id: u64, hash: u64) -> Words
+    ensures { link_of result ≡ next }
+{
+    let rest = [0; 3];
+    let node = Node {
+        next,
+        id,
+        hash,
+        rest,
+    };
+    node.to_words()
 }

@@ -3,7 +3,9 @@ ghost use Rattle.std.specs.Prelude.{◌≡◌, ◌≢◌, ℕ, ◌<◌, ◌≤�
 ghost use Rattle.directory.specs.declared.rules.TheConstants.{OBJECTS as objects, SHELVES as shelves};
 ghost use Rattle.directory.specs.Ring.{IsDirectory, IsOn, IsBefore, next_of};
 
-use crate::rules::{NEXT, OBJECTS, SHELVES};
+use crate::layout::Node;
+use crate::rules::{OBJECTS, SHELVES};
+use mv_client::read_record;
 use mv_history::View;
 
 /// The object before a user on a shelf: the shelf itself, or a user there. There is none where the user isn't on the shelf.
@@ -17,7 +19,8 @@ pub fn find_before<V: View>(view: &mut V, shelf: u32, user: u32) -> Option<u32>
 {
     let mut at = shelf;
     for _nth in 0..OBJECTS {
-        let next = view.read(at)[NEXT] as u32;
+        let node: Node = read_record(view, at);
+        let next = node.next;
         if next == user {
             return Some(at);
         }

@@ -1,17 +1,16 @@
 -- What clerks did, by the whole history.
 use Rattle.std.proofs.Common.{◌≡◌, ℕ, List, length, ap, subst, ◌∙◌, arith}
-use Rattle.std.specs.Prelude.{slice_index}
 use mathlib.Core.Option.{some}
 use lib.ListN.{get_elem?}
 use Rattle.mv_history.specs.State.{State}
-use Rattle.mv_history.specs.Meaning.{Seat, words_at}
+use Rattle.mv_history.specs.Meaning.{Seat}
 use Rattle.mv_history.proofs.Steps.{Continues-Continues}
 use Rattle.mv_layout.specs.declared.Config.{Config}
 use Rattle.mvrlu.specs.Causes.{Took}
 use Rattle.mvrlu.specs.Whole.{Whole}
 use Rattle.domain_run.specs.Runs.{IsRun}
 use Rattle.client_run.proofs.Told.{ran_at, seen_in_whole, worn_over, kept_at}
-use Rattle.directory.specs.Ring.{IsOn, IsDirectory}
+use Rattle.directory.specs.Ring.{node_at, IsOn, IsDirectory}
 use Rattle.directory.specs.Moves.{IsOpening, IsMove}
 use Rattle.directory.proofs.Keeps.{move_keeps}
 use Rattle.directory.proofs.Opens.{opened}
@@ -43,6 +42,6 @@ each_served {start = start} opens ran asks k n e =
         time_is = omega (arith, looks.time_is, on.continues.base, ran.base);
         on = subst (λ (u : State). IsOn u n.seen.shelf r.1.asked.user) there.1 looks.on;
         placed = placed directory r.1.asked.user asked.0 asked.1;
-        id_is = looks.id_is ∙ ap (λ (u : State). slice_index (words_at u r.1.asked.user) 1) there.1;
+        id_is = looks.id_is ∙ ap (λ (u : State). (node_at u r.1.asked.user).id) there.1;
       },
     )

@@ -1,13 +1,13 @@
 -- What a run over a domain of the directory comes to.
-use Rattle.std.specs.Prelude.{◌≡◌, ℕ, ◌+◌, ◌<◌, ◌≤◌, List, length, slice_index}
+use Rattle.std.specs.Prelude.{◌≡◌, ℕ, ◌+◌, ◌<◌, ◌≤◌, List, length}
 use mathlib.Core.Option.{some}
 use lib.ListN.{get_elem?}
 use Rattle.mv_history.specs.State.{state_at, commits_of}
-use Rattle.mv_history.specs.Meaning.{Seat, InSection, words_at}
+use Rattle.mv_history.specs.Meaning.{Seat, InSection}
 use Rattle.mv_client.specs.Updates.{Repeated}
 use Rattle.client_run.specs.Over.{IsOver}
 use Rattle.directory.specs.declared.rules.TheConstants.{OBJECTS}
-use Rattle.directory.specs.Ring.{IsUser, IsOn, IsPlaced}
+use Rattle.directory.specs.Ring.{node_at, IsUser, IsOn, IsPlaced}
 use Rattle.directory.specs.Reads.{IsSeen}
 use Rattle.directory_run.specs.declared.clerk.Clerk.{Clerk}
 use Rattle.mvrlu.specs.Whole.{Whole}
@@ -39,7 +39,7 @@ pub record IsServed (w : Whole) (k : ℕ) (old new : Clerk) : Type 0 where
   pub time_is : new.seen.time ≡ w.base + at
   pub on : IsOn (state_at w.start w.history at) new.seen.shelf old.asked.user
   pub placed : IsPlaced (state_at w.start w.history at) old.asked.user
-  pub id_is : new.seen.id ≡ slice_index (words_at (state_at w.start w.history at) old.asked.user) 1
+  pub id_is : new.seen.id ≡ (node_at (state_at w.start w.history at) old.asked.user).id
 
 -- each clerk did its work
 abbrev pub EachServed : List Clerk → List Clerk → Whole → Type 0

@@ -1,7 +1,3 @@
-pub mod Rows
-pub mod Moves
-pub mod Seats
-pub mod Whole
-pub mod Opened
+pub mod Ready
 pub mod Working
 pub mod Told

@@ -5,8 +5,8 @@ use Rattle.mv_history.specs.Meaning.{Seat}
 use Rattle.mv_layout.specs.declared.Config.{Config}
 use Rattle.mvrlu.specs.Opened.{new_seat}
 use Rattle.mvrlu.specs.Whole.{Whole}
-use Rattle.domain_run.specs.Met.{HasMet, HaveMet}
-use Rattle.domain_run.specs.New.{AreFrom}
+use Rattle.domain_loan.specs.Met.{HasMet, HaveMet}
+use Rattle.domain_loan.specs.New.{AreFrom}
 use Rattle.domain_run.specs.Runs.{AllDid, IsRun}
 use Rattle.domain_run.proofs.Working.{did_at, did_long, did_each}
 

@@ -8,8 +8,8 @@ use lib.ListN.{get_elem?}
 use Rattle.mv_core.proofs.Terms.{some-injective}
 use Rattle.mv_history.specs.Meaning.{Seat}
 use Rattle.mvrlu.specs.Whole.{Whole}
-use Rattle.domain_run.specs.Met.{AllContinue, HasMet}
-use Rattle.domain_run.specs.New.{AreFrom}
+use Rattle.domain_loan.specs.Met.{AllContinue, HasMet}
+use Rattle.domain_loan.specs.New.{AreFrom}
 use Rattle.domain_run.specs.Runs.{AllDid, AreReady, HasRun}
 
 all_ready : {T : Type 0} (ready : Seat → T → Type 0) (of_number : ℕ → Seat) (number : ℕ) (seats : List Seat) (ts : List T)

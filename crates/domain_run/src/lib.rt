@@ -21,16 +21,15 @@
 //! # How it is made
 //!
 //! All memory is taken before a handle is made, since a handle can't be let go. The domain is lent to its seats in their order
-//! (`lending.rt`), each handle goes into a worker with its task (`workers.rt`), each of these runs in a thread, and the seats
+//! (`domain_loan`), each handle goes into a worker with its task (`workers.rt`), each of these runs in a thread, and the seats
 //! are taken back with the tables of their logs. A method that takes any `S: Store` is what a `Task` needs: one that takes a
-//! handle can't be written outside this crate. The loan is there for other runs too, in [`lending`], and [`lending::meet_all`] with it.
+//! handle can't be written outside this crate.
 //!
 //! # Its place
 //!
-//! It stands on `mvrlu`. A client writes one `impl Task` and its relation; `accounts_run` is one to copy.
+//! It stands on `domain_loan` and `mvrlu`. A client writes one `impl Task` and its relation; `accounts_run` is one to copy.
 #![tactic(auto)]
 
-pub mod lending;
 mod running;
 mod sizes;
 mod task;

@@ -1,16 +1,16 @@
 // A run over a domain.
 ghost use Rattle.std.specs.Prelude.{◌≡◌, ℕ, List, length, map, IfOk, IfErr};
-ghost use Rattle.domain_run.specs.Met.{AllContinue, AreTablesOf};
-ghost use Rattle.domain_run.specs.New.{fresh, AreNewFrom};
+ghost use Rattle.domain_loan.specs.Met.{AllContinue, AreTablesOf};
+ghost use Rattle.domain_loan.specs.New.{fresh, AreNewFrom};
 ghost use Rattle.domain_run.specs.Runs.{AllDid, AreReady, IsRun};
 ghost use Rattle.mv_history.specs.Meaning as history;
 ghost use Rattle.mvrlu.specs.Causes.{Took};
 ghost use Rattle.mvrlu.specs.Meant.{numbers_of, name_of, opening_of, seat_of, whole_of};
 ghost use Rattle.mvrlu.specs.Opened.{Refuses, new_seat};
 
-use crate::lending::{lend_all, meet_all, take_back};
 use crate::task::Task;
 use crate::workers::run_each;
+use domain_loan::{lend_all, meet_all, take_back};
 use mv_history::{LogTable, Protocol, Words};
 use mv_layout::Config;
 use mvrlu::{Closing, Domain, OpenFault, Seat, open};

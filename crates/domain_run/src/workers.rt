@@ -1,7 +1,7 @@
 // A task for each store, and the threads in which they run.
 ghost use Rattle.std.specs.Prelude.{◌≡◌, ◌≤◌, [], length, map, All, vec_capacity};
 ghost use Rattle.std.specs.List.{AllZip};
-ghost use Rattle.domain_run.specs.Met.{AllContinue};
+ghost use Rattle.domain_loan.specs.Met.{AllContinue};
 ghost use Rattle.domain_run.specs.Runs.{AllDid, HasRun};
 
 use crate::task::Task;

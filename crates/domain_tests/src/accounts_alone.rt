@@ -1,12 +1,13 @@
 // The accounts over a plain store, which has one seat, and so no rival.
 ghost use Rattle.std.specs.Prelude.{◌≡◌, ◌≢◌, ◌<◌, IfOk, length};
-ghost use Rattle.mv_history.specs.PlainMeaning.{seat_of};
+ghost use Rattle.plain_store.specs.Meaning.{seat_of};
 
 use crate::comparing::assert_same;
 use accounts::{
     Accounts, Attempt, Moved, SumAt, make_transfers, opening, read_sums, sum, transfer,
 };
-use mv_history::{PlainStore, Words};
+use mv_history::Words;
+use plain_store::PlainStore;
 use std::alloc::{AllocError, Global};
 use std::sync::Wait;
 use std::test::Fail;

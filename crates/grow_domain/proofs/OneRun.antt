@@ -6,7 +6,7 @@ use Rattle.mv_history.specs.State.{state_after}
 use Rattle.set_script.specs.declared.commands.Command.{Command}
 use Rattle.run_report.specs.declared.line.Line.{Line}
 use Rattle.run_report.specs.Worked.{Past}
-use Rattle.domain_run.specs.Met.{AllContinue}
+use Rattle.domain_loan.specs.Met.{AllContinue}
 use Rattle.script_domain.proofs.OneHistory.{IsOneHistory}
 use Rattle.grow_hash.specs.Grown.{IsGrownOpening, grown_catalogue}
 use Rattle.grow_hash.specs.GrowRules.{IsGrowCommit}

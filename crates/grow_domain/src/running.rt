@@ -11,12 +11,12 @@ ghost use Rattle.grow_report.specs.Whole.{GrowRunOf};
 ghost use Rattle.script_workers.specs.Workers.{items_of};
 ghost use Rattle.grow_workers.specs.Links.{AllLinkedTurns};
 ghost use Rattle.grow_hash.specs.GrowRules.{IsGrowCommit};
-ghost use Rattle.domain_run.specs.Met.{AreTablesOf, MetAlong};
-ghost use Rattle.domain_run.specs.New.{AreNewFrom};
-ghost use Rattle.domain_run.specs.Shown.{handle_causes};
+ghost use Rattle.domain_loan.specs.Met.{AreTablesOf, MetAlong};
+ghost use Rattle.domain_loan.specs.New.{AreNewFrom};
+ghost use Rattle.domain_loan.specs.Shown.{handle_causes};
 ghost use Rattle.script_domain.specs.Joined.{past_of_whole};
 
-use domain_run::lending::{lend_all, meet_all, take_back};
+use domain_loan::{lend_all, meet_all, take_back};
 use grow_hash::GrowRules;
 use grow_workers::run_grow;
 use mv_history::LogTable;

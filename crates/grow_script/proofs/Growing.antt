@@ -2,9 +2,9 @@
 use Rattle.std.proofs.Common.{◌≡◌, ℕ, Bool, true, false, not, cond, List, [], ◌∷◌, Some, None, Result, Ok, Err}
 use Rattle.std.proofs.Common.{IfOk, MatchOption, ◌==◌, refl, sym, subst}
 use Rattle.std.specs.Bool.{⊤}
-use Rattle.set_script.specs.declared.commands.FaultKind.{FaultKind}
-use Rattle.set_script.specs.declared.commands.FaultKind.TheVariants as faults
-use Rattle.set_script.specs.Grammar.{◌>>=◌, Reading, words_of, command_of, is_format_word, format_of}
+use Rattle.script_parser.specs.declared.faults.FaultKind.{FaultKind}
+use Rattle.script_parser.specs.declared.faults.FaultKind.TheVariants as faults
+use Rattle.script_parser.specs.Grammar.{◌>>=◌, Reading, words_of, command_of, is_format_word, format_of}
 use Rattle.grow_script.specs.GrowGrammar.{is_on_two, is_of_set, is_misnamed, with_name, only_format, grow_command, grow_format, grow_first}
 
 -- a command that is read, if one is

@@ -2,10 +2,10 @@
 use Rattle.std.proofs.Common.{◌≡◌, ℕ, ◌+◌, ◌≤◌, ◌<◌, ◌||◌, Bool, List, length, get_or, drop, Result, Ok, ap, sym, ◌∙◌, arith}
 use Rattle.std.proofs.lemmas.List.{at_drop_more, at_drop_all}
 use Rattle.set_script.specs.declared.commands.Command.{Command}
-use Rattle.set_script.specs.declared.commands.FaultKind.{FaultKind}
-use Rattle.set_script.specs.declared.commands.ScriptFault.{ScriptFault}
-use Rattle.set_script.specs.Grammar.{◌>>=◌, lines_of, words_of, with_reading, parsed_after, Refuses}
-use Rattle.set_script.proofs.Lines.{Refuses-then}
+use Rattle.script_parser.specs.declared.faults.FaultKind.{FaultKind}
+use Rattle.script_parser.specs.declared.faults.ScriptFault.{ScriptFault}
+use Rattle.script_parser.specs.Grammar.{◌>>=◌, lines_of, words_of, with_reading, parsed_after, Refuses}
+use Rattle.script_parser.proofs.Lines.{Refuses-then}
 use Rattle.grow_script.specs.GrowGrammar.{has_words, grow_reading, grow_readings, parsed_grow}
 
 -- the lines from this one on

@@ -22,11 +22,12 @@
 mod line;
 
 ghost use Rattle.std.specs.Prelude.{◌≡◌, ◌-◌, ◌≤◌, ◌<◌, ◌^◌, ◌||◌, true, All, IfOk, MatchResult, length};
-ghost use Rattle.set_script.specs.Grammar.{with_reading, words_of, Refuses};
+ghost use Rattle.script_parser.specs.Grammar.{with_reading, words_of, Refuses};
 ghost use Rattle.grow_script.specs.GrowGrammar.{grow_reading, has_words, is_of_set, parsed_grow};
 
 use line::read_line;
-use set_script::{Command, FaultKind, MOST_COMMANDS, ScriptFault};
+use script_parser::{FaultKind, ScriptFault};
+use set_script::{Command, MOST_COMMANDS};
 use std::alloc::Global;
 
 /// The commands of a script of a growing hash set, in the order of its lines.

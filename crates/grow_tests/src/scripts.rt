@@ -1,7 +1,8 @@
 // Scripts of a growing hash set that are accepted, and ones that are refused, with their line and their fault.
 use crate::steps::{Ask, command};
 use grow_script::parse_grow;
-use set_script::{Command, FaultKind, MOST_COMMANDS, ScriptFault};
+use script_parser::{FaultKind, ScriptFault};
+use set_script::{Command, MOST_COMMANDS};
 use std::alloc::{AllocError, Global};
 use std::process::Abort;
 use std::test::*;

@@ -13,8 +13,12 @@ use crate::source::{Own, Source};
 use run_outside::Gate;
 use std::alloc::{AllocError, Global};
 use std::sync::Wait;
+use std::sync::atomic::{AtomicU64, Ordering};
 use std::thread;
 use std::thread::Threads;
+
+// How often a thread gives its processor away at most until all have begun.
+const MOST_YIELDS: u32 = 10_000;
 
 // What does items, where it has them from, and what they answered, for all of which there is room.
 pub(crate) struct Worker<W, P, D> {
@@ -122,7 +126,8 @@ where
     Ok((stores, sources, answers))
 }
 
-// Each worker does what its source gives in a thread of its own, and all have ended when this returns.
+// Each worker does what its source gives in a thread of its own, and all have ended when this returns. The threads begin
+// together.
 fn run_all<R: Threads + Wait + Sync, W: Runner + Send, P: Source<W> + Send, G: Gate>(
     rt: &R,
     workers: &mut [Worker<W, P, W::Done>],
@@ -137,6 +142,7 @@ where
     ensures { AllZip (RanBy W.kept_of W.seat_of W.link P.gives P.ended) workers.old workers.new }
 {
     let threads = workers.len().max(1);
+    let begun = AtomicU64::new(0);
     thread::for_each_mut(
         rt,
         workers,
@@ -145,6 +151,7 @@ where
             requires { IsReady W.ready P.may P.left worker.old }
             ensures { RanBy W.kept_of W.seat_of W.link P.gives P.ended worker.old worker.new }
         {
+            begin_together(&begun, threads as u64);
             run_from(
                 rt,
                 &mut worker.runner,
@@ -154,4 +161,16 @@ where
             )
         },
     );
+}
+
+// Counts this thread as begun, and gives the processor away until as many have begun as there are workers. It does so no more
+// often than `MOST_YIELDS`: the work of a thread that can't be started comes behind that of another, which waits no longer for it.
+fn begin_together(begun: &AtomicU64, workers: u64) {
+    begun.fetch_add(1, Ordering::SeqCst);
+    for _ in 0..MOST_YIELDS {
+        if begun.load(Ordering::SeqCst) >= workers {
+            return;
+        }
+        thread::yield_now();
+    }
 }

@@ -6,3 +6,5 @@ pub mod Rewriting
 pub mod Locks
 pub mod Linked
 pub mod Keeping
+pub mod Fields
+pub mod Records

@@ -16,6 +16,10 @@
 //!   the section (`Decision`), or hands on a `Refusal` by `?`. What the closure says of itself is told back: of the section that
 //!   it was shown, of its answer and of what it left (`specs/Updates.antt`). Each refusal has its [`Outcome`] and its cause.
 //! - [`update_at_most`], [`update_until`], [`update_times`]: updates that are tried again behind an `Again`, which left nothing.
+//! - [`Record`]: an object as a struct with a name for each field. Its words give the record back, so that no two records have the
+//!   same words. [`Field`] has what a field is in a word, and back: a `u64`, a `u32`, a `bool`, a link (`Option<u32>`: an object's
+//!   number, or none), or two `u32`.
+//! - [`read_record`], [`put_record`]: the record that an object says in a view, and a `put` of a record, which the section then reads.
 //!
 //! What is asked of the closure are two things (`Filled`): it stays in its section, and what it leaves for a commit is fit. In
 //! `proofs/`, for clients: `Fits.fit_by_held`, for commits whose rules depend on what is held alone; `Filled.filled_put` and
@@ -37,11 +41,17 @@
 #![tactic(auto)]
 
 mod beginning;
+mod fields;
 mod holding;
+#[cfg(test)]
+mod record_tests;
+mod records;
 #[cfg(test)]
 mod tests;
 mod updating;
 
 pub use beginning::{begin, read};
+pub use fields::Field;
 pub use holding::{lock_all, put};
+pub use records::{Record, put_record, read_record};
 pub use updating::{Outcome, update, update_at_most, update_times, update_until};

@@ -1,12 +1,13 @@
 // Reads and updates over a plain store, which has one seat: so no rival comes, and no lock is refused.
 ghost use Rattle.std.specs.Prelude.{◌≡◌, ◌<◌, ◌≤◌, IfOk, length, ⊤};
-ghost use Rattle.mv_history.specs.PlainMeaning.{seat_of};
+ghost use Rattle.plain_store.specs.Meaning.{seat_of};
 ghost use Rattle.mv_history.specs.Calls.{Continues};
 ghost use Rattle.section_work.specs.Attempts.{HasSpace};
 ghost use Rattle.mv_client.specs.Updates.{Filled};
 
 use crate::{Outcome, begin, lock_all, put, read, update, update_at_most, update_until};
-use mv_history::{AnyRules, PlainStore, Section, Store, Tag, View, Words};
+use mv_history::{AnyRules, Section, Store, Tag, View, Words};
+use plain_store::PlainStore;
 use section_work::{Cause, Decision, Place, Refusal};
 use std::alloc::{AllocError, Global};
 use std::sync::Wait;

@@ -73,7 +73,8 @@ impl<P: Protocol> Shared<P> {
         ensures range { position < 2 ^ 57 }
         ensures step { steps.new ≡ steps.old + 1 }
     {
-        store_as::<P, Brand, L, _>(self, pass, slot + field, value, &(position, field), steps)
+        let cell = slot as usize + field as usize;
+        store_as::<P, Brand, L, _>(self, pass, cell, value, &(position, field), steps)
     }
 
     /// Stores a data word into the own slot of a version that is held, in an open section. No other
@@ -119,7 +120,7 @@ impl<P: Protocol> Shared<P> {
         store_as::<P, Brand, L, _>(
             self,
             pass,
-            slot + DATA_OFFSET + word,
+            slot as usize + DATA_OFFSET as usize + word as usize,
             value,
             &(position, word),
             steps,
@@ -138,6 +139,6 @@ impl<P: Protocol> Shared<P> {
         ensures word { IsWord (config_of self.now) result }
         ensures step { steps.new ≡ steps.old + 1 }
     {
-        load_as::<P, Brand, L, _>(self, pass, CLOCK_CELL, &(), steps)
+        load_as::<P, Brand, L, _>(self, pass, CLOCK_CELL as usize, &(), steps)
     }
 }

@@ -25,7 +25,7 @@ impl<P: Protocol> Shared<P> {
         ensures word { IsWord (config_of self.now) result }
         ensures step { steps.new ≡ steps.old + 1 }
     {
-        load_as::<P, Brand, L, _>(self, pass, CLOCK_CELL, &(), steps)
+        load_as::<P, Brand, L, _>(self, pass, CLOCK_CELL as usize, &(), steps)
     }
 
     /// Stores the mark of the seat, `1 + low`, for the low time that it loaded.
@@ -37,7 +37,7 @@ impl<P: Protocol> Shared<P> {
         ensures step { steps.new ≡ steps.old + 1 }
     {
         let cell = mark_cell(&self.config, pass.number);
-        store_as::<P, Brand, L, _>(self, pass, cell, mark_word(low), &low, steps)
+        store_as::<P, Brand, L, _>(self, pass, cell as usize, mark_word(low), &low, steps)
     }
 
     /// Loads CLOCK and begins a section, whose time is that of the word found. The mark of the seat was
@@ -70,6 +70,6 @@ impl<P: Protocol> Shared<P> {
         ensures step { steps.new ≡ steps.old + 1 }
     {
         let cell = mark_cell(&self.config, pass.number);
-        store_as::<P, Brand, L, _>(self, pass, cell, 0, &(), steps)
+        store_as::<P, Brand, L, _>(self, pass, cell as usize, 0, &(), steps)
     }
 }

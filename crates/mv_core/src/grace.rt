@@ -18,7 +18,7 @@ impl<P: Protocol> Shared<P> {
         ensures view { view pass.new ≡ grace_loaded (config_of self.now) (view pass.old) result }
         ensures step { steps.new ≡ steps.old + 1 }
     {
-        load_as::<P, Brand, L, _>(self, pass, GRACE_CELL, &(), steps)
+        load_as::<P, Brand, L, _>(self, pass, GRACE_CELL as usize, &(), steps)
     }
 
     /// Raises GRACE to `time`, a printed time not above the watermark of the pass, where it is less,

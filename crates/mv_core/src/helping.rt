@@ -34,7 +34,7 @@ impl<P: Protocol> Shared<P> {
         ensures step { steps.new ≡ steps.old + 1 }
     {
         let cell = self.named_cell(word);
-        load_as::<P, Brand, L, _>(self, pass, cell, &word, steps)
+        load_as::<P, Brand, L, _>(self, pass, cell as usize, &word, steps)
     }
 
     /// Loads the clock. The pass then has seen the whole history, and has loaded this word. The
@@ -49,7 +49,7 @@ impl<P: Protocol> Shared<P> {
         ensures word { IsWord (config_of self.now) result }
         ensures step { steps.new ≡ steps.old + 1 }
     {
-        load_as::<P, Brand, L, _>(self, pass, CLOCK_CELL, &(), steps)
+        load_as::<P, Brand, L, _>(self, pass, CLOCK_CELL as usize, &(), steps)
     }
 
     /// Exchanges the stamp of the commit that a clock word names from `unset` to the commit's time.

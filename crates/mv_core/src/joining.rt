@@ -59,6 +59,6 @@ impl<P: Protocol> Shared<P> {
         ensures word { IsWord (config_of self.now) result }
         ensures step { steps.new ≡ steps.old + 1 }
     {
-        load_as::<P, Brand, L, _>(self, pass, CLOCK_CELL, &(), steps)
+        load_as::<P, Brand, L, _>(self, pass, CLOCK_CELL as usize, &(), steps)
     }
 }

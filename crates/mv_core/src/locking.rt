@@ -85,6 +85,6 @@ impl<P: Protocol> Shared<P> {
         ensures step { steps.new ≡ steps.old + 1 }
     {
         let cell = head_cell(&self.config, object);
-        store_as::<P, Brand, L, _>(self, pass, cell, previous, &object, steps)
+        store_as::<P, Brand, L, _>(self, pass, cell as usize, previous, &object, steps)
     }
 }

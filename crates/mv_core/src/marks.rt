@@ -28,7 +28,7 @@ impl<P: Protocol> Shared<P> {
         ensures word { IsWord (config_of self.now) result }
         ensures step { steps.new ≡ steps.old + 1 }
     {
-        load_as::<P, Brand, L, _>(self, pass, CLOCK_CELL, &(), steps)
+        load_as::<P, Brand, L, _>(self, pass, CLOCK_CELL as usize, &(), steps)
     }
 
     /// Loads the mark of the seat that the running scan comes to next: 0 of a seat without a mark,
@@ -44,6 +44,6 @@ impl<P: Protocol> Shared<P> {
         ensures step { steps.new ≡ steps.old + 1 }
     {
         let cell = mark_cell(&self.config, seat);
-        load_as::<P, Brand, L, _>(self, pass, cell, &seat, steps)
+        load_as::<P, Brand, L, _>(self, pass, cell as usize, &seat, steps)
     }
 }

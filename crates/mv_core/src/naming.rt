@@ -93,6 +93,6 @@ impl<P: Protocol> Shared<P> {
         ensures step { steps.new ≡ steps.old + 1 }
     {
         let cell = self.slot_linked(link) + SUPER_OFFSET;
-        store_as::<P, Brand, L, _>(self, pass, cell, time, &link, steps)
+        store_as::<P, Brand, L, _>(self, pass, cell as usize, time, &link, steps)
     }
 }

@@ -44,7 +44,7 @@ impl<P: Protocol> Shared<P> {
     {
         let slot = slot_of_position(&self.config, position);
         let cell = slot_cell(&self.config, pass.number, slot) + SUPER_OFFSET;
-        load_as::<P, Brand, L, _>(self, pass, cell, &position, steps)
+        load_as::<P, Brand, L, _>(self, pass, cell as usize, &position, steps)
     }
 
     /// Stores a data word of an own version into the object's master, in an open section past its
@@ -69,7 +69,7 @@ impl<P: Protocol> Shared<P> {
         ensures step { steps.new ≡ steps.old + 1 }
     {
         let cell = master_cell(&self.config, object, word);
-        store_as::<P, Brand, L, _>(self, pass, cell, value, &(object, word), steps)
+        store_as::<P, Brand, L, _>(self, pass, cell as usize, value, &(object, word), steps)
     }
 
     /// Exchanges HEAD of an object from the link of the version that is written back to 0, once all
@@ -129,6 +129,6 @@ impl<P: Protocol> Shared<P> {
     {
         let slot = slot_of_position(&self.config, position);
         let cell = slot_cell(&self.config, pass.number, slot) + STAMP_OFFSET;
-        store_as::<P, Brand, L, _>(self, pass, cell, 0, &position, steps)
+        store_as::<P, Brand, L, _>(self, pass, cell as usize, 0, &position, steps)
     }
 }

@@ -2,7 +2,8 @@
 //! functions of `accesses` alone access its words.
 ghost use Rattle.std.specs.Prelude.{◌≡◌, ◌<◌, [], length};
 ghost use Rattle.mv_layout.specs.Limits.{Checked};
-ghost use Rattle.mv_layout.specs.Cells.{cells};
+ghost use Rattle.mv_layout.specs.Cells.{cells, cell_of};
+ghost use Rattle.mv_layout.specs.declared.Place.TheVariants.{Head, First};
 ghost use Rattle.mv_core.specs.Known.{Known, KnownInDomain, IsTimed, IsBegun};
 
 use crate::view::View;
@@ -43,8 +44,12 @@ impl<P: Protocol> TableRule<Tag, View, Opening> for Core<P> {
 #[derive(Drop)]
 pub struct Shared<P: Protocol> {
     pub(crate) config: Config,
+    // The cell of HEAD of object 0, and that at which slot 0 of seat 0 begins.
+    pub(crate) first_head: u32,
+    pub(crate) first_slot: u32,
     table: Table<Tag, View, Opening, Core<P>, Global>,
     pub ghost checked: { Checked config },
+    pub ghost placed: { (first_head ≡ cell_of config (Head 0)) × (first_slot ≡ cell_of config (First 0 0)) },
     pub ghost sized: { (table.shared.table_id.words ≡ cells config) × (table.shared.table_id.slots ≡ 0) },
     pub ghost about: { table.shared.key.config ≡ config },
     pub ghost opening: { length table.shared.key.start.value.items ≡ config.objects },

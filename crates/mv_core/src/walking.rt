@@ -10,19 +10,27 @@ ghost use Rattle.mv_core.specs.WalkSteps.{MayLoadData, data_loaded, MayLoadMaste
 ghost use Rattle.mv_core.specs.Slots.{IsSlotIn, IsSlotLinked};
 ghost use Rattle.mv_layout.specs.Cells.{cell_of};
 ghost use Rattle.mv_layout.specs.Words.{link_seat_of};
-ghost use Rattle.mv_layout.specs.declared.Place.TheVariants.{First};
+ghost use Rattle.mv_layout.specs.declared.Place.TheVariants.{First, Head};
 
 use crate::shared::{Pass, Shared, load_as};
 use crate::steps::Steps;
 use mv_history::Protocol;
 use mv_layout::{
-    DATA_OFFSET, FIRST_OFFSET, PREV_OFFSET, STAMP_OFFSET, head_cell, link_position, link_seat,
-    master_cell, slot_cell, slot_of_position,
+    DATA_OFFSET, FIRST_OFFSET, PREV_OFFSET, STAMP_OFFSET, head_cell_from, link_position, link_seat,
+    slot_cell, slot_cell_from, slot_of_position,
 };
 use std::marker::Brand;
 use std::sync::ledger::Ledger;
 
 impl<P: Protocol> Shared<P> {
+    /// The cell of HEAD of an object, behind which its master words follow.
+    fn head_of(&self, object: u32) -> u32
+        requires { object < (config_of self.now).objects }
+        ensures { result ≡ cell_of (config_of self.now) (Head object) }
+    {
+        head_cell_from(&self.config, self.first_head, object)
+    }
+
     /// The cell at which the slot that a link names begins, by which `load_first_at`, `load_prev_at` and
     /// `load_data` load the words of the version there. No step is made.
     pub fn slot_linked(&self, link: u64) -> u32
@@ -30,7 +38,7 @@ impl<P: Protocol> Shared<P> {
         ensures { result ≡ cell_of (config_of self.now) (First (link_seat_of link) (slot_named (config_of self.now) link)) }
     {
         let slot = slot_of_position(&self.config, link_position(link));
-        slot_cell(&self.config, link_seat(link), slot)
+        slot_cell_from(&self.config, self.first_slot, link_seat(link), slot)
     }
 
     /// The cell at which the slot begins of the position `first` in the log that a link names, by which
@@ -46,7 +54,7 @@ impl<P: Protocol> Shared<P> {
             return slot;
         }
         let index = slot_of_position(&self.config, first);
-        slot_cell(&self.config, link_seat(link), index)
+        slot_cell_from(&self.config, self.first_slot, link_seat(link), index)
     }
 
     /// Loads HEAD of an object, in an open section that is past its help and has no write-back under
@@ -72,8 +80,8 @@ impl<P: Protocol> Shared<P> {
         ensures newer { IsNewer (config_of self.now) (view pass.old) object result }
         ensures step { steps.new ≡ steps.old + 1 }
     {
-        let cell = head_cell(&self.config, object);
-        load_as::<P, Brand, L, _>(self, pass, cell, &object, steps)
+        let cell = self.head_of(object);
+        load_as::<P, Brand, L, _>(self, pass, cell as usize, &object, steps)
     }
 
     /// Loads FIRST of the version that the walk stands at: the first position of its write set.
@@ -108,7 +116,8 @@ impl<P: Protocol> Shared<P> {
         ensures view { view pass.new ≡ first_loaded (config_of self.now) (view pass.old) stand result }
         ensures step { steps.new ≡ steps.old + 1 }
     {
-        load_as::<P, Brand, L, _>(self, pass, slot + FIRST_OFFSET, &link, steps)
+        let cell = slot as usize + FIRST_OFFSET as usize;
+        load_as::<P, Brand, L, _>(self, pass, cell, &link, steps)
     }
 
     /// Loads STAMP of the write set of the version that the walk stands at, whose first position
@@ -159,7 +168,8 @@ impl<P: Protocol> Shared<P> {
         ensures own { IsOwnTime (config_of self.now) (view pass.old) link result }
         ensures step { steps.new ≡ steps.old + 1 }
     {
-        load_as::<P, Brand, L, _>(self, pass, slot + STAMP_OFFSET, &(link, first), steps)
+        let cell = slot as usize + STAMP_OFFSET as usize;
+        load_as::<P, Brand, L, _>(self, pass, cell, &(link, first), steps)
     }
 
     /// Loads PREV of the version that the walk stands at, whose stamp it found to be unset or a time
@@ -198,7 +208,8 @@ impl<P: Protocol> Shared<P> {
         ensures link { IsLinkOf (config_of self.now) result }
         ensures step { steps.new ≡ steps.old + 1 }
     {
-        load_as::<P, Brand, L, _>(self, pass, slot + PREV_OFFSET, &link, steps)
+        let cell = slot as usize + PREV_OFFSET as usize;
+        load_as::<P, Brand, L, _>(self, pass, cell, &link, steps)
     }
 
     /// Loads a data word of the version that the walk stands at, whose stamp it found to be a time not
@@ -223,7 +234,8 @@ impl<P: Protocol> Shared<P> {
         ensures wide { length (words_read (config_of self.now) (view pass.old) at.1 at.0.object) ≡ 6 }
         ensures step { steps.new ≡ steps.old + 1 }
     {
-        load_as::<P, Brand, L, _>(self, pass, slot + DATA_OFFSET + word, &(link, word), steps)
+        let cell = slot as usize + DATA_OFFSET as usize + word as usize;
+        load_as::<P, Brand, L, _>(self, pass, cell, &(link, word), steps)
     }
 
     /// Loads a master word of an object, where the walk stands at its master. The word found is the
@@ -245,7 +257,8 @@ impl<P: Protocol> Shared<P> {
         ensures wide { length (words_read (config_of self.now) (view pass.old) inside object) ≡ 6 }
         ensures step { steps.new ≡ steps.old + 1 }
     {
-        let cell = master_cell(&self.config, object, word);
+        let head = self.head_of(object);
+        let cell = head as usize + 1 + word as usize;
         load_as::<P, Brand, L, _>(self, pass, cell, &(object, word), steps)
     }
 }

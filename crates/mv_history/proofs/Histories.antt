@@ -1,5 +1,23 @@
 -- Lemmas on histories.
-use Rattle.std.proofs.Common.{◌≡◌, ℕ, zero, suc, List, [], ◌∷◌, ◌++◌, take, drop, refl, ap, subst, ◌∙◌, append_assoc}
+use Rattle.std.proofs.Common.{
+  ◌≡◌,
+  ℕ,
+  zero,
+  suc,
+  List,
+  [],
+  ◌∷◌,
+  ◌++◌,
+  length,
+  take,
+  drop,
+  refl,
+  ap,
+  subst,
+  ◌∙◌,
+  append_assoc,
+  arith,
+}
 use Rattle.std.specs.Prelude.{Some, slice_get}
 use Rattle.std.proofs.lemmas.List.Elements.{All-nil}
 use Rattle.mv_history.specs.State.{State, Writes, Commit, Entry, Change, state_after}
@@ -59,3 +77,10 @@ NoneWrites-nil ws es none = rw none (All-nil _)
 
 pub NoneBy-nil : (seat : ℕ) (es : List Entry) → es ≡ [] → NoneBy seat es
 NoneBy-nil seat es none = rw none (All-nil _)
+
+-- the element behind a list is at its length
+pub slice_get_at : {X : Type 0} (xs : List X) (x : X) (i : ℕ) → i ≡ length xs → slice_get (xs ++ x ∷ []) i ≡ Some x
+slice_get_at [] x zero e = refl
+slice_get_at [] x (suc i) e = absurd (omega arith)
+slice_get_at (y ∷ xs) x zero e = absurd (omega arith)
+slice_get_at (y ∷ xs) x (suc i) e = slice_get_at xs x i (omega arith)

@@ -5,4 +5,4 @@ pub mod Committed
 pub mod Steps
 pub mod Snapshots
 pub mod Holding
-pub mod PlainLemmas
+pub mod LockAnswers

@@ -8,7 +8,4 @@ pub mod Answer
 pub mod Laws
 pub mod WordsLaws
 pub mod CallLaws
-pub mod Plain
-pub mod PlainMeaning
-pub mod PlainLaws
 pub mod Fours

@@ -1,4 +1,4 @@
-//! Histories of commits, what seats and sections mean, the traits of a store, and a plain store.
+//! Histories of commits, what seats and sections mean, and the traits of a store.
 //!
 //! # Model
 //!
@@ -37,9 +37,8 @@
 //!
 //! The traits are those of multi-version read-log-update: MV-RLU is by Kim, Mathew, Kashyap,
 //! Ramanathan and Min (ASPLOS 2019), and extends RLU, by Matveev, Shavit, Felber and Marlier
-//! (SOSP 2015). They say nothing of logs, version chains or reclamation, so a store may be plain:
-//! [`PlainStore`] has one seat and the words of its objects, and refuses nothing but a full write set
-//! and the last time.
+//! (SOSP 2015). They say nothing of logs, version chains or reclamation, so a store may be plain, as
+//! that of `plain_store`.
 //!
 //! # Place
 //!
@@ -54,9 +53,6 @@
 
 mod answers;
 mod history;
-mod plain;
-mod plain_history;
-mod plain_section;
 mod rules;
 mod section;
 mod store;
@@ -65,8 +61,6 @@ mod view;
 
 pub use answers::{CommitAnswer, Holder, LockAnswer, LogTable, Rival, Room};
 pub use history::{Commit, Entry, LAST, Tag, WORDS, Words};
-pub use plain::PlainStore;
-pub use plain_section::PlainSection;
 pub use rules::{AnyRules, Protocol};
 pub use section::Section;
 pub use store::Store;

@@ -1,3 +1,4 @@
 pub mod Unpacking
 pub mod Distinct
 pub mod InCells
+pub mod Masks

@@ -80,6 +80,28 @@ pub fn slot_cell(config: &Config, seat: u32, slot: u32) -> u32
     38 + 16 * config.seats + 8 * config.objects + 16 * (seat * config.slots + slot)
 }
 
+/// The cell of the head of an object, as `head_cell` gives it, where `first` is that of object 0.
+pub fn head_cell_from(config: &Config, first: u32, object: u32) -> u32
+    requires checked { Checked config.now }
+    requires first { first ≡ cell_of config.now (Head 0) }
+    requires range { IsPlace config.now (Head object) }
+    ensures { result ≡ cell_of config.now (Head object) }
+{
+    let _ = config;
+    first + 8 * object
+}
+
+/// The cell at which a slot of a seat's log begins, as `slot_cell` gives it, where `first` is that of
+/// slot 0 of seat 0.
+pub fn slot_cell_from(config: &Config, first: u32, seat: u32, slot: u32) -> u32
+    requires checked { Checked config.now }
+    requires first { first ≡ cell_of config.now (First 0 0) }
+    requires range { IsPlace config.now (First seat slot) }
+    ensures { result ≡ cell_of config.now (First seat slot) }
+{
+    first + 16 * (seat * config.slots + slot)
+}
+
 /// The law of cells: each word's cell is within the running table, and two words of one cell are one.
 pub fn cells_differ()
     ensures within { (c : Config) (p : Place) → Checked c → IsPlace c p → cell_of c p < cells c }

@@ -39,7 +39,8 @@ mod slots;
 
 pub use cells::{
     CLOCK_CELL, DATA_OFFSET, FIRST_OFFSET, GRACE_CELL, PREV_OFFSET, STAMP_OFFSET, SUPER_OFFSET,
-    cells_differ, head_cell, mark_cell, master_cell, slot_cell, total_cells,
+    cells_differ, head_cell, head_cell_from, mark_cell, master_cell, slot_cell, slot_cell_from,
+    total_cells,
 };
 pub use config::{Config, ConfigFault, LAST, WIDTH};
 pub use packing::{

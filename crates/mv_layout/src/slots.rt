@@ -6,15 +6,16 @@ use crate::config::Config;
 
 /// The slot of a position of a log, which is the position modulo `slots`. Where `slots` is a power of
 /// two no division is made.
+#[tactic(auto, using(crate::proofs::Masks::mask_is_rest))]
 pub fn slot_of_position(config: &Config, position: u64) -> u32
     requires checked { Checked config.now }
     ensures value { result ≡ position % config.now.slots }
     ensures range { result < config.now.slots }
 {
     let slots = config.slots as u64;
-    let slot = match slots {
-        64 | 128 | 256 | 512 | 1_024 | 2_048 | 4_096 => position & (slots - 1),
-        _ => position % slots,
-    };
-    slot as u32
+    if slots & (slots - 1) == 0 {
+        (position & (slots - 1)) as u32
+    } else {
+        (position % slots) as u32
+    }
 }

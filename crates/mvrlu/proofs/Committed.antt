@@ -9,7 +9,7 @@ use Rattle.mv_history.specs.Drift.{IsFit}
 use Rattle.mv_history.specs.Meaning.{snapshot_of, IsWorn}
 use Rattle.mv_history.specs.Calls.{call_trail, IsAsBefore, Overtakes, IsEntryAt}
 use Rattle.mv_history.specs.Calls as calls
-use Rattle.mv_history.proofs.PlainLemmas.{slice_get_at}
+use Rattle.mv_history.proofs.Histories.{slice_get_at}
 use Rattle.mv_layout.specs.declared.Config.{Config}
 use Rattle.mv_layout.specs.Words.{clock_time_of}
 use Rattle.mv_core.specs.declared.view.View.{View}

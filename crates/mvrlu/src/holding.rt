@@ -24,6 +24,9 @@ fn noted(log: &Log, object: u32) -> Option<Note>
     ensures some { IfSome result (λ n. (i : ℕ) × IsNoteAt log.now i n × (held_from log.now ≤ i) × (n.object ≡ object)) }
     ensures none { IfNone result (HoldsObject log.now object → ⊥) }
 {
+    if held(log) == 0 {
+        return None;
+    }
     let end = live(log);
     for index in end - held(log)..end {
         let version = note(log, index);

@@ -2,9 +2,9 @@
 use Rattle.std.proofs.Common.{◌≡◌, ℕ, List, [], ◌∷◌, map, replicate, sym, ap, ◌∙◌, subst}
 use Rattle.std.specs.List.{AllZip}
 use Rattle.std.specs.List.Sorted.{IsPermutation}
-use Rattle.domain_run.specs.Met.{HasMet, HaveMet, MetAlong}
-use Rattle.domain_run.specs.New.{AreFrom}
-use Rattle.domain_run.proofs.Opened.{opened_new}
+use Rattle.domain_loan.specs.Met.{HasMet, HaveMet, MetAlong}
+use Rattle.domain_loan.specs.New.{AreFrom}
+use Rattle.domain_loan.proofs.Opened.{opened_new}
 use Rattle.mv_history.specs.Meaning as history
 use Rattle.mv_history.specs.declared.answers.LogTable.{LogTable}
 use Rattle.mv_history.specs.State.{State, Writes, commits_of, rests_of}

@@ -6,12 +6,12 @@ use Rattle.run_words.specs.declared.request.Limit.{Limit as LimitOf}
 use Rattle.run_words.specs.declared.request.Refusal.{Refusal}
 use Rattle.run_words.specs.declared.request.Refusal.TheVariants.{Form, Beyond}
 use Rattle.run_words.specs.Words.{Asks, run, gen, work, block, pool, grow, replay, asked}
-use Rattle.set_script.specs.declared.commands.FaultKind.{FaultKind}
-use Rattle.set_script.specs.declared.commands.FaultKind.TheVariants.{Many}
+use Rattle.script_parser.specs.declared.faults.FaultKind.{FaultKind}
+use Rattle.script_parser.specs.declared.faults.FaultKind.TheVariants.{Many}
 use Rattle.set_script.proofs.Times.{lawful_after}
 use Rattle.set_blocks.proofs.Remaining.{lawful_after as lawful_blocks}
-use Rattle.set_blocks.specs.declared.faults.BlockKind.{BlockKind}
-use Rattle.set_blocks.specs.declared.faults.BlockKind.TheVariants.{Line, Nested, Stray, Empty, Long, Apart, Unended}
+use Rattle.block_parser.specs.declared.faults.BlockKind.{BlockKind}
+use Rattle.block_parser.specs.declared.faults.BlockKind.TheVariants.{Line, Nested, Stray, Empty, Long, Apart, Unended}
 use Rattle.replay_rules.specs.declared.plan.PlanKind.{PlanKind}
 use Rattle.replay_rules.specs.declared.plan.PlanKind.TheVariants.{Many as PlanMany}
 use Rattle.mvrlu_run.specs.declared.finish.Closed.{Closed}

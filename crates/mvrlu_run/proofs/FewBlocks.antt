@@ -7,12 +7,12 @@ use Rattle.std.specs.Bool.{⊤}
 use Rattle.std.proofs.lemmas.Bool.Decides.{nat_tests}
 use Rattle.std.proofs.lemmas.List.Sums.{sum_by_push}
 use Rattle.set_script.specs.declared.commands.Command.{Command}
-use Rattle.set_script.specs.declared.commands.FaultKind.{FaultKind}
-use Rattle.set_script.specs.declared.commands.FaultKind.TheVariants.{Many}
+use Rattle.script_parser.specs.declared.faults.FaultKind.{FaultKind}
+use Rattle.script_parser.specs.declared.faults.FaultKind.TheVariants.{Many}
 use Rattle.set_script.specs.declared.script.TheConstants.{MOST_COMMANDS}
-use Rattle.set_script.specs.Grammar.{◌>>=◌, lines_of}
-use Rattle.set_blocks.specs.declared.faults.BlockFault.{BlockFault}
-use Rattle.set_blocks.specs.BlockGrammar.{
+use Rattle.script_parser.specs.Grammar.{◌>>=◌, lines_of}
+use Rattle.block_parser.specs.declared.faults.BlockFault.{BlockFault}
+use Rattle.block_parser.specs.BlockGrammar.{
   Refuses,
   ReadSoFar,
   OrFault,
@@ -33,9 +33,9 @@ use Rattle.set_blocks.specs.BlockGrammar.{
 }
 use Rattle.set_blocks.specs.Blocks.{stands_alone}
 use Rattle.set_blocks.specs.declared.block.TheConstants.{MOST_IN_BLOCK}
-use Rattle.set_blocks.specs.declared.faults.BlockKind.TheVariants.{Apart, Line, Long}
-use Rattle.set_blocks.specs.declared.parsing.line.Said.{Said}
-use Rattle.set_blocks.specs.declared.parsing.line.Said.TheVariants.{Nothing, Says, Begin, End}
+use Rattle.block_parser.specs.declared.faults.BlockKind.TheVariants.{Apart, Line, Long}
+use Rattle.block_parser.specs.declared.line.Said.{Said}
+use Rattle.block_parser.specs.declared.line.Said.TheVariants.{Nothing, Says, Begin, End}
 
 below : (a b : ℕ) → nat_lt a b ≡ true → a < b
 below a b e = grind (arith, nat_tests)

@@ -13,7 +13,7 @@ use Rattle.mvrlu_run.specs.declared.finish.Finish.TheVariants.{Done, Usage, Limi
 use Rattle.mvrlu_run.specs.Reading.{AreFirstTexts, IsTextOf, Says, text_of}
 use Rattle.mvrlu_run.specs.Scripts.{AllScripts, Answers, AnyStop, FirstStands, IsFirstRefused, IsRefused, IsScript, NoScripts, NoText, NoneFailed, Parses}
 use Rattle.mvrlu_run.specs.Scripts.{Reaches, Reading, ScriptOf, StopsAt, blocks, commands, grammar_of, parsed_by, plans}
-use Rattle.set_blocks.specs.BlockGrammar.{parsed_blocks}
+use Rattle.block_parser.specs.BlockGrammar.{parsed_blocks}
 use Rattle.step_replay.specs.PlanTexts.{planned}
 use Rattle.mvrlu_run.proofs.Failing.{failed_from}
 

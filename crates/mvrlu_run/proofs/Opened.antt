@@ -8,7 +8,7 @@ use Rattle.mvrlu.specs.declared.domain.Seat.{Seat}
 use Rattle.mvrlu.specs.Meant.{seat_of}
 use Rattle.mvrlu.specs.Meeting.{AreAll}
 use Rattle.mvrlu.specs.Opened.{IsOpened}
-use Rattle.domain_run.proofs.Opened.{refused_all}
+use Rattle.domain_loan.proofs.Opened.{refused_all}
 
 -- it can meet, where it is the domain and its seats
 pub back_meets : {P T E : Type 0} {rules : _} (d : Domain P) (seats : List (Seat P rules)) (c : Config) (start : State) → IsOpened c start d seats

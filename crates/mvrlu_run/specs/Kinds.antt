@@ -4,9 +4,9 @@ use Rattle.std.specs.List.Sorted.{IsPermutation}
 use Rattle.block_domain.specs.Whole.{BlocksRunOf}
 use Rattle.block_workers.specs.BlockLinks.{AllLinkedBlocks}
 use Rattle.command_pool.specs.Pool.{PoolLinked}
-use Rattle.domain_run.specs.Met.{MetAlong}
-use Rattle.domain_run.specs.New.{AreFrom}
-use Rattle.domain_run.specs.Shown.{handle_causes}
+use Rattle.domain_loan.specs.Met.{MetAlong}
+use Rattle.domain_loan.specs.New.{AreFrom}
+use Rattle.domain_loan.specs.Shown.{handle_causes}
 use Rattle.generated_runs.specs.OneAfterAnother.{scripts_of}
 use Rattle.grow_hash.specs.Grown.{IsGrownOpening}
 use Rattle.grow_hash.specs.GrowRules.{IsGrowCommit}

@@ -5,11 +5,11 @@ use Rattle.std.specs.List.{AllZip}
 use Rattle.grow_hash.specs.GrowPlans.{IsOfGrown}
 use Rattle.grow_script.specs.GrowGrammar.{parsed_grow}
 use Rattle.run_outside.specs.Outside.{Faults, Texts, Rose, HasText}
-use Rattle.set_blocks.specs.BlockGrammar.{parsed_blocks}
-use Rattle.set_blocks.specs.declared.faults.BlockKind.{BlockKind}
-use Rattle.set_script.specs.Grammar.{parsed}
+use Rattle.block_parser.specs.BlockGrammar.{parsed_blocks}
+use Rattle.block_parser.specs.declared.faults.BlockKind.{BlockKind}
+use Rattle.script_parser.specs.Grammar.{parsed}
 use Rattle.set_script.specs.declared.commands.Command.{Command}
-use Rattle.set_script.specs.declared.commands.FaultKind.{FaultKind}
+use Rattle.script_parser.specs.declared.faults.FaultKind.{FaultKind}
 use Rattle.mvrlu_run.specs.declared.finish.Finish.{Finish}
 use Rattle.mvrlu_run.specs.declared.finish.Finish.TheVariants.{Script, BlockScript, Plan, Bytes, Read, Memory}
 use Rattle.mvrlu_run.specs.declared.finish.TheConstants.{MOST_BYTES}

@@ -1,9 +1,9 @@
 -- The status of each way to end, and its line on `err`.
 use Rattle.std.specs.Prelude.{ℕ, List, [], ◌++◌, codes, decimal}
-use Rattle.set_blocks.specs.declared.faults.BlockKind.{BlockKind}
-use Rattle.set_blocks.specs.declared.faults.BlockKind.TheVariants.{Line, Nested, Stray, Empty, Long, Apart, Unended}
-use Rattle.set_script.specs.declared.commands.FaultKind.{FaultKind}
-use Rattle.set_script.specs.declared.commands.FaultKind.TheVariants.{Word, Count, Format, Name, Key, Value, Same, Many}
+use Rattle.block_parser.specs.declared.faults.BlockKind.{BlockKind}
+use Rattle.block_parser.specs.declared.faults.BlockKind.TheVariants.{Line, Nested, Stray, Empty, Long, Apart, Unended}
+use Rattle.script_parser.specs.declared.faults.FaultKind.{FaultKind}
+use Rattle.script_parser.specs.declared.faults.FaultKind.TheVariants.{Word, Count, Format, Name, Key, Value, Same, Many}
 use Rattle.run_words.specs.declared.request.Limit.{Limit as LimitOf}
 use Rattle.run_words.specs.declared.request.Limit.TheVariants.{Objects, Slots, Base, Files, Number, Seat, Seats}
 use Rattle.mvrlu_run.specs.declared.finish.Closed.{Closed}

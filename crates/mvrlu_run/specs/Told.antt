@@ -6,8 +6,8 @@ use Rattle.mvrlu.specs.declared.closing.Closing.{Closing}
 use Rattle.run_outside.specs.Outside.{Texts}
 use Rattle.run_words.specs.Words.{Asks, run, gen, work, block, pool, grow, replay}
 use Rattle.script_gen.specs.Script.{text_of_script}
-use Rattle.set_blocks.specs.BlockGrammar.{parsed_blocks}
-use Rattle.set_script.specs.Grammar.{parsed}
+use Rattle.block_parser.specs.BlockGrammar.{parsed_blocks}
+use Rattle.script_parser.specs.Grammar.{parsed}
 use Rattle.set_script.specs.declared.rules.SetRules.{SetRules}
 use Rattle.mvrlu_run.specs.declared.finish.Closed.{Closed}
 use Rattle.mvrlu_run.specs.declared.finish.Closed.TheVariants.{No, Sets, Blocks, Grown}

@@ -1,7 +1,7 @@
 // Reading the scripts of blocks of files.
 ghost use Rattle.std.specs.Prelude.{◌≡◌, ◌≤◌, ◌<◌, ◌-◌, ◌^◌, Ok, length, map, string_bytes, All, IfOk, IfErr, MatchResult};
 ghost use Rattle.std.specs.List.{AllZip, HoldsAt};
-ghost use Rattle.set_blocks.specs.BlockGrammar.{Refuses, parsed_blocks};
+ghost use Rattle.block_parser.specs.BlockGrammar.{Refuses, parsed_blocks};
 ghost use Rattle.block_workers.specs.Workers.{blocks_of, count_of};
 ghost use Rattle.mvrlu_run.specs.Reading.{text_of};
 ghost use Rattle.mvrlu_run.specs.Scripts.{AllScripts, Answers, AnyStop, NoScripts, NoneFails, Parses, blocks as by_block};
@@ -9,8 +9,9 @@ ghost use Rattle.mvrlu_run.specs.Scripts.{AllScripts, Answers, AnyStop, NoScript
 use crate::finish::{Finish, MOST_BYTES};
 use crate::parsing::take_values;
 use crate::reading::read_texts;
+use block_parser::{BlockFault, parse_blocks};
 use run_outside::Files;
-use set_blocks::{Block, BlockFault, parse_blocks};
+use set_blocks::Block;
 use std::alloc::Global;
 use std::thread;
 use std::thread::Threads;

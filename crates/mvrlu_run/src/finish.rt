@@ -1,9 +1,11 @@
 // How a call of the program ends.
+use block_parser::BlockKind;
 use grow_hash::GrowRules;
 use mvrlu::Closing;
 use run_words::Limit;
-use set_blocks::{BlockKind, BlockRules};
-use set_script::{FaultKind, SetRules};
+use script_parser::FaultKind;
+use set_blocks::BlockRules;
+use set_script::SetRules;
 use step_replay::PlanKind;
 
 /// The most bytes of a script.

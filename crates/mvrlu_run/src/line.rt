@@ -5,11 +5,11 @@ ghost use Rattle.mvrlu_run.specs.Status.{block_fault_end, block_fault_start, fau
 
 use crate::finish::Finish;
 use crate::sending::send;
+use block_parser::BlockKind;
 use itoa::Buffer;
 use run_outside::Sink;
 use run_words::Limit;
-use set_blocks::BlockKind;
-use set_script::FaultKind;
+use script_parser::FaultKind;
 use step_replay::PlanKind;
 
 // The room of the longest line.

@@ -3,7 +3,7 @@ ghost use Rattle.std.specs.Prelude.{◌≡◌, ◌≤◌, ◌<◌, ◌-◌, ◌^
 ghost use Rattle.std.specs.List.{AllZip, HoldsAt};
 ghost use Rattle.mvrlu_run.specs.Reading.{text_of};
 ghost use Rattle.script_workers.specs.Workers.{items_of};
-ghost use Rattle.set_script.specs.Grammar.{Refuses};
+ghost use Rattle.script_parser.specs.Grammar.{Refuses};
 ghost use Rattle.set_script.specs.declared.script.TheConstants.{MOST_COMMANDS};
 ghost use Rattle.mvrlu_run.specs.Scripts.{AllScripts, Answers, AnyStop, AreOf, NoScripts, NoneFails, Parses, commands as by_command, parsed_by};
 
@@ -12,7 +12,8 @@ use crate::parsing::take_values;
 use crate::reading::read_texts;
 use grow_script::parse_grow;
 use run_outside::Files;
-use set_script::{Command, ScriptFault, parse};
+use script_parser::{ScriptFault, parse};
+use set_script::Command;
 use std::alloc::Global;
 use std::thread;
 use std::thread::Threads;

@@ -2,8 +2,9 @@
 ghost use Rattle.std.specs.Prelude.{◌<◌, IfOk};
 ghost use Rattle.mvrlu_run.specs.Outcome.{ReadsSets};
 
+use memory_outside::{MemFiles, MemSink, MemText};
 use mvrlu_run::{Closed, Ran, run_program};
-use run_outside::{Gate, MemFiles, MemSink, MemText, OpenGate};
+use run_outside::{Gate, OpenGate};
 use std::alloc::{AllocError, Global};
 use std::process::Abort;
 use std::sync::Wait;

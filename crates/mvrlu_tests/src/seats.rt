@@ -1,9 +1,10 @@
 // Scripts of several seats, long scripts, generated ones, and what is left of the domain.
 use crate::row::{PLAIN, Printed, named, owned, print, print_texts, print_well};
 use crate::texts::{count_ends, sum_after, time_of};
+use memory_outside::MemText;
 use mv_history::View;
 use mvrlu_run::Closed;
-use run_outside::{MemText, OpenGate};
+use run_outside::OpenGate;
 use set_catalog::read_all;
 use set_script::Catalogue;
 use std::alloc::{AllocError, Global};

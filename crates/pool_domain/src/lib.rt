@@ -21,7 +21,7 @@
 //!
 //! **Its place.** The crate stands on `command_pool`, which does commands on any stores in threads, and on `mvrlu`, whose
 //! handles are such stores and whose meeting knows the whole history. The loan of the domain to its seats is that of
-//! `domain_run`, and what a run in one history is comes from `run_report`.
+//! `domain_loan`, and what a run in one history is comes from `run_report`.
 #![tactic(auto)]
 
 mod running;

@@ -7,14 +7,14 @@ ghost use Rattle.mvrlu.specs.Meant.{numbers_of, opening_of, seat_of, whole_of};
 ghost use Rattle.mvrlu.specs.Whole.{last_state};
 ghost use Rattle.command_pool.specs.Pool.{PoolRan, PoolLinked};
 ghost use Rattle.set_script.specs.Rules.{IsSetCommit};
-ghost use Rattle.domain_run.specs.Met.{AreTablesOf, MetAlong};
-ghost use Rattle.domain_run.specs.New.{AreNewFrom};
-ghost use Rattle.domain_run.specs.Shown.{handle_causes};
+ghost use Rattle.domain_loan.specs.Met.{AreTablesOf, MetAlong};
+ghost use Rattle.domain_loan.specs.New.{AreNewFrom};
+ghost use Rattle.domain_loan.specs.Shown.{handle_causes};
 ghost use Rattle.script_domain.specs.Joined.{past_of_whole};
 ghost use Rattle.pool_domain.specs.Whole.{PoolOf};
 
 use command_pool::run_pool;
-use domain_run::lending::{lend_all, meet_all, take_back};
+use domain_loan::{lend_all, meet_all, take_back};
 use mv_history::LogTable;
 use mvrlu::{Closing, Domain, Seat};
 use run_outside::Gate;

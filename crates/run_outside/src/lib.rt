@@ -1,5 +1,4 @@
-//! The outside of the program: files by name, sinks of bytes and gates, as traits, with forms of them in memory
-//! and over the system.
+//! The outside of the program: files by name, sinks of bytes and gates, as traits, and over the system.
 //!
 //! # Model
 //!
@@ -14,24 +13,23 @@
 //! # Contract
 //!
 //! A read puts the next bytes of the open text into the buffer, and a write takes the first bytes of the piece, at
-//! least one, or fails and takes none. [`MemFiles`] and [`MemSink`] fail exactly where they are told to, where no text
-//! has the name, or where the room is spent. They are exact in all else, so a program can be tried against every
-//! failure in turn.
+//! least one, or fails and takes none. [`Told`] is what clauses see of the calls of files: the name that was opened
+//! last, and the names of those that failed.
 //!
 //! # Place
 //!
-//! The program is generic over these traits, and its contract speaks of their models. Only `main` makes [`RealFiles`],
+//! The program is generic over these traits, and its contract speaks of their models. `memory_outside` has forms of
+//! them in memory. Only `main` makes [`RealFiles`],
 //! [`RealOut`] and [`RealErr`]. These are proved against the traits, but they tell no content: that they move the
 //! bytes they were given is trusted.
 #![tactic(auto)]
 
 mod gate;
-mod memory;
 mod outside;
 mod real;
 mod told;
 
 pub use gate::{Gate, OpenGate};
-pub use memory::{MemFiles, MemSink, MemText};
 pub use outside::{Failed, Files, Sink};
 pub use real::{RealErr, RealFiles, RealOut};
+pub use told::Told;

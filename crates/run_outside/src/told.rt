@@ -27,14 +27,14 @@ pub(crate) enum Failures {
 
 /// The name by which a text was opened last, and the names of the texts of which a call failed.
 #[derive(Drop)]
-pub(crate) struct Told {
+pub struct Told {
     name: Snapshot<Letters>,
     failures: Snapshot<Failures>,
 }
 
 impl Told {
     /// No text was opened, and no call failed.
-    pub(crate) fn new() -> Told
+    pub fn new() -> Told
         ensures { failures_in result ≡ [] }
     {
         Told {
@@ -44,7 +44,7 @@ impl Told {
     }
 
     /// A text is opened by this name.
-    pub(crate) fn opens(&mut self, name: &str)
+    pub fn opens(&mut self, name: &str)
         ensures name { name_in self.new ≡ name.now }
         ensures failures { failures_in self.new ≡ failures_in self.old }
     {
@@ -52,7 +52,7 @@ impl Told {
     }
 
     /// Opening this name fails. The name of the open text stays.
-    pub(crate) fn open_fails(&mut self, name: &str)
+    pub fn open_fails(&mut self, name: &str)
         ensures name { name_in self.new ≡ name_in self.old }
         ensures failures { failures_in self.new ≡ failures_in self.old ++ name.now ∷ [] }
     {
@@ -61,7 +61,7 @@ impl Told {
     }
 
     /// Reading the open text fails.
-    pub(crate) fn read_fails(&mut self)
+    pub fn read_fails(&mut self)
         ensures name { name_in self.new ≡ name_in self.old }
         ensures failures { failures_in self.new ≡ failures_in self.old ++ name_in self.old ∷ [] }
     {

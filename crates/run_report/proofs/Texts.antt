@@ -34,7 +34,7 @@ use Rattle.std.proofs.lemmas.List.{at_drop_more, take_more, take_all, flat_map_m
 use Rattle.std.proofs.lemmas.Slice.Zip.{length-zip, get_or-zip}
 use Rattle.mv_history.specs.declared.answers.LogTable.{LogTable}
 use Rattle.set_script.specs.Catalogue.{Map, Maps, map_of}
-use Rattle.set_script.specs.GrammarLaws.{name_text}
+use Rattle.set_script.specs.Names.{name_text}
 use Rattle.run_report.specs.Text.{text_of_key, text_of_set, text_of_sets, text_of_table, text_of_tables}
 
 -- the keys of a map beside its values are the map

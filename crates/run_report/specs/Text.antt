@@ -3,7 +3,7 @@ use Rattle.std.specs.Prelude.{ℕ, suc, ◌==◌, Bool, List, [], ◌∷◌, ◌
 use Rattle.std.specs.List.{flat_map}
 use Rattle.mv_history.specs.declared.answers.LogTable.{LogTable}
 use Rattle.set_script.specs.Catalogue.{Map, Maps}
-use Rattle.set_script.specs.GrammarLaws.{name_text}
+use Rattle.set_script.specs.Names.{name_text}
 use Rattle.section_work.specs.declared.place.Place.{Place}
 use Rattle.section_work.specs.declared.place.Place.TheVariants.{Commit, Read}
 use Rattle.set_script.specs.declared.commands.Reply.{Reply}

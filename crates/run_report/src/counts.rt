@@ -1,7 +1,7 @@
 // The summary of a run.
 ghost use Rattle.std.specs.Prelude.{◌≡◌, ◌++◌, ◌<◌, IfOk, OnOk, codes, count_by, decimal, length, string_bytes};
 ghost use Rattle.set_script.specs.Catalogue.{map_of, IsCatalogue};
-ghost use Rattle.set_script.specs.GrammarLaws.{name_text};
+ghost use Rattle.set_script.specs.Names.{name_text};
 ghost use Rattle.run_report.specs.Summary.{is_yes, is_no, is_worn, is_made, text_of_count, text_of_size, text_of_sizes, summary};
 
 use crate::line::Line;

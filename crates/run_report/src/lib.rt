@@ -35,6 +35,7 @@
 
 mod counts;
 mod line;
+mod row;
 mod text;
 
 pub use counts::summary;

@@ -2,12 +2,9 @@
 ghost use Rattle.std.specs.Prelude.{◌≡◌, ◌++◌, ◌<◌, IfOk, OnOk, codes, decimal, length, string_bytes};
 ghost use Rattle.std.specs.List.{flat_map, zip};
 ghost use Rattle.set_script.specs.Catalogue.{map_of, IsCatalogue};
-ghost use Rattle.set_script.specs.GrammarLaws.{name_text};
+ghost use Rattle.set_script.specs.Names.{name_text};
 ghost use Rattle.run_report.specs.Text.{
   text_of_line,
-  text_of_place,
-  text_of_answer,
-  text_of_reply,
   text_of_key,
   text_of_set,
   text_of_sets,
@@ -17,10 +14,10 @@ ghost use Rattle.run_report.specs.Text.{
 };
 
 use crate::line::Line;
+use crate::row::{ROW, put_line};
 use itoa::Buffer;
 use mv_history::LogTable;
-use section_work::Place;
-use set_script::{Catalogue, Reply};
+use set_script::Catalogue;
 use std::alloc::{AllocError, Global};
 
 // How many sets there are.
@@ -41,30 +38,41 @@ pub fn render(
 ) -> Result<Vec<u8>, AllocError>
     ensures { IfOk result (λ text. text.items ≡ text_of_run lines.now end.now tables.now) }
 {
-    let mut text = String::new(alloc);
+    let mut text = Vec::new(alloc);
     write_lines(&mut text, lines)?;
-    write_sets(&mut text, end)?;
-    write_tables(&mut text, tables)?;
-    Ok(text.into_bytes())
+    let rest = text_behind(alloc, end, tables)?;
+    append(&mut text, rest.as_bytes())?;
+    Ok(text)
 }
 
-fn write_lines(text: &mut String, lines: &[Line]) -> Result<(), AllocError>
-    ensures { OnOk result (string_bytes text.new ≡ string_bytes text.old ++ flat_map text_of_line lines.now) }
+// The text behind the lines.
+fn text_behind(alloc: Global, end: &Catalogue, tables: &[LogTable]) -> Result<String, AllocError>
+    ensures { IfOk result (λ rest. string_bytes rest ≡ text_of_sets 0 end.now ++ text_of_tables 0 tables.now) }
 {
+    let mut text = String::new(alloc);
+    write_sets(&mut text, end)?;
+    write_tables(&mut text, tables)?;
+    Ok(text)
+}
+
+// Appends the text of each line, which is made in a row of bytes on the stack.
+fn write_lines(text: &mut Vec<u8>, lines: &[Line]) -> Result<(), AllocError>
+    ensures { OnOk result (text.new.items ≡ text.old.items ++ flat_map text_of_line lines.now) }
+{
+    let mut row = [0; ROW];
     for line in lines {
-        write_line(text, line)?;
+        let start = put_line(&mut row, line);
+        append(text, &row[start..])?;
     }
     Ok(())
 }
 
+// Appends these bytes.
 #[inline(always)]
-fn write_line(text: &mut String, line: &Line) -> Result<(), AllocError>
-    ensures { OnOk result (string_bytes text.new ≡ string_bytes text.old ++ text_of_line line.now) }
+fn append(text: &mut Vec<u8>, bytes: &[u8]) -> Result<(), AllocError>
+    ensures { OnOk result (text.new.items ≡ text.old.items ++ bytes.now) }
 {
-    write_number(text, line.seat.into())?;
-    write_labelled(text, ".", line.number.into())?;
-    write_place(text, &line.place)?;
-    write_reply(text, line.reply)
+    text.extend_from_slice(bytes)
 }
 
 // Writes a number in decimal digits, which are made on the stack.
@@ -85,58 +93,12 @@ fn write_labelled(text: &mut String, label: &str, number: u64) -> Result<(), All
     write_number(text, number)
 }
 
-// Writes a space and the place.
-#[inline(always)]
-fn write_place(text: &mut String, place: &Place) -> Result<(), AllocError>
-    ensures { OnOk result (string_bytes text.new ≡ string_bytes text.old ++ codes " " ++ text_of_place place.now) }
-{
-    match place {
-        Place::Commit(time) => write_labelled(text, " c", *time),
-        Place::Read(time) => write_labelled(text, " r", *time),
-    }
-}
-
-// Writes a space, the reply and the line's end.
-#[inline(always)]
-fn write_reply(text: &mut String, reply: Reply) -> Result<(), AllocError>
-    ensures { OnOk result (string_bytes text.new ≡ string_bytes text.old ++ codes " " ++ text_of_reply reply ++ codes "\n") }
-{
-    match reply {
-        Reply::Yes => text.push_str(" yes\n"),
-        Reply::No => text.push_str(" no\n"),
-        Reply::Full => text.push_str(" full\n"),
-        Reply::Worn => text.push_str(" worn\n"),
-        Reply::Both { first, second } => write_both(text, first, second),
-        Reply::Count { count } => write_last(text, count),
-        Reply::Key { key } => write_last(text, key.into()),
-        Reply::NoKey => text.push_str(" none\n"),
-        Reply::Value { value } => write_last(text, value),
-    }
-}
-
 // Writes a space, a number and the line's end.
 pub(crate) fn write_last(text: &mut String, number: u64) -> Result<(), AllocError>
     ensures { OnOk result (string_bytes text.new ≡ string_bytes text.old ++ codes " " ++ decimal number ++ codes "\n") }
 {
     write_labelled(text, " ", number)?;
     text.push_str("\n")
-}
-
-// Writes whether each of two sets has a key, each behind a space, and the line's end.
-fn write_both(text: &mut String, first: bool, second: bool) -> Result<(), AllocError>
-    ensures { OnOk result (string_bytes text.new ≡ string_bytes text.old ++ codes " " ++ text_of_answer first
-        ++ codes " " ++ text_of_answer second ++ codes "\n") }
-{
-    write_answer(text, first)?;
-    write_answer(text, second)?;
-    text.push_str("\n")
-}
-
-// Writes a space and whether a set has a key.
-fn write_answer(text: &mut String, has: bool) -> Result<(), AllocError>
-    ensures { OnOk result (string_bytes text.new ≡ string_bytes text.old ++ codes " " ++ text_of_answer has) }
-{
-    text.push_str(if has { " yes" } else { " no" })
 }
 
 fn write_sets(text: &mut String, end: &Catalogue) -> Result<(), AllocError>

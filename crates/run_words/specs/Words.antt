@@ -4,7 +4,7 @@ use Rattle.std.specs.Prelude.{Option, None, Some, Result, Ok, Err, if◌then◌e
 use Rattle.std.specs.List.{list_all}
 use Rattle.std.specs.Str.{bytes_eq}
 use Rattle.std.specs.Str.Parse.{digits_value}
-use Rattle.set_script.specs.Grammar.{◌>>=◌, is_numeral}
+use Rattle.script_parser.specs.Grammar.{◌>>=◌, is_numeral}
 use Rattle.run_words.specs.declared.request.Options.{Options}
 use Rattle.run_words.specs.declared.request.Request.{Request}
 use Rattle.run_words.specs.declared.request.Request.TheVariants.{Run, Gen, Work, Block, Pool, Grow, Replay}

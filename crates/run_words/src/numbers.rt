@@ -3,7 +3,7 @@ ghost use Rattle.std.specs.Prelude.{◌≡◌, ◌≤◌, IfOk, MatchOption, Non
 ghost use Rattle.std.specs.Char.{is_ascii_digit};
 ghost use Rattle.std.specs.List.{list_all};
 ghost use Rattle.std.specs.Str.Parse.{digits_value};
-ghost use Rattle.set_script.specs.Grammar.{is_numeral};
+ghost use Rattle.script_parser.specs.Grammar.{is_numeral};
 ghost use Rattle.run_words.specs.Words.{number_of, within};
 
 use crate::request::{Limit, Refusal};

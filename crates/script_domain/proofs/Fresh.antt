@@ -15,7 +15,7 @@ use Rattle.run_report.proofs.history.Grown.{there_longer}
 use Rattle.work_runner.specs.Tries.{IsEnteredBetween}
 use Rattle.script_workers.specs.Links.{Linked}
 use Rattle.script_workers.proofs.Fresh.{linked_fresh}
-use Rattle.domain_run.specs.Met.{HasMet}
+use Rattle.domain_loan.specs.Met.{HasMet}
 
 there_below : (es : List Entry) (i : ℕ) (e : Entry) → slice_get es i ≡ Some e → i < length es
 there_below [] i e is = absurd (cc)

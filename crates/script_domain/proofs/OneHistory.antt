@@ -15,8 +15,8 @@ use Rattle.mvrlu.specs.declared.domain.Domain.{Domain}
 use Rattle.run_report.specs.Worked.{Past}
 use Rattle.run_report.specs.Whole.{IsTableOf}
 use Rattle.run_report.proofs.history.Grown.{AreKnown}
-use Rattle.domain_run.specs.Met.{AreTablesOf, HasMet, HaveMet}
-use Rattle.domain_run.specs.New.{AreNewFrom}
+use Rattle.domain_loan.specs.Met.{AreTablesOf, HasMet, HaveMet}
+use Rattle.domain_loan.specs.New.{AreNewFrom}
 use Rattle.script_domain.specs.Joined.{past_of_whole}
 
 -- What holds of the one history of so many seats, which went on from these to those that met, and of the tables of their logs.

@@ -6,8 +6,8 @@ use Rattle.set_script.specs.declared.commands.Command.{Command}
 use Rattle.run_report.specs.declared.line.Line.{Line}
 use Rattle.run_report.specs.Worked.{AllRan}
 use Rattle.script_workers.specs.Numbers.{AreNumbered}
-use Rattle.domain_run.specs.Met.{AllContinue}
-use Rattle.domain_run.specs.New.{AreNewFrom}
+use Rattle.domain_loan.specs.Met.{AllContinue}
+use Rattle.domain_loan.specs.New.{AreNewFrom}
 
 -- new seats are numbered in order
 pub new_numbered : {P : Type 0} (d : Domain P) (number : ℕ) (seats : List history.Seat) → AreNewFrom d number seats → AreNumbered number seats

@@ -26,7 +26,7 @@
 //! **Its place.** The crate stands on `script_workers`, which runs scripts over any stores in threads, and on `mvrlu`,
 //! whose handles are such stores and whose meeting knows the whole history. `run_report` says what a run is. The crate
 //! adds the step from what each seat had seen to the whole history. The loan of the domain to its seats, with the tables of
-//! their logs, is that of `domain_run`.
+//! their logs, is that of `domain_loan`.
 #![tactic(auto)]
 
 mod running;

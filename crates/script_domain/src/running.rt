@@ -10,12 +10,12 @@ ghost use Rattle.run_report.specs.Whole.{RunOf};
 ghost use Rattle.run_report.specs.Worked.{AllRan};
 ghost use Rattle.script_workers.specs.Lines.{AllLinked};
 ghost use Rattle.script_workers.specs.Workers.{items_of};
-ghost use Rattle.domain_run.specs.Met.{AreTablesOf, MetAlong};
-ghost use Rattle.domain_run.specs.New.{AreNewFrom};
-ghost use Rattle.domain_run.specs.Shown.{handle_causes};
+ghost use Rattle.domain_loan.specs.Met.{AreTablesOf, MetAlong};
+ghost use Rattle.domain_loan.specs.New.{AreNewFrom};
+ghost use Rattle.domain_loan.specs.Shown.{handle_causes};
 ghost use Rattle.script_domain.specs.Joined.{past_of_whole};
 
-use domain_run::lending::{lend_all, meet_all, take_back};
+use domain_loan::{lend_all, meet_all, take_back};
 use mv_history::LogTable;
 use mvrlu::{Closing, Domain, Seat};
 use run_outside::Gate;

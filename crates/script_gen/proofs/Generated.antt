@@ -4,7 +4,7 @@ use Rattle.std.specs.List.{All, AllByRecursion}
 use Rattle.std.proofs.lemmas.List.Elements.{All-nil, All-cons, All-head, All-tail}
 use Rattle.set_script.specs.declared.commands.Command.{Command}
 use Rattle.set_script.specs.declared.commands.Command.TheVariants.{Add, Put, Del, Has, Get, Move, Pair, Size, Next}
-use Rattle.set_script.specs.GrammarLaws.{MaySay}
+use Rattle.script_parser.specs.GrammarLaws.{MaySay}
 use Rattle.script_gen.specs.Script.{commands_of, command_of, first_name, second_name, key_of, IsOwn, IsGenerated, script}
 
 -- a key is one of the seat's own

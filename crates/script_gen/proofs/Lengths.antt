@@ -6,7 +6,8 @@ use Rattle.std.proofs.lemmas.Fmt.{length-decimal-le}
 use Rattle.std.proofs.lemmas.List.Elements.{All-head, All-tail}
 use Rattle.set_script.specs.declared.commands.Command.{Command}
 use Rattle.set_script.specs.declared.commands.Command.TheVariants.{Add, Put, Del, Has, Get, Move, Pair, Size, Next}
-use Rattle.set_script.specs.GrammarLaws.{name_text, line_text, script_text}
+use Rattle.set_script.specs.Names.{name_text}
+use Rattle.script_parser.specs.GrammarLaws.{line_text, script_text}
 use Rattle.script_gen.specs.Script.{IsGenerated}
 
 -- a name is a letter and a digit

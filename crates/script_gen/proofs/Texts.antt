@@ -1,9 +1,9 @@
 -- What the text of a generated script is: a script of its commands, and a short one.
 use Rattle.std.proofs.Common.{◌≡◌, ℕ, ◌<◌, ◌≤◌, List, length, Ok, ap, sym, ◌∙◌, arith}
 use Rattle.set_script.specs.declared.commands.Command.{Command}
-use Rattle.set_script.specs.Grammar.{parsed}
-use Rattle.set_script.specs.GrammarLaws.{script_text}
-use Rattle.set_script.proofs.Texts.{commands_back}
+use Rattle.script_parser.specs.Grammar.{parsed}
+use Rattle.script_parser.specs.GrammarLaws.{script_text}
+use Rattle.script_parser.proofs.Texts.{commands_back}
 use Rattle.script_gen.specs.declared.script.TheConstants.{COMMANDS}
 use Rattle.script_gen.specs.Script.{script}
 use Rattle.script_gen.proofs.Generated.{script_generated, may_say_all}

@@ -5,7 +5,7 @@ use Rattle.rand_pcg.specs.Lcg.{Lcg, started, increment_of}
 use Rattle.rand_pcg.specs.Pcg.{multiplier_64, pcg32}
 use Rattle.set_script.specs.declared.commands.Command.{Command}
 use Rattle.set_script.specs.declared.commands.Command.TheVariants.{Add, Del, Has, Move}
-use Rattle.set_script.specs.GrammarLaws.{script_text}
+use Rattle.script_parser.specs.GrammarLaws.{script_text}
 use Rattle.script_gen.specs.declared.script.TheConstants.{COMMANDS}
 
 -- the index of the first name

@@ -1,6 +1,7 @@
 // The line of a command.
 ghost use Rattle.std.specs.Prelude.{◌≡◌, ◌++◌, OnOk, codes, decimal, string_bytes};
-ghost use Rattle.set_script.specs.GrammarLaws.{line_text, name_text};
+ghost use Rattle.set_script.specs.Names.{name_text};
+ghost use Rattle.script_parser.specs.GrammarLaws.{line_text};
 
 use set_script::{Command, Name};
 use std::alloc::AllocError;

@@ -1,7 +1,7 @@
 // The scripts of a number, as commands and as text.
 ghost use Rattle.std.specs.Prelude.{◌≡◌, ◌<◌, ◌≤◌, ◌++◌, All, Ok, IfOk, OnOk, length, string_bytes};
-ghost use Rattle.set_script.specs.Grammar.{parsed};
-ghost use Rattle.set_script.specs.GrammarLaws.{script_text};
+ghost use Rattle.script_parser.specs.Grammar.{parsed};
+ghost use Rattle.script_parser.specs.GrammarLaws.{script_text};
 ghost use Rattle.script_gen.specs.Script.{IsGenerated, script, text_of_script};
 
 use crate::draw::draw;

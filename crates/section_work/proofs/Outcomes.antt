@@ -33,7 +33,7 @@ use Rattle.section_work.specs.Works.{Meaning, IsPlanned, IsFound}
 use Rattle.section_work.specs.declared.work.Decision.{Decision}
 use Rattle.section_work.specs.declared.work.Decision.TheVariants.{Settled, Change}
 use Rattle.section_work.specs.Attempts.{IsDone, IsDoneIn, IsReadAt, IsWhy, GivesUpIn, GivesUp}
-use Rattle.section_work.specs.Steps.{IsPrepared}
+use Rattle.section_work.specs.Steps.{IsPrepared, Follows, IsStepped}
 use Rattle.section_work.specs.Attempts.{Attempted, AttemptedIn, HasSpace, NotedOnce, MayNote}
 use Rattle.section_work.specs.declared.attempting.Attempt.{Attempt}
 use Rattle.section_work.specs.declared.attempting.Attempt.TheVariants.{Done, Again}
@@ -99,7 +99,7 @@ space_found most prepared entered found e same le enough = record {
 }
 
 -- `prepare` made room, or found a holder
-pub prepared_by : (k : Causes) (old new : Seat) (room : Room) → Prepares old new → (room ≡ Enough → new.write_max ≤ new.spare)
+prepared_by : (k : Causes) (old new : Seat) (room : Room) → Prepares old new → (room ≡ Enough → new.write_max ≤ new.spare)
     → ((holder : Holder) → room ≡ Short holder → k.may_refuse × (new.spare < new.write_max) × k.holds_back old new holder) → IsPrepared k old new
 prepared_by k old new room p enough short = record { prepares = p; room = by room refl }
   where
@@ -107,6 +107,21 @@ prepared_by k old new room p enough short = record { prepares = p; room = by roo
         → (new.write_max ≤ new.spare) ⊎ ((holder : Holder) × k.may_refuse × (new.spare < new.write_max) × k.holds_back old new holder)
     by Enough e = inl (enough e)
     by (Short holder) e = let held = short holder e in inr (holder, held.0, held.1, held.2)
+
+-- the calls of an attempt, one after another
+module _ {Open : Type 0} (section : Open → InSection) (as_before : Open → Open → Type 0) (k : Causes) {R : Type 0} (old new : Seat) (answer : Attempt R) where
+  pub stepped_by : (prepared : Seat) (room : Room) (entered found : Open) → Prepares old prepared → (room ≡ Enough → prepared.write_max ≤ prepared.spare)
+      → ((holder : Holder) → room ≡ Short holder → k.may_refuse × (prepared.spare < prepared.write_max) × k.holds_back old prepared holder)
+      → EntersAs prepared (section entered) → k.took prepared (section entered) → as_before entered found → Follows section as_before k found new answer
+      → IsStepped section as_before k old new answer
+  stepped_by prepared room entered found p enough short e took read follows = record {
+    prepared = prepared;
+    prepares = prepared_by k old prepared room p enough short;
+    entered = entered;
+    found = found;
+    looks = record { enters = e; took = took; only_read = read };
+    follows = follows;
+  }
 
 -- a section that is not at the last time is before it
 pub early_by : (entered : InSection) (time last : ℕ) → entered.at ≤ length entered.seat.seen
@@ -216,23 +231,31 @@ module _ {R : Type 0} (allowed : List ℕ → State → Writes → Type 0) (m : 
 
 -- What a look leaves that changes nothing, or a change that was given up.
 module _ {R : Type 0} (k : Causes) (m : Meaning R) where
-  pub read_at : (old before : Seat) (entered found : InSection) (new : Seat) (s : State) (reply : R) (last : Bool) (time : ℕ)
+  pub read_on : (old before : Seat) (entered found : InSection) (new : Seat) (s : State) (reply : R) (last : Bool) (time : ℕ)
       → Continues old before → before.mine ≡ old.mine → EntersAs before entered → k.took before entered → entered.at ≤ length entered.seat.seen
-      → IsAsBefore entered found → Leaves found new → s ≡ state_of entered → time ≡ entered.seat.base + entered.at
+      → IsAsBefore entered found → Continues found.seat new → new.mine ≡ found.seat.mine → s ≡ state_of entered → time ≡ entered.seat.base + entered.at
       → last ≡ (time == entered.seat.last) → m.settles s last reply → IsReadAt k m old new reply time
-  read_at old before entered found new s reply last time came mine e took le same left here at is settles =
-      let goes : Continues entered.seat new = Continues-Continues same.seat.continues left.continues in
+  read_on old before entered found new s reply last time came mine e took le same on still here at is settles =
+      let goes : Continues entered.seat new = Continues-Continues same.seat.continues on in
       let there : time - new.base ≡ entered.at = omega (arith, at, goes.base) in
       let state : s ≡ state_of_time new time =
       here ∙ reads_snapshot entered e.own ∙ sym (state_at-later goes entered.at le) ∙ ap (λ (n : ℕ). state_at new.start new.seen n) (sym there) in
       let when : last ≡ (time == new.last) = is ∙ ap (λ (n : ℕ). time == n) (sym goes.last) in
       record {
-        mine = left.mine ∙ same.seat.mine ∙ e.seat.mine ∙ mine;
+        mine = still ∙ same.seat.mine ∙ e.seat.mine ∙ mine;
         entered = entered;
         enters = record { before = before; comes = came; mine = mine; enters = record { enters = e; took = took; at = le; continues = goes } };
         time_is = at;
         settles = subst (λ (b : Bool). m.settles (state_of_time new time) b reply) when (subst (λ (u : State). m.settles u last reply) state settles);
       }
+
+  -- where the section is then left
+  pub read_at : (old before : Seat) (entered found : InSection) (new : Seat) (s : State) (reply : R) (last : Bool) (time : ℕ)
+      → Continues old before → before.mine ≡ old.mine → EntersAs before entered → k.took before entered → entered.at ≤ length entered.seat.seen
+      → IsAsBefore entered found → Leaves found new → s ≡ state_of entered → time ≡ entered.seat.base + entered.at
+      → last ≡ (time == entered.seat.last) → m.settles s last reply → IsReadAt k m old new reply time
+  read_at old before entered found new s reply last time came mine e took le same left here at is settles =
+      read_on old before entered found new s reply last time came mine e took le same left.continues left.mine here at is settles
 
   pub stopped_in : (found left : InSection) (new : Seat) (tag : List ℕ) (ws : Writes) (reply : R) (refusal : Refusal) → found.own ≡ []
       → m.plans (state_of found) tag ws reply → Stops k.may_refuse k.found_held (λ o. touches ws o ≡ true) found left refusal

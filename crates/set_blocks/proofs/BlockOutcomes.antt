@@ -1,7 +1,7 @@
 -- What an attempt of a block leaves, from what it leaves as a work.
-use Rattle.std.proofs.Common.{ℕ, ◌≡◌, ◌<◌, List, subst}
+use Rattle.std.proofs.Common.{ℕ, ◌≡◌, List, subst}
 use Rattle.mv_history.specs.Meaning.{Seat}
-use Rattle.section_work.specs.Attempts.{IsDoneAt, IsReadAt, IsWhy, GivesUp, Attempted}
+use Rattle.section_work.specs.Attempts.{IsDoneAt, IsReadAt, Attempted}
 use Rattle.section_work.specs.declared.attempting.Attempt.{Attempt}
 use Rattle.section_work.specs.declared.attempting.Attempt.TheVariants.{Done as WorkDone, Again as WorkAgain}
 use Rattle.set_script.specs.declared.commands.Command.{Command}
@@ -9,11 +9,10 @@ use Rattle.section_work.specs.declared.place.Place.{Place}
 use Rattle.section_work.specs.declared.place.Place.TheVariants.{Commit as AtCommit, Read}
 use Rattle.set_script.specs.declared.commands.Reply.{Reply}
 use Rattle.section_work.specs.declared.causes.Cause.{Cause}
-use Rattle.section_work.specs.declared.causes.Cause.TheVariants.{Lock, Rival, LogFull}
 use Rattle.section_work.specs.Causes.{Causes}
-use Rattle.set_blocks.specs.BlockAttempts.{IsBlockDone, IsBlockRead, IsBlockWhy, BlockGivesUp, BlockAttempted}
+use Rattle.set_blocks.specs.BlockAttempts.{IsBlockDone, IsBlockRead, BlockAttempted}
 use Rattle.set_blocks.specs.BlockMeaning.{block_meaning}
-use Rattle.set_blocks.specs.declared.attempt.BlockAttempt.TheVariants.{Done}
+use Rattle.set_blocks.specs.declared.attempt.BlockAttempt.TheVariants.{Done, Again}
 
 module _ (k : Causes) (old new : Seat) (commands : List Command) where
   done : (answers : List Reply) (time : ℕ) → IsDoneAt k (block_meaning commands) old new answers time → IsBlockDone old new commands answers time
@@ -42,44 +41,6 @@ module _ (k : Causes) (old new : Seat) (commands : List Command) where
     unchanging = r.settles.1;
   }
 
-  gives_up : (cause : Cause) → GivesUp k (block_meaning commands) old new cause → BlockGivesUp k old new commands cause
-  gives_up cause u = record {
-    mine = u.mine;
-    prepared = u.prepared;
-    prepares = u.prepares;
-    entered = u.entered;
-    enters = u.enters;
-    early = u.early;
-    changing = u.changing;
-    why = go cause u.why;
-  }
-    where
-      go : (c : Cause)
-          → IsWhy k (block_meaning commands) (λ holder. (u.prepared.spare < u.prepared.write_max) × k.holds_back old u.prepared holder) u.entered new c
-          → IsBlockWhy k (k.holds_back old u.prepared) commands u.entered new c
-      go (Lock refusal) w = record {
-        writes = w.writes;
-        planned = (w.reply, w.plan.plan);
-        left = w.left;
-        stops = w.stops;
-        held = w.held;
-        leaves = w.leaves;
-      }
-      go (Rival rival) w = (
-        w.0,
-        record {
-          before = w.1.before;
-          goes_on = w.1.goes_on;
-          planned = (w.1.reply, w.1.plan.plan);
-          after = w.1.after;
-          as_before = w.1.as_before;
-          overtakes = w.1.overtakes;
-          lost = w.1.lost;
-          leaves = w.1.leaves;
-        },
-      )
-      go (LogFull holder) w = (w.0, w.1.1)
-
   -- What an attempt answers.
   pub answered : (a : Attempt (List Reply)) (answers : List Reply) (place : Place) → a ≡ WorkDone answers place
       → Attempted k (block_meaning commands) old new a → BlockAttempted k old new commands (Done answers place)
@@ -91,5 +52,5 @@ module _ (k : Causes) (old new : Seat) (commands : List Command) where
       go (Read time) h = read answers time h
 
   pub refused : (a : Attempt (List Reply)) (cause : Cause) → a ≡ WorkAgain cause → Attempted k (block_meaning commands) old new a
-      → BlockGivesUp k old new commands cause
-  refused a cause e h = gives_up cause (subst (λ (x : Attempt (List Reply)). Attempted k (block_meaning commands) old new x) e h)
+      → BlockAttempted k old new commands (Again cause)
+  refused a cause e h = subst (λ (x : Attempt (List Reply)). Attempted k (block_meaning commands) old new x) e h

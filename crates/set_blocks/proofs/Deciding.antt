@@ -15,7 +15,7 @@ use Rattle.set_script.specs.Lawful.{IsLawful, IsOpening}
 use Rattle.set_script.specs.Rules.{capacity}
 use Rattle.section_work.proofs.Entering.{reads_snapshot}
 use Rattle.set_blocks.specs.Blocks.{IsBlock}
-use Rattle.set_blocks.specs.BlockAttempts.{replies_in, block_changes_in}
+use Rattle.set_blocks.specs.BlockMeaning.{replies_in, block_changes_in}
 use Rattle.set_blocks.specs.BlockFindings.{IsBlockFound}
 use Rattle.set_blocks.specs.declared.finding.BlockFinding.TheVariants.{Settled, Open}
 use Rattle.set_blocks.specs.BlockMeaning.{MakesBlock, block_meaning}

@@ -1,4 +1,3 @@
-pub mod Lines
 pub mod SingleBlocks
 pub mod Remaining
 pub mod Tracking
@@ -12,7 +11,6 @@ pub mod TrackedPlans
 pub mod Changing
 pub mod HeldReplies
 pub mod Planning
-pub mod PlainScripts
 pub mod BlockExamples
 pub mod Overlaying
 pub mod Telling

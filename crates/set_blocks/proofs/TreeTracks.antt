@@ -96,7 +96,7 @@ grow_links s root k v p l m w lo lt fits ne law place vm vw o i list =
     let a = grow_site s root k p l m w fits place vm vw ne in from a.0 a.1 a.2 a.3
   where
     over : (b : Bool) (x y : ℕ)
-        → word 1 (cond b (inner_words root x m l) (inner_words root y l m)) ≡ 2
+        → word 1 (cond b (inner_words root x m l 0) (inner_words root y l m 0)) ≡ 2
     over true x y = refl
     over false x y = refl
 

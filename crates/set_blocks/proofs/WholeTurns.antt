@@ -17,7 +17,7 @@ use Rattle.set_script.specs.Replies.{reply, next}
 use Rattle.set_script.specs.Rules.{capacity}
 use Rattle.set_catalog.specs.Replies.{reply_in, changes_in}
 use Rattle.set_blocks.specs.Blocks.{stands_alone, IsBlock}
-use Rattle.set_blocks.specs.BlockAttempts.{replies_in, block_changes_in}
+use Rattle.set_blocks.specs.BlockMeaning.{replies_in, block_changes_in}
 use Rattle.set_blocks.specs.BlockFindings.{IsBlockFound, found_by}
 use Rattle.set_blocks.specs.BlockPlans.{HoldPlan, StepPlan, BlockPlan}
 use Rattle.set_blocks.specs.BlockPlans.HoldPlan.{has_yes, has_no, del_no, add_no, get_none, get_value, put_no, move_from_none, move_to_one, pair_tells}

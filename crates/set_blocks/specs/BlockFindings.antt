@@ -2,7 +2,7 @@
 use Rattle.std.specs.Prelude.{◌≡◌, Bool, true, false, List, if◌then◌else◌}
 use Rattle.mv_history.specs.State.{State, Writes}
 use Rattle.set_script.specs.declared.commands.Command.{Command}
-use Rattle.set_blocks.specs.BlockAttempts.{replies_in, block_changes_in}
+use Rattle.set_blocks.specs.BlockMeaning.{replies_in, block_changes_in}
 use Rattle.set_blocks.specs.BlockPlans.{BlockPlan}
 use Rattle.set_blocks.specs.declared.finding.BlockFinding.{BlockFinding}
 use Rattle.set_blocks.specs.declared.finding.BlockFinding.TheVariants.{Settled, Open}

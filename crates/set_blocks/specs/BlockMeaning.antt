@@ -1,5 +1,5 @@
 -- What a block means, as a work.
-use Rattle.std.specs.Prelude.{ℕ, ◌≡◌, ◌*◌, true, false, List, length}
+use Rattle.std.specs.Prelude.{ℕ, ◌≡◌, ◌*◌, Bool, true, false, List, length}
 use Rattle.mv_history.specs.State.{State, Writes, written}
 use Rattle.mv_history.specs.Drift.{Drifts}
 use Rattle.section_work.specs.Works.{Meaning}
@@ -7,10 +7,16 @@ use Rattle.set_script.specs.declared.commands.Command.{Command}
 use Rattle.set_script.specs.declared.commands.Reply.{Reply}
 use Rattle.set_script.specs.CatalogueOf.{catalogue_of}
 use Rattle.set_script.specs.Rules.{capacity}
-use Rattle.set_blocks.specs.BlockAttempts.{replies_in, block_changes_in}
 use Rattle.set_blocks.specs.BlockPlans.{BlockPlan}
-use Rattle.set_blocks.specs.BlockReplies.{block_next}
+use Rattle.set_blocks.specs.BlockReplies.{block_replies, block_changes, block_next}
 use Rattle.set_blocks.specs.BlockRules.{IsBlockCommit, block_tag}
+
+-- the block's replies in a state, at the last time or not, and whether it changes something there
+abbrev pub replies_in : List Command → State → Bool → List Reply
+replies_in commands s last = block_replies commands (catalogue_of s) (capacity s) last
+
+abbrev pub block_changes_in : List Command → State → Bool → Bool
+block_changes_in commands s last = block_changes commands (catalogue_of s) (capacity s) last
 
 -- what a commit of it makes of the state just before: the block's change, with its replies there
 pub record MakesBlock (commands : List Command) (before after : State) (answers : List Reply) : Type 0 where

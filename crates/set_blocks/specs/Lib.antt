@@ -1,5 +1,4 @@
 pub mod Blocks
-pub mod BlockGrammar
 pub mod BlockReplies
 pub mod BlockRules
 pub mod BlockRuleLaws

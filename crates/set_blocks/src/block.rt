@@ -46,7 +46,7 @@ impl Block {
     }
 
     /// The block of one command. The error is want of memory.
-    pub(crate) fn of_one(alloc: Global, command: Command) -> Result<Block, AllocError>
+    pub fn of_one(alloc: Global, command: Command) -> Result<Block, AllocError>
         ensures { IfOk result (λ block. block ≡ command ∷ []) }
     {
         let mut commands = Vec::new(alloc);

@@ -1,12 +1,9 @@
-// Laws of the grammar of blocks, of their replies, and of their rules, over all texts, commands and states.
+// Laws of the replies of blocks and of their rules, over all commands and states.
 ghost use Rattle.std.specs.Prelude.{◌≡◌, ◌≤◌, ℕ, Bool, List, [], ◌∷◌, length};
 ghost use Rattle.mv_history.specs.declared.history.Entry.{Entry};
 ghost use Rattle.mv_history.specs.State.{State, Writes, written, state_after};
 ghost use Rattle.mv_history.specs.Legal.{IsAllowed};
 ghost use Rattle.mv_history.specs.Drift.{Drifts, IsFit};
-ghost use Rattle.std.specs.List.{AllByRecursion};
-ghost use Rattle.set_script.specs.Grammar.{lines_of, parsed};
-ghost use Rattle.set_blocks.specs.BlockGrammar.{IsPlainLine, as_blocks, parsed_blocks};
 ghost use Rattle.set_script.specs.Catalogue.{Maps};
 ghost use Rattle.set_script.specs.CatalogueOf.{catalogue_of};
 ghost use Rattle.set_script.specs.Lawful.{IsLawful, IsOpening};
@@ -17,11 +14,6 @@ ghost use Rattle.set_script.specs.declared.commands.Reply.{Reply};
 ghost use Rattle.set_blocks.specs.BlockPlans.{BlockPlan};
 ghost use Rattle.set_blocks.specs.BlockReplies.{block_replies, block_changes, block_next, turn_replies, after_turns, some_changes};
 ghost use Rattle.set_blocks.specs.BlockRules.{IsBlockCommit, Remains, block_tag};
-
-/// A script without `begin` and `end` says the blocks of one command each that it says as a script, or has the same first fault.
-pub fn plain_scripts_are_blocks_of_one()
-    ensures { (text : List ℕ) → AllByRecursion IsPlainLine (lines_of text) → parsed_blocks text ≡ as_blocks (parsed text) }
-{}
 
 /// A block of one command replies, changes and leaves what its command does, at the last time too; and each command of a
 /// block has one reply.

@@ -1,9 +1,7 @@
-//! Blocks of set commands: scripts in which several commands are one commit.
+//! Blocks of set commands: several commands as one commit.
 //!
 //! **Model.** A block is a list of 1 to 8 commands, of which a `size` and a `next` are alone
-//! (`specs/Blocks.antt`). A script of blocks is text: the lines of a script, in which `begin` and `end` stand around the
-//! commands of a block, and a command outside is a block of one. Its grammar is a function on bytes
-//! (`specs/BlockGrammar.antt`), which stands on that of `set_script` for everything else.
+//! (`specs/Blocks.antt`). `block_parser` reads blocks of a script's text.
 //!
 //! A block meets a catalogue by its commands one after another; where one of them is `full` all are, and nothing changes;
 //! and where the block would change something at the last time all are `worn` (`specs/BlockReplies.antt`). In a state it
@@ -26,11 +24,10 @@
 //! by its answer (`specs/BlockAttempts.antt`): one entry, with the replies and the change of the block on the state just before
 //! it; or a read; or why the change was given up.
 //!
-//! **Contract.** `parse_blocks` answers exactly the blocks of a script, or its first faulty line and what is wrong with it
-//! first; want of memory is the one free answer. Each `Block` is one, whoever made it. The laws say what the definitions
-//! come to over all texts, commands and states.
+//! **Contract.** Each `Block` is one, whoever made it. The laws say what the definitions come to over all commands and
+//! states.
 //!
-//! **Place.** It stands on `set_script`, whose reading of a line it uses, on the three crates of sets and on `set_catalog`, whose
+//! **Place.** It stands on `set_script`, whose commands it does, on the three crates of sets and on `set_catalog`, whose
 //! places and plans its own speak of, and on `section_work`, which does a block as one section.
 #![tactic(auto)]
 
@@ -38,24 +35,18 @@ mod attempt;
 mod attempting;
 mod block;
 mod block_work;
-mod faults;
 mod finding;
 mod holds;
 mod laws;
 mod overlay;
-mod parsing;
 mod replies;
 mod rules;
 mod turns;
 
 pub use attempt::BlockAttempt;
 pub use attempting::attempt_block;
-pub use block::{Block, MOST_IN_BLOCK};
-pub use faults::{BlockFault, BlockKind};
-pub use laws::{
-    block_plans_are_fit, blocks_of_one, lawful_states_remain, plain_scripts_are_blocks_of_one,
-};
+pub use block::{Block, MOST_IN_BLOCK, stands_alone};
+pub use laws::{block_plans_are_fit, blocks_of_one, lawful_states_remain};
 pub use overlay::Planned;
-pub use parsing::parse_blocks;
 pub use replies::Replies;
 pub use rules::BlockRules;

@@ -14,7 +14,6 @@ pub mod Lone
 pub mod Deciding
 pub mod Planned
 pub mod Decided
-pub mod PlanLocks
 pub mod LawfulTimes
 pub mod Knowing
 pub mod Outcomes

@@ -2,31 +2,24 @@
 use Rattle.std.proofs.Common.{ℕ, ◌≡◌, ◌+◌, ◌<◌, ◌≤◌, length, min, refl, sym, ap, subst, ◌∙◌, arith}
 use Rattle.std.proofs.lemmas.List.{length-take}
 use Rattle.mv_history.specs.State.{State}
-use Rattle.mv_history.specs.Meaning.{Seat, IsSeat, snapshot_of}
-use Rattle.mv_history.specs.Calls.{Continues}
-use Rattle.mv_history.proofs.Steps.{Continues-Continues, length-seen}
-use Rattle.section_work.specs.Attempts.{IsDoneAt, IsReadAt, IsWhy as IsWorkWhy, GivesUp as WorkGivesUp, Attempted as WorkAttempted}
+use Rattle.mv_history.specs.Meaning.{Seat, IsSeat}
+use Rattle.section_work.specs.Attempts.{IsDoneAt, IsReadAt, Attempted as WorkAttempted}
 use Rattle.section_work.specs.Causes.{Causes}
 use Rattle.section_work.specs.Works.{IsPlanned as IsWorkPlanned}
 use Rattle.section_work.specs.declared.attempting.Attempt.{Attempt}
-use Rattle.section_work.specs.declared.attempting.Attempt.TheVariants.{Done as WorkDone, Again as WorkAgain}
-use Rattle.section_work.specs.declared.causes.Cause.{Cause}
-use Rattle.section_work.specs.declared.causes.Cause.TheVariants.{Lock, Rival, LogFull}
+use Rattle.section_work.specs.declared.attempting.Attempt.TheVariants.{Done as WorkDone}
 use Rattle.section_work.specs.declared.place.Place.{Place}
 use Rattle.section_work.specs.declared.place.Place.TheVariants.{Commit as AtCommit, Read}
-use Rattle.section_work.proofs.Stopping.{stops_named}
 use Rattle.set_script.specs.Lawful.{IsOpening}
 use Rattle.set_script.specs.Rules.{IsSetCommit}
 use Rattle.set_script.specs.Tags.{tag_of, command_of}
 use Rattle.set_script.specs.declared.commands.Command.{Command}
-use Rattle.set_script.specs.declared.commands.Reply.{Reply}
 use Rattle.set_script.specs.declared.commands.Reply.TheVariants.{Yes}
-use Rattle.set_catalog.specs.Attempts.{IsDoneBy, IsRead, IsWhy, GivesUp, Attempted}
+use Rattle.set_catalog.specs.Attempts.{IsDoneBy, IsRead, Attempted}
 use Rattle.set_catalog.specs.CommandLaws.{tag_stands}
 use Rattle.set_catalog.specs.CommandMeaning.{command_meaning}
 use Rattle.set_catalog.specs.Findings.{IsPlanned}
 use Rattle.set_catalog.specs.Merges.{writes_in}
-use Rattle.set_catalog.specs.Plans.{Locks}
 use Rattle.set_catalog.specs.Remembering.{IsAfterTheFirst, known_at}
 use Rattle.set_catalog.specs.Shortages.{IsKnown}
 use Rattle.set_catalog.specs.declared.answer.Attempt.TheVariants.{Done}
@@ -34,7 +27,6 @@ use Rattle.set_catalog.specs.declared.command_work.Answer.{Answer}
 use Rattle.set_catalog.specs.declared.plan.Plan.{Plan}
 use Rattle.set_catalog.specs.declared.shortage.Shortage.{Shortage}
 use Rattle.set_catalog.proofs.Knowing.{known_followed}
-use Rattle.set_catalog.proofs.PlanLocks.{plan_locks}
 
 -- what was planned for a command is planned for it as a work
 pub planned_as : (command : Command) (s : State) (plan : Plan) (answer : Answer) → answer.reply ≡ Yes → IsPlanned command s (writes_in plan) answer.gone
@@ -81,48 +73,12 @@ module _ (k : Causes) (old new : Seat) (command : Command) where
     unchanging = r.settles.unchanging;
   }
 
-  -- a change that was given up
-  gives_up_as : (cause : Cause) → WorkGivesUp k (command_meaning command) old new cause → GivesUp k old new command cause
-  gives_up_as cause u = record {
-    mine = u.mine;
-    prepared = u.prepared;
-    prepares = u.prepares;
-    entered = u.entered;
-    enters = u.enters;
-    early = u.early;
-    changing = u.changing;
-    why = go cause u.why;
-  }
-    where
-      go : (c : Cause) → IsWorkWhy k (command_meaning command) (λ holder. (u.prepared.spare < u.prepared.write_max) × k.holds_back old u.prepared holder)
-          u.entered new c → IsWhy k (k.holds_back old u.prepared) command u.entered new c
-      go (Lock refusal) w = (
-        w.left,
-        stops_named k.may_refuse k.found_held _ (Locks command (snapshot_of u.entered)) u.entered w.left refusal
-            (plan_locks command (snapshot_of u.entered) w.writes w.plan.plan) w.stops,
-        w.leaves.continues,
-      )
-      go (Rival rival) w = (
-        w.0,
-        record {
-          before = w.1.before;
-          goes_on = w.1.goes_on;
-          plan = w.1.plan.plan;
-          after = w.1.after;
-          as_before = w.1.as_before;
-          overtakes = w.1.overtakes;
-          lost = w.1.lost;
-          continues = w.1.leaves.continues;
-        },
-      )
-      go (LogFull holder) w = (w.0, w.1.1)
+-- What an attempt leaves, by what it answers.
+pub left_by : (k : Causes) (old new : Seat) (command : Command) (a b : Attempt Answer) → a ≡ b
+    → WorkAttempted k (command_meaning command) old new a → WorkAttempted k (command_meaning command) old new b
+left_by k old new command a b e h = subst (λ (x : Attempt Answer). WorkAttempted k (command_meaning command) old new x) e h
 
--- What an attempt leaves that was done here.
-pub done_from : (k : Causes) (old new : Seat) (command : Command) (a : Attempt Answer) (answer : Answer) (place : Place) → a ≡ WorkDone answer place
-    → WorkAttempted k (command_meaning command) old new a → WorkAttempted k (command_meaning command) old new (WorkDone answer place)
-done_from k old new command a answer place e h = subst (λ (x : Attempt Answer). WorkAttempted k (command_meaning command) old new x) e h
-
--- its clauses, by where that is
+-- its clauses where it was done, by where that is
 pub answered_as : (k : Causes) (old new : Seat) (command : Command) (answer : Answer) (place : Place)
     → WorkAttempted k (command_meaning command) old new (WorkDone answer place) → Attempted k old new command (Done answer.reply place)
 answered_as k old new command answer (AtCommit time) d = done_as k old new command answer time d
@@ -142,24 +98,3 @@ known_then k old new command answer (AtCommit time) known after law d h e =
     (known_followed new known time d.done.commit command law d.done.entry
     (ap command_of d.done.plan.tagged ∙ tag_stands command _ _ d.done.plan.plan) h)
 known_then k old new command answer (Read time) known after law r h e = subst (λ (x : Shortage). IsKnown new x) (sym e) h
-
--- What one leaves that was given up.
-pub gave_up_from : (k : Causes) (old new : Seat) (command : Command) (a : Attempt Answer) (cause : Cause) → a ≡ WorkAgain cause
-    → WorkAttempted k (command_meaning command) old new a → GivesUp k old new command cause
-gave_up_from k old new command a cause e h =
-    gives_up_as k old new command cause (subst (λ (x : Attempt Answer). WorkAttempted k (command_meaning command) old new x) e h)
-
--- no read forgets what was seen, and its time is one of the call
-pub read_continues : (k : Causes) (old new : Seat) (command : Command) (answer : Reply) (time : ℕ) → IsRead k old new command answer time → Continues old new
-read_continues k old new command answer time r =
-    Continues-Continues r.comes (Continues-Continues r.enters.enters.seat.continues r.enters.continues)
-
-pub read_within : (k : Causes) (old new : Seat) (command : Command) (answer : Reply) (time : ℕ) → IsRead k old new command answer time
-    → (old.base + length old.seen ≤ time) × (time ≤ new.base + length new.seen)
-read_within k old new command answer time r =
-    let e = r.enters.enters in
-    let base : r.entered.seat.base ≡ old.base = e.seat.continues.base ∙ r.comes.base in
-    let same : new.base ≡ r.entered.seat.base = r.enters.continues.base in
-    let grew : length old.seen ≤ length r.before.seen = length-seen r.comes in
-    let later : length r.entered.seat.seen ≤ length new.seen = length-seen r.enters.continues in
-    (omega (arith, r.time_is, e.at), omega (arith, r.time_is, r.enters.at))

@@ -1,6 +1,6 @@
 -- What a command locks and writes in a state: the objects, in the order of locking, with their new words.
-use Rattle.std.specs.Prelude.{ℕ, ◌≡◌, ◌≢◌, ◌+◌, ◌-◌, ◌*◌, ◌%◌, ◌<◌, ◌≤◌, ◌⊎◌, nat_lt, true, if◌then◌else◌}
-use Rattle.mv_history.specs.State.{State, Writes, written, touches}
+use Rattle.std.specs.Prelude.{ℕ, ◌≡◌, ◌≢◌, ◌+◌, ◌-◌, ◌*◌, ◌%◌, ◌<◌, ◌≤◌, ◌⊎◌, nat_lt, if◌then◌else◌}
+use Rattle.mv_history.specs.State.{State, Writes, written}
 use Rattle.set_script.specs.declared.commands.Command.{Command}
 use Rattle.set_script.specs.declared.commands.Command.TheVariants.{Add, Put, Del, Move}
 use Rattle.set_script.specs.Objects.{link, value}
@@ -60,29 +60,6 @@ PlanOf (Put name key v) s ws = PutPlan s name key v ws ⊎ ((first : ℕ) × (se
 PlanOf (Del name key) s ws = (node : ℕ) × (inner : ℕ) × DelPlan s name key node inner ws
 PlanOf (Move source target key) s ws = MovePlan s source target key ws
 PlanOf command s ws = ⊥
-
--- the object is one of those that a del locks, an add, or a put of a key that is there
-abbrev pub DelLocks : State → ℕ → ℕ → ℕ → Type 0
-DelLocks s name key o = (node : ℕ) × (inner : ℕ) × (ws : Writes) × DelPlan s name key node inner ws × (touches ws o ≡ true)
-
-abbrev pub AddLocks : State → ℕ → ℕ → ℕ → ℕ → Type 0
-AddLocks s name key v o = (first : ℕ) × (second : ℕ) × (ws : Writes) × AddPlan s name key v first second ws × (touches ws o ≡ true)
-
-abbrev pub PutLocks : State → ℕ → ℕ → ℕ → ℕ → Type 0
-PutLocks s name key v o = (ws : Writes) × PutPlan s name key v ws × (touches ws o ≡ true)
-
--- or by a move's add, in the state that its del leaves
-abbrev pub MoveLocks : State → ℕ → ℕ → ℕ → ℕ → Type 0
-MoveLocks s source target key o =
-    (node : ℕ) × (inner : ℕ) × (ws : Writes) × DelPlan s source key node inner ws × AddLocks (written s ws) target key (value s node) o
-
--- The object is one of those that the command locks.
-abbrev pub Locks : Command → State → ℕ → Type 0
-Locks (Add name key) s o = AddLocks s name key 0 o
-Locks (Put name key v) s o = PutLocks s name key v o ⊎ AddLocks s name key v o
-Locks (Del name key) s o = DelLocks s name key o
-Locks (Move source target key) s o = DelLocks s source key o ⊎ MoveLocks s source target key o
-Locks command s o = ⊥
 
 -- a del left these objects vacant, the second of them 0 where there is but one; of another command none is told
 abbrev pub GoneBy : Command → State → Writes → ℕ → ℕ → Type 0

@@ -5,10 +5,10 @@ use Rattle.mv_history.specs.State.{State}
 use Rattle.mv_history.specs.Meaning.{words_at}
 use Rattle.set_script.specs.Objects.{owner}
 use Rattle.set_script.specs.Lists.{Nodes, IsList}
-use Rattle.set_script.specs.Trees.{Tree, Stands, IsGrown, IsTree, EndsAt}
+use Rattle.set_script.specs.Trees.{Tree, top, Stands, IsGrown, IsTree, EndsAt}
 use Rattle.set_script.specs.Trees.Tree.{leaf, inner}
 use Rattle.set_script.specs.Lawful.{IsLawful}
-use Rattle.set_script.proofs.ObjectWords.{word}
+use Rattle.set_script.proofs.ObjectWords.{word, inner_kept}
 use Rattle.set_script.proofs.Chains.{Links-kept, Links-owner, Links-node}
 
 -- vacant, or owned by the head
@@ -59,7 +59,7 @@ pub Stands-kept : (s s' : State) (root : ℕ) (t : Tree) → Stands s root t →
     → Stands s' root t
 Stands-kept s s' root (leaf n k v) l f = (l.0, l.1, f n l.0 (ap (word 0) l.2) ∙ l.2)
 Stands-kept s s' root (inner n d a b) l f =
-    (l.0, l.1, f n l.0 (ap (word 0) l.2) ∙ l.2, Stands-kept s s' root a l.3 f, Stands-kept s s' root b l.4 f)
+    (l.0, l.1, inner_kept s s' root d (top a) (top b) n (f n l.0 (ap (word 0) l.2)) l.2, Stands-kept s s' root a l.3 f, Stands-kept s s' root b l.4 f)
 
 pub grown_stays : (s s' : State) (head g : ℕ) (t : Tree) → head < 180 → IsWithin s s' head → g ≢ head → g < 180 → IsGrown s g t → IsGrown s' g t
 grown_stays s s' head g t lh w n lg l = record {

@@ -1,9 +1,3 @@
-pub mod Words
-pub mod Numerals
-pub mod Lines
-pub mod LineFaults
-pub mod LineTexts
-pub mod PlainLines
 pub mod MapLaws
 pub mod KeyMaps
 pub mod ObjectWords
@@ -33,5 +27,3 @@ pub mod TwoWays
 pub mod Fits
 pub mod Times
 pub mod ReplyExamples
-pub mod Scripts
-pub mod Texts

@@ -1,8 +1,8 @@
 -- The words of objects.
-use Rattle.std.proofs.Common.{◌≡◌, ℕ, zero, suc, ◌<◌, List, [], ◌∷◌, length, get_or, refl, arith}
+use Rattle.std.proofs.Common.{◌≡◌, ℕ, zero, suc, ◌<◌, List, [], ◌∷◌, length, get_or, refl, sym, ap, ◌∙◌, arith}
 use Rattle.mv_history.specs.State.{State}
 use Rattle.mv_history.specs.Meaning.{words_at}
-use Rattle.set_script.specs.Objects.{owner, relink, revalue}
+use Rattle.set_script.specs.Objects.{owner, rank, inner_words, relink, revalue}
 
 -- one word of an object
 abbrev pub word : ℕ → List ℕ → ℕ
@@ -18,6 +18,11 @@ pub owned_in_range : (s : State) (o head : ℕ) → owner s o ≡ suc head → o
 owned_in_range [] o head e = cc
 owned_in_range (x ∷ s) zero head e = omega arith
 owned_in_range (x ∷ s) (suc o) head e = let h : o < length s = owned_in_range s o head e in omega arith
+
+-- an inner node that keeps its words keeps them with its rank
+pub inner_kept : (s s' : State) (root key left right o : ℕ) → words_at s' o ≡ words_at s o → words_at s o ≡ inner_words root key left right (rank s o)
+    → words_at s' o ≡ inner_words root key left right (rank s' o)
+inner_kept s s' root key left right o e f = e ∙ f ∙ ap (λ r. inner_words root key left right r) (sym (ap (word 5) e))
 
 -- what an object keeps whose link changes
 pub owner-relink : (w : List ℕ) (to : ℕ) → word 0 (relink w to) ≡ word 0 w

@@ -9,7 +9,7 @@ use Rattle.section_work.proofs.Objects.{IsIn, in_left, in_right, in_either}
 use Rattle.set_script.specs.Objects.{owner, kind, link, right_link}
 use Rattle.set_script.specs.Trees.{Tree, top, objects_in, is_in, IsDistinct, entries_in, Stands, IsGrown, seek}
 use Rattle.set_script.specs.Trees.Tree.{leaf, inner}
-use Rattle.set_script.proofs.ObjectWords.{word}
+use Rattle.set_script.proofs.ObjectWords.{word, inner_kept}
 
 pub IsIn-from : (o : ℕ) (ns : List ℕ) → is_in o ns ≡ true → IsIn o ns
 IsIn-from o [] e = cc
@@ -94,7 +94,7 @@ Stands-same s s' root (leaf n k v) l f = (l.0, l.1, f n (inl refl) ∙ l.2)
 Stands-same s s' root (inner n d a b) l f = (
   l.0,
   l.1,
-  f n (inl refl) ∙ l.2,
+  inner_kept s s' root d (top a) (top b) n (f n (inl refl)) l.2,
   Stands-same s s' root a l.3 (λ o i. f o (inr (in_left (objects_in a) (objects_in b) o i))),
   Stands-same s s' root b l.4 (λ o i. f o (inr (in_right (objects_in a) (objects_in b) o i))),
 )

@@ -10,6 +10,4 @@ pub mod LawfulLaws
 pub mod Tags
 pub mod Rules
 pub mod RuleLaws
-pub mod Formats
-pub mod Grammar
-pub mod GrammarLaws
+pub mod Names

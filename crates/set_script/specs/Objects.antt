@@ -1,4 +1,4 @@
--- The words of the sets' objects. An object has six: its owner, kind, key, link, right link and value.
+-- The words of the sets' objects. An object has six: its owner, kind, key, link, right link, and value or rank.
 use Rattle.std.specs.Prelude.{ℕ, suc, List, [], ◌∷◌, set, slice_index_or}
 use Rattle.mv_history.specs.State.{State}
 use Rattle.mv_history.specs.Meaning.{words_at}
@@ -35,6 +35,10 @@ right_link s o = slice_index_or (words_at s o) 4 0
 abbrev pub value : State → ℕ → ℕ
 value s o = slice_index_or (words_at s o) 5 0
 
+-- the rank of an inner node, which a change of a tree may set as it likes
+abbrev pub rank : State → ℕ → ℕ
+rank s o = slice_index_or (words_at s o) 5 0
+
 -- the words of a head that leads to this node
 abbrev pub head_words : ℕ → List ℕ
 head_words first = 0 ∷ 0 ∷ 0 ∷ first ∷ 0 ∷ 0 ∷ []
@@ -47,9 +51,9 @@ list_words head key value next = suc head ∷ 0 ∷ key ∷ next ∷ 0 ∷ value
 abbrev pub leaf_words : ℕ → ℕ → ℕ → List ℕ
 leaf_words root key value = suc root ∷ 1 ∷ key ∷ 0 ∷ 0 ∷ value ∷ []
 
--- the words of an inner node in the tree of this root, that divides its children at this key
-abbrev pub inner_words : ℕ → ℕ → ℕ → ℕ → List ℕ
-inner_words root key left right = suc root ∷ 2 ∷ key ∷ left ∷ right ∷ 0 ∷ []
+-- the words of an inner node in the tree of this root, that divides its children at this key and has this rank
+abbrev pub inner_words : ℕ → ℕ → ℕ → ℕ → ℕ → List ℕ
+inner_words root key left right rank = suc root ∷ 2 ∷ key ∷ left ∷ right ∷ rank ∷ []
 
 -- the words of a vacant object
 abbrev pub no_words : List ℕ

@@ -5,7 +5,7 @@ use Rattle.std.proofs.Props.{props}
 use mathlib.Core.HLevel.{Σ_prop_path}
 use Rattle.mv_history.specs.State.{State}
 use Rattle.mv_history.specs.Meaning.{words_at}
-use Rattle.set_script.specs.Objects.{first_node, owner, head_words, leaf_words, inner_words}
+use Rattle.set_script.specs.Objects.{first_node, owner, rank, head_words, leaf_words, inner_words}
 use Rattle.set_script.specs.Trees.{Tree, top, objects_in, is_in, IsDistinct, AllBelow, AllFrom, IsOrdered, Stands, IsGrown, IsTree, seek, EndsAt}
 use Rattle.set_script.specs.Trees.Tree.{leaf, inner}
 
@@ -22,15 +22,15 @@ stands_once s root (leaf n k v) (leaf m j w) l q e =
     let b : v ≡ w = ap (λ x. slice_index_or x 5 0) f in
     λ i. leaf (e i) (a i) (b i)
 stands_once s root (leaf n k v) (inner m d a b) l q e =
-    let f : leaf_words root k v ≡ inner_words root d (top a) (top b) = sym l.2 ∙ ap (words_at s) e ∙ q.2 in
+    let f : leaf_words root k v ≡ inner_words root d (top a) (top b) (rank s m) = sym l.2 ∙ ap (words_at s) e ∙ q.2 in
     let kinds : ◌≡◌ {A = ℕ} 1 2 = ap (λ x. slice_index_or x 1 0) f in
     absurd (omega arith)
 stands_once s root (inner m d a b) (leaf n k v) l q e =
-    let f : inner_words root d (top a) (top b) ≡ leaf_words root k v = sym l.2 ∙ ap (words_at s) e ∙ q.2 in
+    let f : inner_words root d (top a) (top b) (rank s m) ≡ leaf_words root k v = sym l.2 ∙ ap (words_at s) e ∙ q.2 in
     let kinds : ◌≡◌ {A = ℕ} 2 1 = ap (λ x. slice_index_or x 1 0) f in
     absurd (omega arith)
 stands_once s root (inner n d a b) (inner m c x y) l q e =
-    let f : inner_words root d (top a) (top b) ≡ inner_words root c (top x) (top y) = sym l.2 ∙ ap (words_at s) e ∙ q.2 in
+    let f : inner_words root d (top a) (top b) (rank s n) ≡ inner_words root c (top x) (top y) (rank s m) = sym l.2 ∙ ap (words_at s) e ∙ q.2 in
     let keys : d ≡ c = ap (λ w. slice_index_or w 2 0) f in
     let lefts : top a ≡ top x = ap (λ w. slice_index_or w 3 0) f in
     let rights : top b ≡ top y = ap (λ w. slice_index_or w 4 0) f in

@@ -4,7 +4,7 @@ use Rattle.std.specs.Prelude.{List, [], ◌∷◌, ◌++◌, Option, Some, None}
 use Rattle.mv_history.specs.State.{State}
 use Rattle.mv_history.specs.Meaning.{words_at}
 use Rattle.set_script.specs.Catalogue.{Map}
-use Rattle.set_script.specs.Objects.{first_node, owner, head_words, leaf_words, inner_words}
+use Rattle.set_script.specs.Objects.{first_node, owner, rank, head_words, leaf_words, inner_words}
 
 pub data Tree : Type 0 where
   -- an object with its key and value
@@ -52,11 +52,11 @@ abbrev pub IsOrdered : Tree → Type 0
 IsOrdered (leaf n k v) = ⊤
 IsOrdered (inner n d a b) = AllBelow d a × AllFrom d b × IsOrdered a × IsOrdered b
 
--- each object's words are those of its kind, and lead to its children
+-- each object's words are those of its kind, and lead to its children; an inner node has whatever rank it has
 abbrev pub Stands : State → ℕ → Tree → Type 0
 Stands s root (leaf n k v) = (first_node ≤ n) × (k < 2 ^ 32) × (words_at s n ≡ leaf_words root k v)
 Stands s root (inner n d a b) =
-    (first_node ≤ n) × (d < 2 ^ 32) × (words_at s n ≡ inner_words root d (top a) (top b)) × Stands s root a × Stands s root b
+    (first_node ≤ n) × (d < 2 ^ 32) × (words_at s n ≡ inner_words root d (top a) (top b) (rank s n)) × Stands s root a × Stands s root b
 
 -- The root leads to this ordered tree, of distinct objects, and they are all that name it as their owner.
 pub record IsGrown (s : State) (root : ℕ) (t : Tree) : Type 0 where

@@ -1,6 +1,5 @@
-// The commands of a script, their replies, and where a command took place.
-ghost use Rattle.std.specs.Prelude.{◌≡◌, ◌==◌, ◌≤◌, ◌<◌, MatchOption};
-ghost use Rattle.set_script.specs.Formats.{IsFormat};
+// The commands of a script, and their replies.
+ghost use Rattle.std.specs.Prelude.{◌≡◌, ◌≤◌, ◌<◌, MatchOption};
 
 use std::marker::Model;
 
@@ -114,87 +113,4 @@ pub enum Reply {
     NoKey,
     /// The value of a `Get`.
     Value { value: u64 },
-}
-
-/// What is wrong with a line of a script.
-#[derive(Clone, Copy, Debug, Drop, PartialEq, Eq)]
-pub enum FaultKind {
-    /// The first word is no command of the script's format.
-    Word,
-    /// The number of words is not the command's.
-    Count,
-    /// The first line with words names a format, and it is neither `1` nor `2`.
-    Format,
-    /// A name is not one of the 30.
-    Name,
-    /// A key is not 1 to 10 decimal digits of a number up to 4294967295.
-    Key,
-    /// A value is not 1 to 20 decimal digits of a number up to 18446744073709551615.
-    Value,
-    /// A move names one set twice.
-    Same,
-    /// The line's command is one too many.
-    Many,
-}
-
-/// Why a script has no commands.
-#[derive(Clone, Copy, Debug, Drop, PartialEq, Eq)]
-pub enum ScriptFault {
-    /// The first faulty line, counted from 1, and what is wrong with it.
-    At { line: u32, kind: FaultKind },
-    /// Want of memory.
-    Memory,
-}
-
-/// The format of a script: 1, or 2, which has `put` and `get` besides.
-#[derive(Clone, Copy, Debug, Drop, PartialEq, Eq)]
-pub struct Format {
-    number: u32,
-}
-
-impl Model for Format {
-    ghost use Rattle.std.specs.Prelude.{ℕ};
-    ghost use Rattle.set_script.specs.Formats.{IsFormat};
-
-    ghost Value = { ℕ };
-
-    ghost view = { λ f. f.number };
-
-    ghost inverse = { λ n. record { number = n } };
-
-    ghost invariant = { λ f. IsFormat f.number };
-}
-
-impl Format {
-    /// The format of this number. None exactly where it is neither 1 nor 2.
-    pub fn new(number: u32) -> Option<Format>
-        ensures { MatchOption result (IsFormat number → ⊥) (λ format. (format ≡ number) × IsFormat number) }
-    {
-        if number == 1 || number == 2 {
-            Some(Format { number })
-        } else {
-            None
-        }
-    }
-
-    /// Format 1, that of a script which names none.
-    pub(crate) fn plain() -> Format
-        ensures { result ≡ 1 }
-    {
-        Format { number: 1 }
-    }
-
-    /// Format 2.
-    pub(crate) fn valued() -> Format
-        ensures { result ≡ 2 }
-    {
-        Format { number: 2 }
-    }
-
-    /// Whether `put` and `get` are commands.
-    pub(crate) fn has_values(&self) -> bool
-        ensures { result ≡ (self.now == 2) }
-    {
-        self.number == 2
-    }
 }

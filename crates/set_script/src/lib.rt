@@ -1,25 +1,22 @@
-//! Scripts of set commands, what their replies mean, and the states that stand for a catalogue.
+//! Set commands, what their replies mean, and the states that stand for a catalogue.
 //!
 //! **Model.** A catalogue is 30 maps, one for each name, from keys to values; a map is the list of
 //! its keys, rising, each with its value (`specs/Catalogue.antt`). A command has a reply on a
 //! catalogue, and leaves one (`specs/Replies.antt`). A state of six-word objects is lawful where
 //! its heads lead through lists of nodes with rising keys and every other node is vacant
 //! (`specs/Lawful.antt`); then it stands for the catalogue of its nodes (`specs/CatalogueOf.antt`).
-//! It does so in one way at most. A script is text, and its grammar a function on bytes
-//! (`specs/Grammar.antt`).
+//! It does so in one way at most.
 //!
 //! **Rules.** `SetRules` are the rules of the sets: which states a store begins with, and which commits
 //! it takes (`specs/Rules.antt`). What of a section's writes stays allowed while others commit is
 //! proved once over the ways to change a map (`proofs/Ways.antt`, `proofs/TwoWays.antt`), and for
 //! each add, put, del and move over any of these (`proofs/Fits.antt`).
 //!
-//! **Contract.** `parse` answers exactly the commands of a script, or its first faulty line and
-//! what is wrong with it first; want of memory is the one free answer. `Catalogue` is such a
-//! catalogue in memory, and each call says which maps it leaves.
+//! **Contract.** `Catalogue` is such a catalogue in memory, and each call says which maps it leaves.
 //!
 //! **Place.** It stands on `mv_history`, whose states it speaks of, and on `section_work` for what
 //! locks and writes leave of a section. `list_set` changes lawful
-//! states, `run_report` replays commands over catalogues, and the program parses its file here.
+//! states, `run_report` replays commands over catalogues, and `script_parser` reads commands.
 //! The lemmas in `proofs/` on lists, maps and states are for the crates above.
 #![tactic(auto)]
 
@@ -29,9 +26,6 @@ mod rules;
 mod script;
 
 pub use catalogue::Catalogue;
-pub use commands::{Command, FaultKind, Format, Name, Reply, ScriptFault};
+pub use commands::{Command, Name, Reply};
 pub use rules::SetRules;
-pub use script::{
-    MOST_COMMANDS, commands_read_back, first_word, parse, parse_is_exact, parse_line, read_line,
-    read_value, same_word, strip_carriage_return,
-};
+pub use script::MOST_COMMANDS;

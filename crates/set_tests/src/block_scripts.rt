@@ -1,8 +1,10 @@
 // Scripts of blocks that are accepted, and those that are refused, with their line and their fault; and which commands are a block.
 use crate::asked::Ask::{Add, Put, Size};
 use crate::asked::{Ask, commands_of, expect_commands};
-use set_blocks::{Block, BlockFault, BlockKind, parse_blocks};
-use set_script::{FaultKind, MOST_COMMANDS};
+use block_parser::{BlockFault, BlockKind, parse_blocks};
+use script_parser::FaultKind;
+use set_blocks::Block;
+use set_script::MOST_COMMANDS;
 use std::alloc::{AllocError, Global};
 use std::process::Abort;
 use std::test::*;

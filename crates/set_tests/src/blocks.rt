@@ -3,7 +3,8 @@ ghost use Rattle.std.specs.Prelude.{◌≡◌, ◌<◌, ◌≤◌, length, IfOk}
 
 use crate::asked::Ask::{Add, Del, Get, Has, Move, Next, Pair, Put, Size};
 use crate::asked::{Ask, commands_of};
-use mv_history::{PlainStore, Store, WORDS};
+use mv_history::{Store, WORDS};
+use plain_store::PlainStore;
 use section_work::Place;
 use section_work::Place::{Commit, Read};
 use set_blocks::{Block, BlockAttempt, BlockRules, Replies, attempt_block};

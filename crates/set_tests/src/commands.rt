@@ -3,7 +3,8 @@ ghost use Rattle.std.specs.Prelude.{◌≡◌, ◌<◌, ◌≤◌, length, IfOk}
 
 use crate::asked::Ask::{Add, Del, Get, Move, Put};
 use crate::asked::{Ask, attempt_hinting, command, expect_attempt};
-use mv_history::{PlainStore, Section, Store, WORDS};
+use mv_history::{Section, Store, WORDS};
+use plain_store::PlainStore;
 use section_work::Place;
 use section_work::Place::{Commit, Read};
 use set_catalog::{Attempt, Hints, attempt, read_all};

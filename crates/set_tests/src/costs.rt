@@ -5,7 +5,8 @@ ghost use Rattle.std.specs.Prelude.{◌≡◌, ◌<◌, ◌≤◌, length, IfOk}
 use crate::asked::Ask::{Add, Del, Has, Move, Next, Put, Size};
 use crate::asked::{Ask, attempt_hinting, command, expect_attempt};
 use crate::counted::Counted;
-use mv_history::{PlainStore, Section, Store, WORDS};
+use mv_history::{Section, Store, WORDS};
+use plain_store::PlainStore;
 use section_work::Place;
 use section_work::Place::{Commit, Read};
 use set_catalog::{Attempt, HintedStore, Hints, read_all};

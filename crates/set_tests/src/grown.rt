@@ -4,7 +4,8 @@ ghost use Rattle.grow_hash.specs.GrowPlans.{IsOfGrown};
 
 use crate::counted::Counted;
 use grow_hash::{GrowRules, GrowStep, attempt_grow};
-use mv_history::{PlainStore, Store, View, WORDS};
+use mv_history::{Store, View, WORDS};
+use plain_store::PlainStore;
 use section_work::Place;
 use set_script::{Command, Name, Reply};
 use std::alloc::{AllocError, Global};

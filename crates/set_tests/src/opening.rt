@@ -4,7 +4,8 @@ ghost use Rattle.set_script.specs.Objects.{no_words};
 ghost use Rattle.list_set.specs.Filling.{IsFilled as AreListsFilled};
 ghost use Rattle.tree_set.specs.Filling.{IsFilled as IsTreeFilled};
 
-use mv_history::{AnyRules, PlainSection, PlainStore, Section, Store, WORDS, Words};
+use mv_history::{AnyRules, Section, Store, WORDS, Words};
+use plain_store::{PlainSection, PlainStore};
 use std::alloc::{AllocError, Global};
 
 // So many objects of zeros.

@@ -2,7 +2,8 @@
 ghost use Rattle.std.specs.Prelude.{◌<◌, ◌≤◌};
 
 use crate::counted::Counted;
-use mv_history::{AnyRules, PlainSection, PlainStore, Section, Store, View, WORDS};
+use mv_history::{AnyRules, Section, Store, View, WORDS};
+use plain_store::{PlainSection, PlainStore};
 use set_catalog::{Hints, Picked, pick};
 use std::alloc::{AllocError, Global};
 use std::process::Abort;

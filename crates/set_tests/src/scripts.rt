@@ -1,7 +1,8 @@
 // Scripts that are accepted, and scripts that are refused, with their line and their fault.
 use crate::asked::Ask::{Add, Del, Get, Has, Move, Next, Pair, Put, Size};
 use crate::asked::{Ask, command, expect_commands, name};
-use set_script::{Command, FaultKind, Format, MOST_COMMANDS, Name, ScriptFault, parse, parse_line};
+use script_parser::{FaultKind, Format, ScriptFault, parse, parse_line};
+use set_script::{Command, MOST_COMMANDS, Name};
 use std::alloc::{AllocError, Global};
 use std::process::Abort;
 use std::test::*;

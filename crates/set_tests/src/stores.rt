@@ -1,12 +1,10 @@
 // What the plain store does when it runs.
 ghost use Rattle.std.specs.Prelude.{◌≡◌, ◌<◌, ◌≤◌, length, IfOk};
-ghost use Rattle.mv_history.specs.PlainMeaning.{seat_of};
+ghost use Rattle.plain_store.specs.Meaning.{seat_of};
 ghost use Rattle.mv_history.specs.Calls.{GoesOn};
 
-use mv_history::{
-    AnyRules, CommitAnswer, LockAnswer, PlainSection, PlainStore, Room, Section, Store, View,
-    WORDS, Words,
-};
+use mv_history::{AnyRules, CommitAnswer, LockAnswer, Room, Section, Store, View, WORDS, Words};
+use plain_store::{PlainSection, PlainStore};
 use std::alloc::{AllocError, Global};
 use std::process::Abort;
 use std::test::*;

@@ -8,7 +8,7 @@ use Rattle.step_replay.specs.declared.heads.Heads.TheVariants.{Seats, Objects, S
 use Rattle.mv_layout.specs.declared.config.Config.{Config}
 use Rattle.replay_rules.specs.declared.plan.PlanFault.{PlanFault}
 use Rattle.replay_rules.specs.declared.plan.PlanFault.TheVariants.{At, Memory}
-use Rattle.set_script.specs.Grammar.{◌>>=◌, lines_of, words_of}
+use Rattle.script_parser.specs.Grammar.{◌>>=◌, lines_of, words_of}
 use Rattle.step_replay.specs.PlanTexts.{Said, line_taken, at_line, said_after, nothing_said, last_line, finished, planned, Refuses}
 use Rattle.replay_rules.specs.Plans.{PlanOf}
 

@@ -5,7 +5,7 @@ use Rattle.std.specs.Prelude.{Result, Ok, Err, if◌then◌else◌}
 use Rattle.std.specs.Str.{bytes_eq}
 use Rattle.std.specs.Str.Parse.{digits_value}
 use Rattle.mv_layout.specs.declared.config.Config.{Config}
-use Rattle.set_script.specs.Grammar.{◌>>=◌, lines_of, words_of, is_numeral}
+use Rattle.script_parser.specs.Grammar.{◌>>=◌, lines_of, words_of, is_numeral}
 use Rattle.replay_rules.specs.declared.plan.Call.{Call}
 use Rattle.replay_rules.specs.declared.plan.Call.TheVariants as calls
 use Rattle.replay_rules.specs.declared.plan.CallOf.{CallOf}

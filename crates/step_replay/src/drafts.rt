@@ -9,7 +9,7 @@
 // `enter`, `read O`, `lock O`, `write O` with six words, `commit`, `abort`, `leave` and `tidy`. A number is 1 to 20
 // decimal digits.
 ghost use Rattle.std.specs.Prelude.{◌≡◌, ◌-◌, ◌<◌, ◌^◌, ◌∷◌, IfOk, MatchResult, Ok, length};
-ghost use Rattle.set_script.specs.Grammar.{lines_of, words_of, words_in};
+ghost use Rattle.script_parser.specs.Grammar.{lines_of, words_of, words_in};
 ghost use Rattle.step_replay.specs.PlanTexts.{line_taken, last_line, said_of, at_line, planned, Refuses};
 ghost use Rattle.replay_rules.specs.Plans.{plan_of};
 ghost use Rattle.step_replay.specs.FitDrafts.{IsFitSaid};
@@ -18,7 +18,7 @@ ghost use Rattle.replay_rules.specs.FitPlans.{IsFitPlan};
 use crate::body::{read_call, take_steps};
 use crate::heads::{Heads, next_heads};
 use replay_rules::{CallOf, Plan, PlanFault, PlanKind};
-use set_script::{first_word, same_word, strip_carriage_return};
+use script_parser::{first_word, same_word, strip_carriage_return};
 use std::alloc::Global;
 
 /// What the lines so far say.

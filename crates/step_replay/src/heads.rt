@@ -1,6 +1,6 @@
 // The first four lines of a plan: the numbers of its domain.
 ghost use Rattle.std.specs.Prelude.{◌≡◌, ◌≤◌, IfOk};
-ghost use Rattle.set_script.specs.Grammar.{words_in};
+ghost use Rattle.script_parser.specs.Grammar.{words_in};
 ghost use Rattle.replay_rules.specs.Plans.{config_of};
 ghost use Rattle.step_replay.specs.PlanTexts.{head_taken};
 ghost use Rattle.step_replay.specs.FitDrafts.{AreFitHeads};
@@ -9,7 +9,7 @@ ghost use Rattle.replay_rules.specs.FitPlans.{IsFitConfig};
 use crate::numbers::read_single;
 use mv_layout::{Config, LAST};
 use replay_rules::PlanKind;
-use set_script::same_word;
+use script_parser::same_word;
 
 // How many objects a section may hold.
 const WRITE_MAX: u32 = 16;

@@ -1,12 +1,12 @@
 // The numbers of a line.
 ghost use Rattle.std.specs.Prelude.{◌≡◌, ◌≤◌, ◌==◌, IfOk, MatchResult, Ok, Err, length};
-ghost use Rattle.set_script.specs.Grammar.{words_in};
+ghost use Rattle.script_parser.specs.Grammar.{words_in};
 ghost use Rattle.replay_rules.specs.FitPlans.{AreSixWords};
 ghost use Rattle.step_replay.specs.PlanTexts.{number_in, next_number, single, numbers_of_six};
 
 use mv_history::Words;
 use replay_rules::PlanKind;
-use set_script::{first_word, read_value};
+use script_parser::{first_word, read_value};
 
 /// The number of a word, within these bounds. `Err` is `Number`.
 pub fn read_number(word: &[u8], least: u64, most: u64) -> Result<u64, PlanKind>

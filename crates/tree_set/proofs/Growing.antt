@@ -17,7 +17,7 @@ use Rattle.tree_set.specs.Paths.Turn.{left, right}
 use Rattle.tree_set.specs.Places.{redirect, inner_over}
 use Rattle.tree_set.proofs.Plugging.{plug_in, plug_apart, stands_part, IsWithin as IsBeside, ordered_within, seek_plug, seek_beside}
 use Rattle.tree_set.proofs.Around.{around_owner, parent_at, part_not_parent, owned_not_vacant}
-use Rattle.tree_set.proofs.Replacing.{Replaced, replaced, redirect_keeps}
+use Rattle.tree_set.proofs.Replacing.{Replaced, replaced, redirect_keeps, ranked}
 
 -- the words of the new leaf m, the new inner node w and the parent p; the rest is as before
 pub record Sprouts (s s' : State) (root k v p l m w : ℕ) : Type 0 where
@@ -139,8 +139,13 @@ module _ (s s' : State) (root k v p l m w j x : ℕ) (ps : Path) (lt : root < 18
   below_old lo =
       subst (λ (u : Tree). Replaced s s' root ps (leaf l j x) u)
       (sym (ap (λ (b : Bool). cond b (inner w j (leaf m k v) (leaf l j x)) (inner w k (leaf l j x) (leaf m k v))) (lt-ltb k j lo)))
-      (sprouted_as (inner w j (leaf m k v) (leaf l j x)) refl
-      (a.new_inner.0, stood.1, inner_is ∙ ap (λ (b : Bool). cond b (inner_words root j m l) (inner_words root k l m)) (lt-ltb k j lo), new_stands, old_stands)
+      (sprouted_as (inner w j (leaf m k v) (leaf l j x)) refl (
+        a.new_inner.0,
+        stood.1,
+        ranked s' root j m l 0 w (inner_is ∙ ap (λ (b : Bool). cond b (inner_words root j m l 0) (inner_words root k l m 0)) (lt-ltb k j lo)),
+        new_stands,
+        old_stands,
+      )
       (lo, omega arith, tt, tt)
       (beside_both ps w j (leaf m k v) (leaf l j x) (beside_leaf ps m k v a.follows) (ordered_within ps (leaf l j x) a.grown.ordered)) (
         is_in-none w (m ∷ l ∷ []) (λ i. elim i [ inl e ↦ w_not_m e | inr (inl e) ↦ w_not_l e | inr (inr e) ↦ e ]),
@@ -154,8 +159,13 @@ module _ (s s' : State) (root k v p l m w j x : ℕ) (ps : Path) (lt : root < 18
       let le : j ≤ k = omega arith in
       subst (λ (u : Tree). Replaced s s' root ps (leaf l j x) u)
       (sym (ap (λ (b : Bool). cond b (inner w j (leaf m k v) (leaf l j x)) (inner w k (leaf l j x) (leaf m k v))) (le-ltb k j le)))
-      (sprouted_as (inner w k (leaf l j x) (leaf m k v)) refl
-      (a.new_inner.0, a.fits, inner_is ∙ ap (λ (b : Bool). cond b (inner_words root j m l) (inner_words root k l m)) (le-ltb k j le), old_stands, new_stands)
+      (sprouted_as (inner w k (leaf l j x) (leaf m k v)) refl (
+        a.new_inner.0,
+        a.fits,
+        ranked s' root k l m 0 w (inner_is ∙ ap (λ (b : Bool). cond b (inner_words root j m l 0) (inner_words root k l m 0)) (le-ltb k j le)),
+        old_stands,
+        new_stands,
+      )
       (hi, omega arith, tt, tt)
       (beside_both ps w k (leaf l j x) (leaf m k v) (ordered_within ps (leaf l j x) a.grown.ordered) (beside_leaf ps m k v a.follows)) (
         is_in-none w (l ∷ m ∷ []) (λ i. elim i [ inl e ↦ w_not_l e | inr (inl e) ↦ w_not_m e | inr (inr e) ↦ e ]),
@@ -187,7 +197,7 @@ module _ (s s' : State) (root k v p l m w j x : ℕ) (ps : Path) (lt : root < 18
           let lo : 180 ≤ w = a.new_inner.0 in
           inr (inr (omega arith, inl (ap (owner s) e ∙ a.new_inner.2), inr (ap (owner s') e ∙ inner_owner)))
         where
-          over : (b : Bool) → word 0 (cond b (inner_words root (key s l) m l) (inner_words root k l m)) ≡ suc root
+          over : (b : Bool) → word 0 (cond b (inner_words root (key s l) m l 0) (inner_words root k l m 0)) ≡ suc root
           over true = refl
           over false = refl
 

@@ -3,7 +3,7 @@ use Rattle.std.proofs.Common.{◌≡◌, ◌≢◌, ℕ, ◌^◌, ◌<◌, ◌�
 use Rattle.std.proofs.Common.{refl, sym, ap, ◌∙◌, subst, arith, ne_eqb, eq-eqb, Option, Some, None}
 use Rattle.mv_history.specs.State.{State}
 use Rattle.mv_history.specs.Meaning.{words_at}
-use Rattle.set_script.specs.Objects.{kind, key, link, right_link, value, head_words, leaf_words, inner_words}
+use Rattle.set_script.specs.Objects.{kind, key, link, right_link, value, rank, head_words, leaf_words, inner_words}
 use Rattle.set_script.specs.Trees.{Tree, top, Stands, IsTree}
 use Rattle.set_script.specs.Trees.Tree.{leaf, inner}
 use Rattle.set_script.specs.Lawful.{IsLawful}
@@ -22,7 +22,7 @@ root_words s root first l lo lt e n node is = go (l.trees root lo lt).0 (l.trees
     go : (t : Option Tree) → IsTree s root t → branch_words root root node ≡ words_at s root
     go None q = absurd (n (e ∙ ap (word 3) q.0))
     go (Some t) q =
-        ap (λ (b : Bool). if b then head_words node.left else inner_words root node.key node.left node.right) (eq-eqb root root refl)
+        ap (λ (b : Bool). if b then head_words node.left else inner_words root node.key node.left node.right node.value) (eq-eqb root root refl)
         ∙ ap head_words (is ∙ e ∙ ap (word 3) q.first) ∙ sym q.first
 
 -- The search begins at the node to which the root leads.
@@ -59,9 +59,11 @@ module _ (s : State) (root k grand parent object right : ℕ) (node : Node) (d :
           let key_is : node.key ≡ c = is.key_is ∙ ap (key s) h ∙ ap (word 2) q.2 in
           let left_is : node.left ≡ top a = is.left_is ∙ ap (link s) h ∙ ap (word 3) q.2 in
           let right_is : node.right ≡ top b = is.right_is ∙ ap (right_link s) h ∙ ap (word 4) q.2 in
-          ap (λ (x : Bool). if x then head_words node.left else inner_words root node.key node.left node.right) (ne_eqb object root ne)
-          ∙ ap (λ (x : ℕ). inner_words root x node.left node.right) key_is ∙ ap (λ (x : ℕ). inner_words root c x node.right) left_is
-          ∙ ap (λ (x : ℕ). inner_words root c (top a) x) right_is ∙ sym (ap (words_at s) h ∙ q.2)
+          let rank_is : node.value ≡ rank s m = is.value_is ∙ ap (rank s) h in
+          ap (λ (x : Bool). if x then head_words node.left else inner_words root node.key node.left node.right node.value) (ne_eqb object root ne)
+          ∙ ap (λ (x : ℕ). inner_words root x node.left node.right node.value) key_is ∙ ap (λ (x : ℕ). inner_words root c x node.right node.value) left_is
+          ∙ ap (λ (x : ℕ). inner_words root c (top a) x node.value) right_is ∙ ap (λ (x : ℕ). inner_words root c (top a) (top b) x) rank_is
+          ∙ sym (ap (words_at s) h ∙ q.2)
 
   -- and one without is a leaf, with these
   pub leaf_words_here : node.left ≡ 0 → leaf_words root node.key node.value ≡ words_at s object

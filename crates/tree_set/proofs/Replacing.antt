@@ -5,7 +5,7 @@ use Rattle.std.proofs.lemmas.List.{set-get_or}
 use Rattle.std.proofs.lemmas.Bool.{cases_eq}
 use Rattle.mv_history.specs.State.{State}
 use Rattle.mv_history.specs.Meaning.{words_at}
-use Rattle.set_script.specs.Objects.{owner, kind, link, right_link, head_words, inner_words}
+use Rattle.set_script.specs.Objects.{owner, kind, link, right_link, rank, head_words, inner_words}
 use Rattle.set_script.specs.Trees.{Tree, top, objects_in, IsDistinct, IsOrdered, Stands, IsGrown}
 use Rattle.set_script.specs.Trees.Tree.{leaf, inner}
 use Rattle.set_script.proofs.ObjectWords.{word}
@@ -29,11 +29,15 @@ pub record Replaced (s s' : State) (root : ℕ) (ps : Path) (u v : Tree) : Type 
   pub only : (o : ℕ) → 180 ≤ o → owner s' o ≡ suc root → IsIn o (around ps) ⊎ IsIn o (objects_in v)
 
 -- the words of an inner node whose link is led elsewhere
-redirect_left : (root d a b w : ℕ) → redirect (inner_words root d a b) a w ≡ inner_words root d w b
-redirect_left root d a b w = ap (λ (c : Bool). cond c (inner_words root d w b) (inner_words root d a w)) (eq-eqb a a refl)
+redirect_left : (root d a b r w : ℕ) → redirect (inner_words root d a b r) a w ≡ inner_words root d w b r
+redirect_left root d a b r w = ap (λ (c : Bool). cond c (inner_words root d w b r) (inner_words root d a w r)) (eq-eqb a a refl)
 
-redirect_right : (root d a b w : ℕ) → a ≢ b → redirect (inner_words root d a b) b w ≡ inner_words root d a w
-redirect_right root d a b w n = ap (λ (c : Bool). cond c (inner_words root d w b) (inner_words root d a w)) (ne_eqb a b n)
+redirect_right : (root d a b r w : ℕ) → a ≢ b → redirect (inner_words root d a b r) b w ≡ inner_words root d a w r
+redirect_right root d a b r w n = ap (λ (c : Bool). cond c (inner_words root d w b r) (inner_words root d a w r)) (ne_eqb a b n)
+
+-- an inner node with some rank has its own
+pub ranked : (s : State) (root d a b r n : ℕ) → words_at s n ≡ inner_words root d a b r → words_at s n ≡ inner_words root d a b (rank s n)
+ranked s root d a b r n e = e ∙ ap (λ (q : ℕ). inner_words root d a b q) (sym (ap (word 5) e))
 
 pub redirect_head : (a w : ℕ) → redirect (head_words a) a w ≡ head_words w
 redirect_head a w = ap (λ (c : Bool). cond c (head_words w) (0 ∷ 0 ∷ 0 ∷ a ∷ w ∷ 0 ∷ [])) (eq-eqb a a refl)
@@ -54,7 +58,8 @@ stands_plug s s' root parent [] u v q dis leads others new = new
 stands_plug s s' root parent (left n d b ∷ []) u v q dis leads others new = (
   q.0,
   q.1,
-  leads ∙ ap (λ (w : List ℕ). redirect w (top u) (top v)) q.2 ∙ redirect_left root d (top u) (top b) (top v),
+  ranked s' root d (top v) (top b) (rank s n) n
+      (leads ∙ ap (λ (w : List ℕ). redirect w (top u) (top v)) q.2 ∙ redirect_left root d (top u) (top b) (rank s n) (top v)),
   new,
   Stands-same s s' root b q.4
       (λ o i. others o (inr i)
@@ -65,7 +70,8 @@ stands_plug s s' root parent (right n d a ∷ []) u v q dis leads others new =
     λ e. distinct_apart (objects_in a) (objects_in u) dis.1 (top u) (subst (λ (x : ℕ). IsIn x (objects_in a)) e (top_in a)) (top_in u) in (
       q.0,
       q.1,
-      leads ∙ ap (λ (w : List ℕ). redirect w (top u) (top v)) q.2 ∙ redirect_right root d (top a) (top u) (top v) apart,
+      ranked s' root d (top a) (top v) (rank s n) n
+          (leads ∙ ap (λ (w : List ℕ). redirect w (top u) (top v)) q.2 ∙ redirect_right root d (top a) (top u) (rank s n) (top v) apart),
       Stands-same s s' root a q.3
           (λ o i. others o (inr (in_left (objects_in a) [] o i))
           (λ e. not_in n (objects_in a ++ objects_in u) dis.0 (in_left (objects_in a) (objects_in u) n (subst (λ (x : ℕ). IsIn x (objects_in a)) e i)))),
@@ -79,7 +85,8 @@ stands_plug s s' root parent (left n d b ∷ p ∷ ps) u v q dis leads others ne
     (in_left (objects_in (plug (p ∷ ps) u)) (objects_in b) n (subst (λ (x : ℕ). IsIn x (objects_in (plug (p ∷ ps) u))) (sym e) below)) in (
       q.0,
       q.1,
-      others n (inl refl) apart ∙ q.2 ∙ ap (λ (x : ℕ). inner_words root d x (top b)) (top_plug p ps u ∙ sym (top_plug p ps v)),
+      ranked s' root d (top (plug (p ∷ ps) v)) (top b) (rank s n) n
+          (others n (inl refl) apart ∙ q.2 ∙ ap (λ (x : ℕ). inner_words root d x (top b) (rank s n)) (top_plug p ps u ∙ sym (top_plug p ps v))),
       stands_plug s s' root n (p ∷ ps) u v q.3 (distinct_left (objects_in (plug (p ∷ ps) u)) (objects_in b) dis.1) leads
           (λ o i. others o (inr (in_left (around (p ∷ ps)) (objects_in b) o i))) new,
       Stands-same s s' root b q.4
@@ -94,7 +101,8 @@ stands_plug s s' root parent (right n d a ∷ p ∷ ps) u v q dis leads others n
     (in_right (objects_in a) (objects_in (plug (p ∷ ps) u)) n (subst (λ (x : ℕ). IsIn x (objects_in (plug (p ∷ ps) u))) (sym e) below)) in (
       q.0,
       q.1,
-      others n (inl refl) apart ∙ q.2 ∙ ap (λ (x : ℕ). inner_words root d (top a) x) (top_plug p ps u ∙ sym (top_plug p ps v)),
+      ranked s' root d (top a) (top (plug (p ∷ ps) v)) (rank s n) n
+          (others n (inl refl) apart ∙ q.2 ∙ ap (λ (x : ℕ). inner_words root d (top a) x (rank s n)) (top_plug p ps u ∙ sym (top_plug p ps v))),
       Stands-same s s' root a q.3
           (λ o i. others o (inr (in_left (objects_in a) (around (p ∷ ps)) o i))
           (λ e. distinct_apart (objects_in a) (objects_in (plug (p ∷ ps) u)) dis.1 o i

@@ -26,9 +26,9 @@ IsParent s root parent node = ((parent ≡ root) × (link s root ≡ node)) ⊎ 
 abbrev pub redirect : List ℕ → ℕ → ℕ → List ℕ
 redirect words old new = if slice_index_or words 3 0 == old then set words 3 new else set words 4 new
 
--- the words of an inner node over a new leaf and the leaf beside it: the larger of their keys divides them
+-- the words of an inner node of rank 0 over a new leaf and the leaf beside it: the larger of their keys divides them
 abbrev pub inner_over : ℕ → ℕ → ℕ → ℕ → ℕ → List ℕ
-inner_over root k new_leaf j leaf = if nat_lt k j then inner_words root j new_leaf leaf else inner_words root k leaf new_leaf
+inner_over root k new_leaf j leaf = if nat_lt k j then inner_words root j new_leaf leaf 0 else inner_words root k leaf new_leaf 0
 
 -- the first leaf of an empty tree: the link of the root, and the words of the leaf
 abbrev pub plant_writes : State → ℕ → ℕ → ℕ → ℕ → Writes

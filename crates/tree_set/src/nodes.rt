@@ -5,10 +5,10 @@ ghost use Rattle.tree_set.specs.Nodes.{IsNodeAt, branch_words};
 
 use mv_history::{View, Words};
 
-/// The place of a node's key among its words. Its links come next, and its value last.
+/// The place of a node's key among its words. Its links come next, and last its value, or of an inner node its rank.
 pub(crate) const KEY: u32 = 2;
 
-/// Four of the six words of a node. The other two, its owner and its kind, are known where its root
+/// Four of the six words of a node; `value` is the rank of an inner node. The other two, its owner and its kind, are known where its root
 /// is: only an inner node has a left child.
 #[derive(Clone, Copy)]
 pub(crate) struct Node {
@@ -42,7 +42,14 @@ impl Node {
         if object == root {
             [0, 0, 0, self.left, 0, 0]
         } else {
-            [root as u64 + 1, 2, self.key, self.left, self.right, 0]
+            [
+                root as u64 + 1,
+                2,
+                self.key,
+                self.left,
+                self.right,
+                self.value,
+            ]
         }
     }
 

@@ -171,7 +171,8 @@ fn expect_lines(rt: &impl Abort, lines: &[Line]) {
     assert!(rt; LINES.iter().any(|can_come| lines == can_come.as_slice()));
 }
 
-// Looks at the tables of the two logs.
+// Looks at the tables of the two logs: one commit of two objects each, and one or two objects for each attempt that met the other
+// seat's and was given up.
 fn expect_tables(rt: &impl Abort, tables: &[LogTable]) {
     for table in tables {
         let LogTable {
@@ -182,7 +183,8 @@ fn expect_tables(rt: &impl Abort, tables: &[LogTable]) {
             aborts,
             rests,
         } = *table;
-        assert_eq!(rt; (commits, rests, aborts, live, freed), (1, 0, 0, 2, 0));
+        assert_eq!(rt; (commits, rests, freed), (1, 0, 0));
+        assert!(rt; (2 + aborts..=2 + 2 * aborts).contains(&live));
     }
     assert_eq!(rt; tables.len(), 2);
 }

@@ -1,7 +1,8 @@
 // The calls that take memory, and the system's files and streams.
 ghost use Rattle.std.specs.Prelude.{IsSome};
 
-use run_outside::{Files, MemFiles, MemSink, MemText, RealErr, RealFiles, RealOut, Sink};
+use memory_outside::{MemFiles, MemSink, MemText};
+use run_outside::{Files, RealErr, RealFiles, RealOut, Sink};
 use std::alloc::{AllocError, Global};
 use std::fs;
 use std::process::Abort;

@@ -1,9 +1,10 @@
 // Pools over plain stores, each of which is the one seat of its own history.
 ghost use Rattle.std.specs.Prelude.{◌≡◌, ◌<◌, ◌≤◌, All, IfOk, length};
-ghost use Rattle.mv_history.specs.PlainMeaning.{seat_of};
+ghost use Rattle.plain_store.specs.Meaning.{seat_of};
 
 use command_pool::run_pool;
-use mv_history::{PlainStore, WORDS};
+use mv_history::WORDS;
+use plain_store::PlainStore;
 use run_outside::{Gate, OpenGate};
 use run_report::Line;
 use section_work::Place;

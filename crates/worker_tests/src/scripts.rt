@@ -1,9 +1,10 @@
 // Scripts over a plain store, whose one seat has the number 0.
 ghost use Rattle.std.specs.Prelude.{◌≡◌, ◌<◌, IfOk, length};
-ghost use Rattle.mv_history.specs.PlainMeaning.{seat_of};
+ghost use Rattle.plain_store.specs.Meaning.{seat_of};
 
 use crate::reports::expect_lines;
-use mv_history::{PlainStore, WORDS};
+use mv_history::WORDS;
+use plain_store::PlainStore;
 use run_outside::OpenGate;
 use run_report::Line;
 use script_workers::run_scripts;

@@ -3,6 +3,7 @@
 use super::Status;
 use crate::block::Command;
 use crate::sets::{Entry, Set, SetsOptions};
+use crate::Counts;
 use std::ffi::c_void;
 use std::mem::size_of;
 use std::ptr::null_mut;
@@ -63,6 +64,7 @@ extern "C" {
     fn mvrlu_raw_sets_open(options: &RawOptions, seats: *mut RawSets, count: usize) -> i32;
     fn mvrlu_raw_sets_close(seat: &mut RawSets) -> i32;
     fn mvrlu_raw_sets_tidy(seat: &mut RawSets, live: &mut u32) -> i32;
+    fn mvrlu_raw_sets_counts(seat: &mut RawSets, counts: &mut Counts) -> i32;
     fn mvrlu_raw_sets_add(seat: &mut RawSets, set: u32, key: u32, told: &mut RawReply) -> i32;
     fn mvrlu_raw_sets_put(seat: &mut RawSets, set: u32, key: u32, value: u64, told: &mut RawReply) -> i32;
     fn mvrlu_raw_sets_del(seat: &mut RawSets, set: u32, key: u32, told: &mut RawReply) -> i32;
@@ -155,6 +157,11 @@ impl RawSets {
         Status::of(unsafe { mvrlu_raw_sets_tidy(self, live) })
     }
 
+    pub(crate) fn count(&mut self, counts: &mut Counts) -> Status {
+        // SAFETY: as said above.
+        Status::of(unsafe { mvrlu_raw_sets_counts(self, counts) })
+    }
+
     pub(crate) fn add(&mut self, set: Set, key: u32, told: &mut RawReply) -> Status {
         // SAFETY: as said above.
         Status::of(unsafe { mvrlu_raw_sets_add(self, set.number(), key, told) })
@@ -204,6 +211,7 @@ impl RawSets {
         // SAFETY: as said above; the pointers and the counts are those of two arrays that are borrowed for the call.
         Status::of(unsafe { mvrlu_raw_sets_block(self, commands.as_ptr(), N, told.as_mut_ptr(), N) })
     }
+
     pub(crate) fn walk(&mut self, set: Set, from: u32, entries: &mut [Entry], told: &mut RawWalk) -> Status {
         // SAFETY: as said above; the pointer and the count are those of one slice that is borrowed mutably.
         Status::of(unsafe { mvrlu_raw_sets_walk(self, set.number(), from, entries.as_mut_ptr(), entries.len(), told) })

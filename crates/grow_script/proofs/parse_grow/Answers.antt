@@ -4,8 +4,8 @@ use Rattle.std.proofs.lemmas.List.{length_push}
 use Rattle.std.proofs.lemmas.List.Elements.{All-nil}
 use Rattle.std.proofs.lemmas.Result.{err_from_is_err_and}
 use Rattle.std.specs.Slice.Iter.{split_rest, split_done, split_callee}
-use Rattle.set_script.specs.Grammar.{is_line_end}
-use Rattle.set_script.proofs.Lines.{item, no_item}
+use Rattle.script_parser.specs.Grammar.{is_line_end}
+use Rattle.script_parser.proofs.Lines.{item, no_item}
 use Rattle.grow_script.specs.GrowGrammar.{is_of_set}
 use Rattle.grow_script.proofs.Lines.{taken, refused, done}
 use Rattle.grow_script.proofs.parse_grow.Goals as goal

@@ -7,7 +7,7 @@ use Rattle.std.proofs.lemmas.List.{take-append-le}
 use Rattle.std.proofs.lemmas.Option.{slice_get_within}
 use Rattle.mv_core.proofs.Terms.{dite, dec_lt, Entry, State, maker_of, Config, writes_to, is_by, last_that, latest, latest_at, last_own, IsEntry}
 use Rattle.mv_core.proofs.Terms.{IsNextWrite, words_of}
-use Rattle.mv_history.proofs.PlainLemmas.{slice_get_at}
+use Rattle.mv_history.proofs.Histories.{slice_get_at}
 use Rattle.mv_core.proofs.history.Latest.{last_that-push, last_that-skip, slice_get-take, latest_at-end, entry-within}
 use Rattle.mv_core.proofs.history.SectionWords.{words_seen}
 

@@ -27,7 +27,7 @@ use crate::turns::{Told, ToldAlone, Turn};
 use crate::view::View;
 use atomic_table::{Closed, Seat, Table};
 use mv_history::{Protocol, Tag, Words};
-use mv_layout::Config;
+use mv_layout::{Config, head_cell, slot_cell};
 use std::alloc::{AllocError, Global};
 use std::marker::PhantomData;
 use std::snapshot::Snapshot;
@@ -37,7 +37,7 @@ use std::sync::ledger::Ledger;
 pub(crate) fn load_as<P: Protocol, J: Turn, L: Ledger, T>(
     shared: &Shared<P>,
     pass: &mut Pass<P>,
-    index: u32,
+    index: usize,
     about: &T,
     steps: &mut Steps<L>,
 ) -> u64
@@ -56,14 +56,14 @@ pub(crate) fn load_as<P: Protocol, J: Turn, L: Ledger, T>(
     shared
         .table
         .shared
-        .load::<Told<P, J>>(&mut pass.seat, index as usize)
+        .load::<Told<P, J>>(&mut pass.seat, index)
 }
 
 /// A store of `new`, in a pass.
 pub(crate) fn store_as<P: Protocol, J: Turn, L: Ledger, T>(
     shared: &Shared<P>,
     pass: &mut Pass<P>,
-    index: u32,
+    index: usize,
     new: u64,
     about: &T,
     steps: &mut Steps<L>,
@@ -83,7 +83,7 @@ pub(crate) fn store_as<P: Protocol, J: Turn, L: Ledger, T>(
     shared
         .table
         .shared
-        .store::<Told<P, J>>(&mut pass.seat, index as usize, new)
+        .store::<Told<P, J>>(&mut pass.seat, index, new)
 }
 
 /// An exchange of `old` for `new`, in a pass. It answers what it found.
@@ -254,6 +254,8 @@ impl<P: Protocol> Shared<P> {
         let (table, seat) = Table::of_words(alloc, words.as_slice(), &about)?;
         let shared = Shared {
             config: *config,
+            first_head: head_cell(config, 0),
+            first_slot: slot_cell(config, 0, 0),
             table,
         };
         let first = Pass {
@@ -277,7 +279,12 @@ impl<P: Protocol> Shared<P> {
         ensures full { IsFull result.words }
         ensures state { EndsIn P.start P.allowed self pass (slots_items result.words) }
     {
-        let Shared { config: _, table } = self;
+        let Shared {
+            config: _,
+            first_head: _,
+            first_slot: _,
+            table,
+        } = self;
         let Pass {
             number: _,
             time: _,

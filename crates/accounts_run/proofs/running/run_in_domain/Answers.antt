@@ -3,7 +3,7 @@ use Rattle.mv_layout.specs.declared.Config.{Config}
 use Rattle.mvrlu.specs.Meant.{whole_of}
 use Rattle.accounts_run.specs.Runs.{HasRoom}
 use Rattle.accounts_run.proofs.Serving.{run_of, last_of}
-use Rattle.domain_run.proofs.Rows.{all_at, if_ok}
+use Rattle.domain_loan.proofs.Rows.{all_at, if_ok}
 use Rattle.accounts_run.proofs.running.run_in_domain.Goals as goal
 
 pub run-requires-clause-ready : goal.run-requires-clause-ready

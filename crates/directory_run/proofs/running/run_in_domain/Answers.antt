@@ -5,7 +5,7 @@ use Rattle.directory.proofs.Opens.{opened}
 use Rattle.directory.proofs.Placed.{placed}
 use Rattle.directory_run.specs.Runs.{AsksForUser}
 use Rattle.directory_run.proofs.Serving.{each_served}
-use Rattle.domain_run.proofs.Rows.{all_at}
+use Rattle.domain_loan.proofs.Rows.{all_at}
 use Rattle.client_run.proofs.Told.{then_ok, kept_last}
 use Rattle.directory_run.proofs.running.run_in_domain.Goals as goal
 

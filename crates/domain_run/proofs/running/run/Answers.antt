@@ -1,6 +1,7 @@
 use Rattle.std.proofs.Common.{ap, map}
 use Rattle.mvrlu.specs.Meant.{seat_of}
-use Rattle.domain_run.proofs.Opened.{opened_new, opened_ready, refused_all}
+use Rattle.domain_loan.proofs.Opened.{opened_new, refused_all}
+use Rattle.domain_run.proofs.Ready.{opened_ready}
 use Rattle.domain_run.proofs.running.run.Goals as goal
 
 pub run_on-requires-clause-new : goal.run_on-requires-clause-new

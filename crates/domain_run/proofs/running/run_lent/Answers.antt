@@ -2,8 +2,8 @@ use Rattle.std.proofs.Common.{map, ◌∙◌, sym, subst}
 use Rattle.std.specs.List.{AllZip}
 use Rattle.std.proofs.lemmas.List.{length-map}
 use Rattle.mvrlu.specs.Meant.{seat_of}
-use Rattle.domain_run.specs.New.{fresh}
-use Rattle.domain_run.proofs.Seats.{new_own, left_for}
+use Rattle.domain_loan.specs.New.{fresh}
+use Rattle.domain_loan.proofs.Seats.{new_own, left_for}
 use Rattle.domain_run.proofs.Working.{seats_ready}
 use Rattle.domain_run.proofs.running.run_lent.Goals as goal
 

@@ -1,5 +1,5 @@
 use Rattle.std.proofs.Common.{◌∙◌, ap, length, arith}
-use Rattle.domain_run.proofs.Moves.{first_of, moved}
+use Rattle.domain_loan.proofs.Moves.{first_of, moved}
 use Rattle.domain_run.proofs.workers.pair_up.Goals as goal
 
 -- there is a task for each store

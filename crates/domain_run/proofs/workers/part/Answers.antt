@@ -1,5 +1,5 @@
 use Rattle.std.proofs.Common.{◌∙◌, ap, length, map, arith}
-use Rattle.domain_run.proofs.Moves.{first_of, put}
+use Rattle.domain_loan.proofs.Moves.{first_of, put}
 use Rattle.domain_run.proofs.workers.part.Goals as goal
 
 pub loop-workers-preserved : goal.loop-workers-preserved

@@ -1,7 +1,7 @@
 use Rattle.std.proofs.Common.{◌≡◌, ◌≤◌, List, length, map, subst, Vec, Result, All, IfOk, arith}
 use Rattle.std.specs.declared.alloc.Global.{Global}
-use Rattle.set_blocks.specs.BlockGrammar.{Refuses, parsed_blocks}
-use Rattle.set_blocks.specs.declared.faults.BlockFault.{BlockFault}
+use Rattle.block_parser.specs.BlockGrammar.{Refuses, parsed_blocks}
+use Rattle.block_parser.specs.declared.faults.BlockFault.{BlockFault}
 use Rattle.set_script.specs.declared.commands.Command.{Command}
 use Rattle.block_workers.specs.Workers.{blocks_of, count_of}
 use Rattle.mvrlu_run.proofs.FileTexts.{all_ok, all_parse, answers_from_each, first_refused}

@@ -1,7 +1,7 @@
 use Rattle.std.proofs.Common.{◌≡◌, ◌∙◌, length, map, string_bytes, sym}
 use Rattle.std.proofs.lemmas.List.{length-map}
 use Rattle.block_workers.specs.Workers.{blocks_of}
-use Rattle.set_blocks.specs.BlockGrammar.{parsed_blocks}
+use Rattle.block_parser.specs.BlockGrammar.{parsed_blocks}
 use Rattle.mvrlu_run.specs.Reading.{text_of}
 use Rattle.mvrlu_run.specs.Scripts.{Parses, blocks}
 use Rattle.mvrlu_run.proofs.FileTexts.{all_scripts, no_scripts, no_text, zip_length}

@@ -9,7 +9,7 @@ use Rattle.set_blocks.specs.BlockRules.{IsBlockCommit}
 use Rattle.mvrlu_run.specs.Kinds.{block_chain_of, config_of}
 use Rattle.mvrlu_run.proofs.Along.{run_along}
 use Rattle.mvrlu_run.proofs.Still.{still_blocks}
-use Rattle.domain_run.proofs.Opened.{opened_new}
+use Rattle.domain_loan.proofs.Opened.{opened_new}
 use Rattle.mvrlu_run.proofs.Opened.{back_meets}
 use Rattle.mvrlu_run.proofs.blocking.run_block_sets.Goals as goal
 

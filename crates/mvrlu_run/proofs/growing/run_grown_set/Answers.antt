@@ -11,7 +11,7 @@ use Rattle.grow_report.specs.Whole.{GrowRunOf}
 use Rattle.mvrlu_run.specs.Kinds.{config_of, grow_chain_of}
 use Rattle.mvrlu_run.proofs.Along.{run_along}
 use Rattle.mvrlu_run.proofs.Still.{still_grown}
-use Rattle.domain_run.proofs.Opened.{opened_new}
+use Rattle.domain_loan.proofs.Opened.{opened_new}
 use Rattle.mvrlu_run.proofs.Opened.{back_meets}
 use Rattle.mvrlu_run.proofs.growing.run_grown_set.Goals as goal
 

@@ -1,5 +1,5 @@
 use Rattle.std.proofs.Common.{string_bytes, map, refl, subst, ◌∙◌}
-use Rattle.set_script.specs.Grammar.{parsed}
+use Rattle.script_parser.specs.Grammar.{parsed}
 use Rattle.mvrlu_run.specs.Kinds.{IsTextOf, pool_runs, usual_options}
 use Rattle.mvrlu_run.specs.Scripts.{AllScripts}
 use Rattle.mvrlu_run.proofs.Many.{only_one}

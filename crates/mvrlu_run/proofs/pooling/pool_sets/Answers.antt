@@ -7,7 +7,7 @@ use Rattle.set_script.specs.Rules.{IsSetCommit}
 use Rattle.mvrlu_run.specs.Kinds.{config_of, pool_chain_of}
 use Rattle.mvrlu_run.proofs.Along.{run_along}
 use Rattle.mvrlu_run.proofs.Still.{still_pool}
-use Rattle.domain_run.proofs.Opened.{opened_new}
+use Rattle.domain_loan.proofs.Opened.{opened_new}
 use Rattle.mvrlu_run.proofs.Opened.{back_meets}
 use Rattle.mvrlu_run.proofs.pooling.pool_sets.Goals as goal
 

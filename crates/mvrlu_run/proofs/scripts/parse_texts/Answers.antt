@@ -1,8 +1,8 @@
 use Rattle.std.proofs.Common.{◌≡◌, ◌≤◌, length, map, subst, Vec, Result, All, IfOk, arith}
 use Rattle.std.specs.declared.alloc.Global.{Global}
-use Rattle.set_script.specs.Grammar.{Refuses}
+use Rattle.script_parser.specs.Grammar.{Refuses}
 use Rattle.set_script.specs.declared.commands.Command.{Command}
-use Rattle.set_script.specs.declared.commands.ScriptFault.{ScriptFault}
+use Rattle.script_parser.specs.declared.faults.ScriptFault.{ScriptFault}
 use Rattle.script_workers.specs.Workers.{items_of}
 use Rattle.mvrlu_run.specs.Scripts.{AreOf, parsed_by}
 use Rattle.mvrlu_run.proofs.FileTexts.{all_ok, all_parse, answers_from_each, first_refused}

@@ -5,7 +5,7 @@ use Rattle.mvrlu.specs.Whole.{last_state}
 use Rattle.set_script.specs.CatalogueOf.{catalogue_of}
 use Rattle.set_script.specs.Lawful.{IsOpening}
 use Rattle.set_script.specs.Rules.{IsSetCommit}
-use Rattle.domain_run.proofs.Seats.{as_many}
+use Rattle.domain_loan.proofs.Seats.{as_many}
 use Rattle.script_domain.specs.Joined.{past_of_whole}
 use Rattle.script_domain.proofs.OneHistory.{one_history}
 use Rattle.pool_domain.specs.Whole.{PoolOf}

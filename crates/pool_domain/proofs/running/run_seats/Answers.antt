@@ -1,8 +1,8 @@
 use Rattle.std.proofs.Common.{sym, ap, length, subst, arith}
 use Rattle.std.proofs.lemmas.List.{length-map}
 use Rattle.mvrlu.specs.Meant.{seat_of, handled}
-use Rattle.domain_run.specs.New.{AreNewFrom}
-use Rattle.domain_run.proofs.Seats.{new_own, new_may_hold, left_for}
+use Rattle.domain_loan.specs.New.{AreNewFrom}
+use Rattle.domain_loan.proofs.Seats.{new_own, new_may_hold, left_for}
 use Rattle.pool_domain.proofs.OnePool.{all_went_on}
 use Rattle.pool_domain.proofs.running.run_seats.Goals as goal
 

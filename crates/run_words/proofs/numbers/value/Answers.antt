@@ -1,5 +1,5 @@
 use Rattle.std.proofs.Common.{◌+◌, arith}
-use Rattle.set_script.proofs.Numerals.{small, more}
+use Rattle.script_parser.proofs.Numerals.{small, more}
 use Rattle.run_words.proofs.numbers.value.Goals as goal
 
 pub overflow_mul-number : goal.overflow_mul-number

@@ -4,7 +4,7 @@ use Rattle.mvrlu.specs.Meant.{seat_of, whole_of}
 use Rattle.set_script.specs.Lawful.{IsOpening}
 use Rattle.set_script.specs.Rules.{IsSetCommit}
 use Rattle.script_workers.specs.Workers.{items_of}
-use Rattle.domain_run.proofs.Seats.{as_many}
+use Rattle.domain_loan.proofs.Seats.{as_many}
 use Rattle.script_domain.specs.Joined.{past_of_whole}
 use Rattle.script_domain.proofs.OneHistory.{one_history}
 use Rattle.script_domain.proofs.OneRun.{run_met}

@@ -1,6 +1,6 @@
 use Rattle.std.proofs.Common.{◌≡◌, ◌++◌, take, codes, string_bytes}
 use Rattle.std.specs.List.{flat_map}
-use Rattle.set_script.specs.GrammarLaws.{line_text}
+use Rattle.script_parser.specs.GrammarLaws.{line_text}
 use Rattle.script_gen.proofs.script.write_script.Given as goal
 
 abbrev pub invariant-loop-command : goal.invariant-loop-command

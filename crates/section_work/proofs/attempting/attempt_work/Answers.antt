@@ -6,7 +6,7 @@ use Rattle.mv_history.proofs.Steps.{Continues-Continues}
 use Rattle.section_work.proofs.Exchanges.{one_before, left_one, looks_in}
 use Rattle.section_work.proofs.Entering.{reads_snapshot, time_found}
 use Rattle.section_work.proofs.Outcomes.{attempted_by, short_by, read_at, early_by, space_found, planned_here, noted_by, may_wider, at_last_is}
-use Rattle.section_work.proofs.Outcomes.{found_settled, found_change, prepared_by}
+use Rattle.section_work.proofs.Outcomes.{found_settled, found_change, stepped_by}
 use Rattle.section_work.proofs.attempting.attempt_work.Goals as goal
 
 pub decide-section-requires : goal.decide-section-requires
@@ -31,13 +31,13 @@ returns-then-time-last g c =
     let e = c.enter-section.ensures.enters in
     let law = g.met.S.Open.Section.lawful c.enter-section.result in
     let here = g.met.S.Open.Section.reads c.enter-section.result in
+    let same = g.met.S.Open.Section.others_stay _ _ c.decide-section.ensures.as_before in
     let goes = g.met.S.Open.Section.goes_on _ _ c.decide-section.ensures.as_before in
     let looks = looks_in p e goes in
     let left = subst (λ (s : Seat). Leaves (g.S.Open.Section.section c.decide-section.result.0) s) (g.met.S.Store.same_seat _) c.leave.ensures in
     let after = Continues-Continues goes.continues left.continues in
     record {
-      attempted = read_at _ _ _ _ _ _ _ _ _ _ _ p.continues p.mine e c.enter-section.ensures.took law.at
-          (g.met.S.Open.Section.others_stay _ _ c.decide-section.ensures.as_before) left here c.at-time.ensures
+      attempted = read_at _ _ _ _ _ _ _ _ _ _ _ p.continues p.mine e c.enter-section.ensures.took law.at same left here c.at-time.ensures
           (at_last_is _ _ _ c.if-time-last.true c.last-last.ensures)
           (c.late-reply.ensures _ c.decide-section.ensures.found);
       continues = Continues-Continues looks.continues left.continues;
@@ -45,17 +45,8 @@ returns-then-time-last g c =
       knows = g.met.W.Work.knows_on _ _ _ after
           (c.decide-section.ensures.knows _ (record { lawful = law; own = e.own; time_is = c.at-time.ensures; state_is = here })
           (g.met.W.Work.knows_on _ _ _ (Continues-Continues p.continues e.seat.continues) c.requires.knows));
-      steps = record {
-        prepared = _;
-        prepares = prepared_by _ _ _ _ p c.prepare-room.ensures.enough c.prepare-room.ensures.short;
-        entered = c.enter-section.result;
-        found = c.decide-section.result.0;
-        looks = record { enters = e; took = c.enter-section.ensures.took; only_read = c.decide-section.ensures.as_before };
-        follows = inl (record {
-          leaves = left;
-          time_is = time_found _ _ _ (g.met.S.Open.Section.others_stay _ _ c.decide-section.ensures.as_before) c.at-time.ensures;
-        });
-      };
+      steps = stepped_by _ _ _ _ _ _ _ _ _ _ p c.prepare-room.ensures.enough c.prepare-room.ensures.short e c.enter-section.ensures.took
+          c.decide-section.ensures.as_before (inl (record { leaves = left; time_is = time_found _ _ _ same c.at-time.ensures }));
       noted = (_, noted_by _ _ _ _ _ _ _ _ p.continues e law.at after here c.decide-section.ensures.notes, inl refl);
     }
 
@@ -65,34 +56,25 @@ returns-in-Settled g c =
     let e = c.enter-section.ensures.enters in
     let law = g.met.S.Open.Section.lawful c.enter-section.result in
     let here = g.met.S.Open.Section.reads c.enter-section.result in
+    let same = g.met.S.Open.Section.others_stay _ _ c.decide-section.ensures.as_before in
     let goes = g.met.S.Open.Section.goes_on _ _ c.decide-section.ensures.as_before in
     let looks = looks_in p e goes in
     let left = subst (λ (s : Seat). Leaves (g.S.Open.Section.section c.decide-section.result.0) s) (g.met.S.Store.same_seat _)
     c.leave-in-Settled.ensures in
     let after = Continues-Continues goes.continues left.continues in
     record {
-      attempted = read_at _ _ _ _ _ _ _ _ _ _ _ p.continues p.mine e c.enter-section.ensures.took law.at
-          (g.met.S.Open.Section.others_stay _ _ c.decide-section.ensures.as_before) left here c.at-time.ensures refl
-          (found_settled g.W.Rules.Protocol.allowed (g.W.Work.means c.args.work.now) (g.W.Work.tag_of c.args.work.now) g.W.Work.writes_of
-          (g.S.Open.View.state c.enter-section.result) c.decide-section.result.1
-          c.in-Settled.reply c.in-Settled.is c.decide-section.ensures.found _);
       continues = Continues-Continues looks.continues left.continues;
       at_most_one = left_one looks.continues looks.quiet left;
       knows = g.met.W.Work.knows_on _ _ _ after
           (c.decide-section.ensures.knows _ (record { lawful = law; own = e.own; time_is = c.at-time.ensures; state_is = here })
           (g.met.W.Work.knows_on _ _ _ (Continues-Continues p.continues e.seat.continues) c.requires.knows));
-      steps = record {
-        prepared = _;
-        prepares = prepared_by _ _ _ _ p c.prepare-room.ensures.enough c.prepare-room.ensures.short;
-        entered = c.enter-section.result;
-        found = c.decide-section.result.0;
-        looks = record { enters = e; took = c.enter-section.ensures.took; only_read = c.decide-section.ensures.as_before };
-        follows = inl (record {
-          leaves = left;
-          time_is = time_found _ _ _ (g.met.S.Open.Section.others_stay _ _ c.decide-section.ensures.as_before) c.at-time.ensures;
-        });
-      };
+      steps = stepped_by _ _ _ _ _ _ _ _ _ _ p c.prepare-room.ensures.enough c.prepare-room.ensures.short e c.enter-section.ensures.took
+          c.decide-section.ensures.as_before (inl (record { leaves = left; time_is = time_found _ _ _ same c.at-time.ensures }));
       noted = (_, noted_by _ _ _ _ _ _ _ _ p.continues e law.at after here c.decide-section.ensures.notes, inl refl);
+      attempted = read_at _ _ _ _ _ _ _ _ _ _ _ p.continues p.mine e c.enter-section.ensures.took law.at same left here c.at-time.ensures refl
+          (found_settled g.W.Rules.Protocol.allowed (g.W.Work.means c.args.work.now) (g.W.Work.tag_of c.args.work.now) g.W.Work.writes_of
+          (g.S.Open.View.state c.enter-section.result) c.decide-section.result.1
+          c.in-Settled.reply c.in-Settled.is c.decide-section.ensures.found _);
     }
 
 pub commit-requires : goal.commit-requires
@@ -136,14 +118,8 @@ returns-in-Enough g c =
       continues = Continues-Continues looks.continues c.commit.ensures.continues;
       at_most_one = one_before looks.continues c.commit.ensures.continues looks.quiet c.commit.ensures.at_most_one;
       knows = c.commit.ensures.knows;
-      steps = record {
-        prepared = _;
-        prepares = prepared_by _ _ _ _ p c.prepare-room.ensures.enough c.prepare-room.ensures.short;
-        entered = c.enter-section.result;
-        found = c.decide-section.result.0;
-        looks = record { enters = e; took = c.enter-section.ensures.took; only_read = c.decide-section.ensures.as_before };
-        follows = c.commit.ensures.follows;
-      };
+      steps = stepped_by _ _ _ _ _ _ _ _ _ _ p c.prepare-room.ensures.enough c.prepare-room.ensures.short e c.enter-section.ensures.took
+          c.decide-section.ensures.as_before c.commit.ensures.follows;
       noted = (
         _,
         noted_by _ _ _ _ _ _ _ _ p.continues e law.at after here c.decide-section.ensures.notes,
@@ -177,13 +153,7 @@ returns-in-Short g c =
       knows = g.met.W.Work.knows_on _ _ _ after
           (c.decide-section.ensures.knows _ (record { lawful = law; own = e.own; time_is = c.at-time.ensures; state_is = here })
           (g.met.W.Work.knows_on _ _ _ (Continues-Continues p.continues e.seat.continues) c.requires.knows));
-      steps = record {
-        prepared = _;
-        prepares = prepared_by _ _ _ _ p c.prepare-room.ensures.enough c.prepare-room.ensures.short;
-        entered = c.enter-section.result;
-        found = c.decide-section.result.0;
-        looks = record { enters = e; took = c.enter-section.ensures.took; only_read = c.decide-section.ensures.as_before };
-        follows = left;
-      };
+      steps = stepped_by _ _ _ _ _ _ _ _ _ _ p c.prepare-room.ensures.enough c.prepare-room.ensures.short e c.enter-section.ensures.took
+          c.decide-section.ensures.as_before left;
       noted = (_, noted_by _ _ _ _ _ _ _ _ p.continues e law.at after here c.decide-section.ensures.notes, inl refl);
     }

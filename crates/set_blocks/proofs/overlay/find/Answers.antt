@@ -1,5 +1,5 @@
 use Rattle.std.proofs.Common.{[], arith}
-use Rattle.mv_history.proofs.PlainLemmas.{touches_more}
+use Rattle.mv_history.proofs.Writing.{touches_more}
 use Rattle.set_blocks.proofs.overlay.find.Goals as goal
 
 pub loop-i-preserved : goal.loop-i-preserved

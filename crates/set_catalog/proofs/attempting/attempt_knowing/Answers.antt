@@ -1,19 +1,19 @@
 use Rattle.set_catalog.proofs.NotedGone.{kept_taken, noted_takes, hints_then}
-use Rattle.set_catalog.proofs.Outcomes.{done_from, answered_as, after_the_first, known_then, gave_up_from}
-use Rattle.set_catalog.proofs.WorkSteps.{stepped_done, stepped_again}
+use Rattle.set_catalog.proofs.Outcomes.{left_by, answered_as, after_the_first, known_then}
+use Rattle.set_catalog.proofs.WorkSteps.{stepped_as}
 use Rattle.set_catalog.proofs.attempting.attempt_knowing.Goals as goal
 
 pub note-requires : goal.note-requires
 note-requires g c = record {
-  later = after_the_first _ _ _ c.args.command.now _ _ (done_from _ _ _ _ _ _ _ c.in-Done.is c.attempt_work-store.ensures.attempted);
+  later = after_the_first _ _ _ c.args.command.now _ _ (left_by _ _ _ _ _ _ c.in-Done.is c.attempt_work-store.ensures.attempted);
 }
 
 pub returns-in-Done : goal.returns-in-Done
 returns-in-Done g c =
-    let done = done_from _ _ _ c.args.command.now _ _ _ c.in-Done.is c.attempt_work-store.ensures.attempted in
+    let done = left_by _ _ _ c.args.command.now _ _ c.in-Done.is c.attempt_work-store.ensures.attempted in
     record {
       attempted = answered_as _ _ _ _ _ _ done;
-      steps = stepped_done _ _ _ _ _ _ _ _ c.in-Done.is c.attempt_work-store.ensures.steps;
+      steps = stepped_as _ _ _ _ _ _ _ c.in-Done.is c.attempt_work-store.ensures.steps;
       noted = hints_then _ _ _ c.args.command.now c.in-Done.answer _ c.args.memo.now _ _ done c.attempt_work-store.ensures.noted c.note.ensures.hints;
       at_most_one = c.attempt_work-store.ensures.at_most_one;
       known = known_then _ _ _ c.args.command.now c.in-Done.answer _ c.attempt_work-store.new.memo.known _
@@ -22,8 +22,8 @@ returns-in-Done g c =
 
 pub returns-in-Again : goal.returns-in-Again
 returns-in-Again g c = record {
-  attempted = gave_up_from _ _ _ c.args.command.now _ _ c.in-Again.is c.attempt_work-store.ensures.attempted;
-  steps = stepped_again _ _ _ _ _ _ _ c.in-Again.is c.attempt_work-store.ensures.steps;
+  attempted = left_by _ _ _ c.args.command.now _ _ c.in-Again.is c.attempt_work-store.ensures.attempted;
+  steps = stepped_as _ _ _ _ _ _ _ c.in-Again.is c.attempt_work-store.ensures.steps;
   noted = kept_taken _ _ _ _ (noted_takes c.args.command.now _ _ _ _ c.attempt_work-store.ensures.noted);
   at_most_one = c.attempt_work-store.ensures.at_most_one;
   known = c.attempt_work-store.ensures.knows;

@@ -1,5 +1,5 @@
 use Rattle.std.proofs.Common.{◌≡◌, ◌<◌, All, length}
-use Rattle.set_script.specs.Grammar.{words_in}
+use Rattle.script_parser.specs.Grammar.{words_in}
 use Rattle.step_replay.specs.PlanTexts.{seats_after}
 use Rattle.step_replay.proofs.body.push_seats.Given as goal
 

@@ -3,8 +3,8 @@ use Rattle.std.proofs.lemmas.Iterator.Splits.{YieldsList-from_slice_split}
 use Rattle.std.proofs.lemmas.List.{length_push}
 use Rattle.std.proofs.lemmas.Result.{err_from_is_err_and}
 use Rattle.std.specs.Slice.Iter.{split_rest, split_done, split_callee}
-use Rattle.set_script.specs.Grammar.{is_line_end}
-use Rattle.set_script.proofs.Lines.{item, no_item}
+use Rattle.script_parser.specs.Grammar.{is_line_end}
+use Rattle.script_parser.proofs.Lines.{item, no_item}
 use Rattle.step_replay.specs.PlanTexts.{said_of, last_line, finished, at_line}
 use Rattle.step_replay.proofs.PlanLines.{taken, refused, done, unfinished}
 use Rattle.step_replay.proofs.drafts.parse_plan.Goals as goal

@@ -1,5 +1,5 @@
 use Rattle.std.proofs.Common.{◌≡◌, ◌+◌, drop, length}
-use Rattle.set_script.specs.Grammar.{lines_of}
+use Rattle.script_parser.specs.Grammar.{lines_of}
 use Rattle.step_replay.specs.PlanTexts.{said_of, said_after, nothing_said}
 use Rattle.step_replay.specs.FitDrafts.{IsFitSaid}
 use Rattle.step_replay.proofs.drafts.parse_plan.Given as goal

@@ -1,5 +1,5 @@
 use Rattle.std.proofs.Common.{◌≡◌, ◌+◌, length}
-use Rattle.set_script.specs.Grammar.{words_in}
+use Rattle.script_parser.specs.Grammar.{words_in}
 use Rattle.step_replay.proofs.numbers.are_words.Given as goal
 
 -- so many words were passed

@@ -1,7 +1,7 @@
 use Rattle.std.proofs.Common.{length, ap, ◌∙◌}
 use Rattle.mv_history.proofs.Writing.{length-state_after}
 use Rattle.mvrlu.specs.Meant.{whole_of}
-use Rattle.domain_run.proofs.Rows.{if_ok}
+use Rattle.domain_loan.proofs.Rows.{if_ok}
 use Rattle.work_tests.proofs.counter.count_together.Goals as goal
 
 pub returns : goal.returns

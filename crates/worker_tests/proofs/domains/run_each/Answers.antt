@@ -1,4 +1,4 @@
-use Rattle.domain_run.proofs.Opened.{opened_new, refused_all}
+use Rattle.domain_loan.proofs.Opened.{opened_new, refused_all}
 use Rattle.worker_tests.proofs.domains.run_each.Goals as goal
 
 -- the seats of a new domain are new

@@ -6,7 +6,7 @@ use Rattle.std.proofs.lemmas.List.Elements.{All-push}
 use Rattle.mv_core.proofs.Terms.{Entry, Rest, Change, State, Writes, maker_of, commits_of, rests_of, Config, clock_time_of, Past, set_at}
 use Rattle.mv_history.specs.Legal.{IsLegal, IsAllowed}
 use Rattle.mv_history.proofs.Writing.{commits_of-append}
-use Rattle.mv_history.proofs.PlainLemmas.{slice_get_at}
+use Rattle.mv_history.proofs.Histories.{slice_get_at}
 use Rattle.mv_core.specs.HistoryFacts.{NamedBy, KnowsPast, History}
 use Rattle.mv_core.proofs.frames.FrameLaw.{set_at_here, set_at_all}
 use Rattle.mv_core.proofs.history.LongerSeen.{rests_of-append}

@@ -1,7 +1,7 @@
 use Rattle.std.proofs.Common.{◌≡◌, ℕ, ◌<◌, Bool, true, false, List, [], refl, sym, ap, ◌∙◌, subst, append-nil, arith}
 use Rattle.std.specs.Prelude.{slice_index}
 use Rattle.mv_history.specs.CallLaws.{GoesOn-itself}
-use Rattle.mv_history.proofs.PlainLemmas.{held_or_free, held_not_busy, held_not_stale, held_not_set_full, held_not_log_full}
+use Rattle.mv_history.proofs.LockAnswers.{held_or_free, held_not_busy, held_not_stale, held_not_set_full, held_not_log_full}
 use Rattle.mvrlu.specs.Meant.{section_of}
 use Rattle.mvrlu.proofs.Trails.{few_made}
 use Rattle.mvrlu.proofs.Alone.{none_later}

@@ -17,6 +17,14 @@ overflow_cast-self g c =
           c.loop-words-test.true).left_fits,
     )
 
+pub overflow_cast-pending : goal.overflow_cast-pending
+overflow_cast-pending g c =
+    omega (
+      arith,
+      (left_step _ c.requires.lawful _ _ _ _ _ c.loop-words.invariant.some c.loop-words.invariant.words c.loop-words.invariant.there.1
+          c.loop-words-test.true).right_fits,
+    )
+
 pub read-words-requires-in-loop-words : goal.read-words-requires-in-loop-words
 read-words-requires-in-loop-words g c =
     let step = left_step _ c.requires.lawful _ _ _ _ _ c.loop-words.invariant.some c.loop-words.invariant.words c.loop-words.invariant.there.1

@@ -1,0 +1,5 @@
+pub mod Rows
+pub mod Moves
+pub mod Seats
+pub mod Whole
+pub mod Opened

@@ -1,0 +1,4 @@
+pub mod New
+pub mod Met
+pub mod Lending
+pub mod Shown

@@ -1,6 +1,0 @@
-use Rattle.std.proofs.Common.{[], arith}
-use Rattle.mv_history.proofs.PlainLemmas.{touches_more}
-use Rattle.mv_history.proofs.plain_section.find.Goals as goal
-
-pub loop-i-preserved : goal.loop-i-preserved
-loop-i-preserved c = touches_more c.args.own.now c.loop-i.i c.args.object (0, []) (omega arith) c.loop-i.invariant c.if-write-object.false

@@ -1,8 +1,0 @@
-use Rattle.std.proofs.Common.{rules, arith, sym, ◌∙◌, refl}
-use Rattle.set_script.proofs.PlainLines.{set_key}
-use Rattle.set_script.proofs.script.plain.plain_set_key.Goals as goal
-
-pub returns : goal.returns
-returns c =
-    set_key c.args.bytes.now _ c.in_ok-name.name (search (rules, arith)) (grind arith) (search rules) refl
-    c.in_ok-key.key (sym c.read_key.ensures ∙ search rules)

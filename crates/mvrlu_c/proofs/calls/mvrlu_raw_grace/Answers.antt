@@ -4,6 +4,7 @@ use Rattle.mvrlu_c.proofs.calls.mvrlu_raw_grace.Goals.{in-None, in-Some-Err, in-
 
 pub returns-clause-tells : goal.returns-clause-tells
 returns-clause-tells c = elim c.match-on_open.branch [
-    in-None w ↦ search rules
+  | in-None w ↦ search rules
   | in-Some-Err w ↦ search rules
-  | in-Some-Ok w ↦ search rules ]
+  | in-Some-Ok w ↦ search rules
+]

@@ -19,7 +19,7 @@ write_sample() {
 import pathlib, re, sys
 
 page, scratch = map(pathlib.Path, sys.argv[1:])
-lines, text = re.search(r"For the lines\n\n((?:    .*\n)+)\n`\./mvrlu run` prints\n\n((?:    .*\n)+)", page.read_text()).groups()
+lines, text = re.search(r"    \$ cat \S+\n((?:    .*\n)+)\n    \$ \./mvrlu run \S+\n((?:    .*\n)+)", page.read_text()).groups()
 for name, block in (("lines", lines), ("text", text)):
     (scratch / name).write_text("".join(line[4:] + "\n" for line in block.splitlines()))
 PYTHON

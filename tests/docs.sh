@@ -1,8 +1,10 @@
 #!/bin/bash
 # Checks that what the documents name is there: each link's file, and in docs/CONTRACTS.md and docs/RULE.md each file,
 # each call that stands in it, and each must-fail edit; that docs/QUICKSTART.md and README.md have the text of the counter's
-# crates, and README.md's code in C that of an example; and that the files in which docs/PROVING.md finds a lemma have it.
+# crates, and README.md's code in C that of an example; that the files in which docs/PROVING.md finds a lemma have it; and that
+# the table of the crates and their picture are those of crates.txt (bench/map).
 cd "$(dirname "$0")/.." || exit 1
+bench/map --check || exit
 python3 - <<'PYTHON'
 import pathlib, re, sys
 

@@ -1,8 +1,9 @@
 #!/bin/bash
-# Checks that what the documents name is there: each link's file, and in docs/CONTRACTS.md and docs/RULE.md each file,
-# each call that stands in it, and each must-fail edit; that docs/QUICKSTART.md and README.md have the text of the counter's
-# crates, and README.md's code in C that of an example; that the files in which docs/PROVING.md finds a lemma have it; and that
-# the table of the crates and their picture are those of crates.txt (bench/map).
+# Checks that what the documents name is there: each link's file, each path from a crate or a folder of the repository on, and in
+# docs/CONTRACTS.md and docs/RULE.md each file, each call that stands in it, and each must-fail edit; that docs/QUICKSTART.md and
+# README.md have the text of the counter's crates, README.md's code in C that of an example, and docs/GUIDE.md that of some crate;
+# that the files in which docs/PROVING.md finds a lemma have it; and that the table of the crates and their picture are those of
+# crates.txt (bench/map).
 cd "$(dirname "$0")/.." || exit 1
 bench/map --check || exit
 python3 - <<'PYTHON'
@@ -16,6 +17,14 @@ for page in pages:
     for target in re.findall(r"\]\(([^)#]+)\)", page.read_text()):
         if "://" not in target and not (page.parent / target).exists():
             missing.append(f"{page}: no file {target}")
+
+# A path that begins with a crate or with a folder of the repository is there.
+tops = {path.name for path in [*pathlib.Path().iterdir(), *pathlib.Path("crates").iterdir()] if path.is_dir()}
+for page in pages:
+    for span in re.findall(r"`([\w.-]+(?:/[\w.-]+)+/?)`", page.read_text()):
+        made = "/out/" in span or "NAME" in span
+        if span.split("/")[0] in tops and not made and not any((top / span).exists() for top in (pathlib.Path(), pathlib.Path("crates"))):
+            missing.append(f"{page}: no {span}")
 
 def cells(page):
     for line in page.read_text().splitlines():
@@ -61,19 +70,26 @@ for row in cells(rule):
     if len(row) == 2 and "`:" in row[1]:
         check_edits(rule, row[1], [])
 
-# The code of the quickstart and of README is that of the counter's crates, and README's code in C that of an example.
+# The code of the quickstart and of README is that of the counter's crates, README's code in C that of an example, and the
+# guide's that of some crate, whatever its indentation.
+def dedented(text):
+    return "\n".join(line.strip() for line in text.splitlines())
+
 quick = pathlib.Path("docs/QUICKSTART.md")
 least = [*pathlib.Path("crates/counter").glob("s*/*.[ra]*"), pathlib.Path("crates/counter_main/src/main.rt")]
-sources = [path.read_text() for path in least]
-examples = [path.read_text() for path in pathlib.Path("examples/c").glob("*.c")]
-for page in (quick, pathlib.Path("README.md")):
-    blocks = re.findall(r"^```(\w+)\n(.*?)^```$", page.read_text(), flags=re.DOTALL | re.MULTILINE)
+counter = "source of the counter", [dedented(path.read_text()) for path in least]
+example = "example", [dedented(path.read_text()) for path in pathlib.Path("examples/c").glob("*.c")]
+source = "source of a crate", [dedented(path.read_text()) for path in pathlib.Path("crates").glob("*/src/**/*.rt")]
+for page, rust in ((quick, counter), (pathlib.Path("README.md"), counter), (pathlib.Path("docs/GUIDE.md"), source)):
+    blocks = re.findall(r"^```(\w*)\n(.*?)^```$", page.read_text(), flags=re.DOTALL | re.MULTILINE)
     if not blocks:
-        missing.append(f"{page}: no code of the counter")
+        missing.append(f"{page}: no code of a crate")
     for kind, block in blocks:
-        if not any(block in source for source in (examples if kind == "c" else sources)):
-            where = "example" if kind == "c" else "source of the counter"
+        where, texts = example if kind == "c" else rust
+        if not any(dedented(block) in text for text in texts):
             missing.append(f"{page}: the {kind} that begins {block.splitlines()[0].strip()} stands in no {where}")
+if re.search(r"^    \S", re.sub(r"(?m)^```.*?^```$", "", pathlib.Path("docs/GUIDE.md").read_text(), flags=re.DOTALL), re.M):
+    missing.append("docs/GUIDE.md: code that is compared with no source")
 told = pathlib.Path("crates/counter_main/stdout").read_text()
 listed = [line for line in pathlib.Path("crates.txt").read_text().splitlines() if re.match(r"counter(_main)?:", line)]
 for lines in (told.splitlines(), listed, pathlib.Path("HANDLES").read_text().splitlines()):

@@ -1,6 +1,6 @@
 #!/bin/bash
-# Checks that what the documents name is there: each link's file, each path from a crate or a folder of the repository on, and in
-# docs/CONTRACTS.md and docs/RULE.md each file, each call that stands in it, and each must-fail edit; that docs/QUICKSTART.md and
+# Checks that what the documents name is there: each link's file and section, each path from a crate or a folder of the repository
+# on, and in docs/CONTRACTS.md and docs/RULE.md each file, each call that stands in it, and each must-fail edit; that docs/QUICKSTART.md and
 # README.md have the text of the counter's crates, README.md's code in C that of an example, and docs/GUIDE.md that of some crate;
 # that the files in which docs/PROVING.md finds a lemma have it; and that the table of the crates and their picture are those of
 # crates.txt (bench/map).
@@ -17,6 +17,21 @@ for page in pages:
     for target in re.findall(r"\]\(([^)#]+)\)", page.read_text()):
         if "://" not in target and not (page.parent / target).exists():
             missing.append(f"{page}: no file {target}")
+
+# A section that a page names beside a link, or links to, is one of that page.
+def anchor(heading):
+    return re.sub(r"[^\w\- ]", "", heading.lower()).replace(" ", "-")
+
+for page in pages:
+    text = re.sub(r"\s+", " ", page.read_text())
+    named = re.findall(r'\]\(([\w./-]+\.md)\), "([^"]+)"', text)
+    named += [(target, title) for title, target in re.findall(r'"([^"]+)" in \[[^\]]*\]\(([\w./-]+\.md)\)', text)]
+    named += re.findall(r"\]\(((?:[\w./-]+\.md)?)#([\w-]+)\)", text)
+    for target, title in named:
+        found = page.parent / target if target else page
+        headings = re.findall(r"^#+ (.*)", found.read_text(), re.M) if found.exists() else []
+        if not {title, title.lower()} & {*headings, *map(anchor, headings)}:
+            missing.append(f"{page}: no section {title} in {found}")
 
 # A path that begins with a crate or with a folder of the repository is there.
 tops = {path.name for path in [*pathlib.Path().iterdir(), *pathlib.Path("crates").iterdir()] if path.is_dir()}

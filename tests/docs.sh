@@ -1,9 +1,9 @@
 #!/bin/bash
 # Checks that what the documents name is there: each link's file and section, each path from a crate or a folder of the repository
-# on, and in docs/CONTRACTS.md and docs/RULE.md each file, each call that stands in it, and each must-fail edit; that docs/QUICKSTART.md and
-# README.md have the text of the counter's crates, README.md's code in C that of an example, and docs/GUIDE.md that of some crate;
-# that the files in which docs/PROVING.md finds a lemma have it; and that the table of the crates and their picture are those of
-# crates.txt (bench/map).
+# on, and in docs/CONTRACTS.md and docs/RULE.md each file, each call that stands in it, and each must-fail edit; that
+# docs/QUICKSTART.md and README.md have the text of the counter's crates, README.md's code in C that of an example, and
+# docs/GUIDE.md that of some crate; that the files in which docs/PROVING.md finds a lemma have it; that docs/DECISIONS.md lists the
+# crates without an edit; and that the table of the crates and their picture are those of crates.txt (bench/map).
 cd "$(dirname "$0")/.." || exit 1
 bench/map --check || exit
 python3 - <<'PYTHON'
@@ -84,6 +84,13 @@ rule = pathlib.Path("docs/RULE.md")
 for row in cells(rule):
     if len(row) == 2 and "`:" in row[1]:
         check_edits(rule, row[1], [])
+
+# The crates of which docs/DECISIONS.md says that they have no edit are those.
+decisions = pathlib.Path("docs/DECISIONS.md")
+without = set(re.findall(r"`(\w+)`", re.search(r"These have none: (.*?)\. ", decisions.read_text(), re.DOTALL)[1]))
+bare = {path.name for path in pathlib.Path("crates").iterdir() if path.is_dir() and not any(path.glob("must-fail/*.edit"))}
+for crate in sorted(without ^ {crate for crate in bare if not crate.endswith(("_tests", "_main"))}):
+    missing.append(f"{decisions}: {crate} is {'listed, and has an edit' if crate in without else 'not listed, and has no edit'}")
 
 # The code of the quickstart and of README is that of the counter's crates, README's code in C that of an example, and the
 # guide's that of some crate, whatever its indentation.

@@ -1,6 +1,6 @@
 #!/bin/bash
 # Checks that what the documents name is there: each link's file and section, each path from a crate or a folder of the repository
-# on, and in docs/CONTRACTS.md and docs/RULE.md each file, each call that stands in it, and each must-fail edit; that
+# on, each subcommand, and in docs/CONTRACTS.md and docs/RULE.md each file, each call that stands in it, and each must-fail edit; that
 # docs/QUICKSTART.md and README.md have the text of the counter's crates, README.md's code in C that of an example, and
 # docs/GUIDE.md that of some crate; that the files in which docs/PROVING.md finds a lemma have it; that docs/DECISIONS.md lists the
 # crates without an edit; and that the table of the crates and their picture are those of crates.txt (bench/map).
@@ -40,6 +40,11 @@ for page in pages:
         made = "/out/" in span or "NAME" in span
         if span.split("/")[0] in tops and not made and not any((top / span).exists() for top in (pathlib.Path(), pathlib.Path("crates"))):
             missing.append(f"{page}: no {span}")
+
+# A subcommand that a page names is one of the front end's.
+known = set(re.findall(r"^\./mvrlu (\w+)", pathlib.Path("tools/front/page.txt").read_text(), re.M))
+for page in pages:
+    missing += [f"{page}: no subcommand {word}" for word in sorted(set(re.findall(r"\./mvrlu (\w+)", page.read_text())) - known)]
 
 def cells(page):
     for line in page.read_text().splitlines():

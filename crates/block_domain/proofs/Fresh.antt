@@ -10,7 +10,7 @@ use Rattle.section_work.specs.Causes.{Causes}
 use Rattle.section_work.specs.declared.place.Place.TheVariants.{Read}
 use Rattle.mvrlu.specs.Whole.{Whole}
 use Rattle.domain_loan.specs.Met.{HasMet}
-use Rattle.script_domain.proofs.Fresh.{fresh_between}
+use Rattle.domain_lines.proofs.Fresh.{fresh_between}
 use Rattle.block_workers.specs.BlockLinks.{LinkedBlock}
 use Rattle.block_workers.proofs.Fresh.{linked_fresh}
 

@@ -28,7 +28,7 @@ use Rattle.run_report.proofs.history.OneRun.{lines_permuted, made_by_seat}
 use Rattle.run_report.proofs.history.Replay.{IsLeft}
 use Rattle.run_report.proofs.history.Steps.{IsSamePlace}
 use Rattle.domain_loan.specs.Met.{AllContinue}
-use Rattle.script_domain.proofs.OneHistory.{IsOneHistory}
+use Rattle.domain_lines.proofs.OneHistory.{IsOneHistory}
 use Rattle.block_workers.specs.BlockLines.{DoneBlock, lines_of}
 use Rattle.block_workers.specs.BlockRuns.{AllRanBlocks}
 use Rattle.block_domain.specs.Legal.{commands_of, IsInBlockTime, IsOfOneBlock, IsOfOnePlace, LegalBlocks, ReplaysBlocks, head_of}

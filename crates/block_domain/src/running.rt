@@ -12,7 +12,7 @@ ghost use Rattle.set_blocks.specs.BlockRules.{IsBlockCommit};
 ghost use Rattle.domain_loan.specs.Met.{AreTablesOf, MetAlong};
 ghost use Rattle.domain_loan.specs.New.{AreNewFrom};
 ghost use Rattle.domain_loan.specs.Shown.{handle_causes};
-ghost use Rattle.script_domain.specs.Joined.{past_of_whole};
+ghost use Rattle.domain_lines.specs.Joined.{past_of_whole};
 ghost use Rattle.block_domain.specs.Whole.{BlocksRunOf};
 
 use block_workers::run_blocks;

@@ -7,7 +7,7 @@ use Rattle.set_script.specs.declared.commands.Command.{Command}
 use Rattle.run_report.specs.declared.line.Line.{Line}
 use Rattle.run_report.specs.Worked.{Past}
 use Rattle.domain_loan.specs.Met.{AllContinue}
-use Rattle.script_domain.proofs.OneHistory.{IsOneHistory}
+use Rattle.domain_lines.proofs.OneHistory.{IsOneHistory}
 use Rattle.grow_hash.specs.Grown.{IsGrownOpening, grown_catalogue}
 use Rattle.grow_hash.specs.GrowRules.{IsGrowCommit}
 use Rattle.grow_hash.specs.Splits.{count_splits}

@@ -14,7 +14,7 @@ ghost use Rattle.grow_hash.specs.GrowRules.{IsGrowCommit};
 ghost use Rattle.domain_loan.specs.Met.{AreTablesOf, MetAlong};
 ghost use Rattle.domain_loan.specs.New.{AreNewFrom};
 ghost use Rattle.domain_loan.specs.Shown.{handle_causes};
-ghost use Rattle.script_domain.specs.Joined.{past_of_whole};
+ghost use Rattle.domain_lines.specs.Joined.{past_of_whole};
 
 use domain_loan::{lend_all, meet_all, take_back};
 use grow_hash::GrowRules;

@@ -16,7 +16,7 @@ use Rattle.mvrlu.specs.Opened.{IsOpened, new_seat}
 use Rattle.mvrlu.specs.Whole.{Whole, IsStill}
 use Rattle.run_report.specs.declared.line.Line.{Line}
 use Rattle.run_report.specs.Worked.{Past}
-use Rattle.script_domain.specs.Joined.{past_of_whole}
+use Rattle.domain_lines.specs.Joined.{past_of_whole}
 use Rattle.set_script.specs.Objects.{no_words}
 use Rattle.mvrlu_run.specs.Kinds.{IsRunAlong}
 

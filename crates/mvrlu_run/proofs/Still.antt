@@ -8,7 +8,7 @@ use Rattle.grow_report.specs.Whole.{GrowRunOf}
 use Rattle.pool_domain.specs.Whole.{PoolOf}
 use Rattle.run_report.specs.declared.line.Line.{Line}
 use Rattle.run_report.specs.Whole.{RunOf}
-use Rattle.script_domain.specs.Joined.{past_of_whole}
+use Rattle.domain_lines.specs.Joined.{past_of_whole}
 use Rattle.set_script.specs.Catalogue.{Maps}
 use Rattle.set_script.specs.CatalogueOf.{catalogue_of}
 use Rattle.set_script.specs.declared.commands.Command.{Command}

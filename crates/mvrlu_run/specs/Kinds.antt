@@ -29,7 +29,7 @@ use Rattle.run_report.specs.Text.{text_of_run}
 use Rattle.run_report.specs.Whole.{RunOf}
 use Rattle.run_report.specs.Worked.{Past}
 use Rattle.run_words.specs.declared.request.Options.{Options}
-use Rattle.script_domain.specs.Joined.{past_of_whole}
+use Rattle.domain_lines.specs.Joined.{past_of_whole}
 use Rattle.script_workers.specs.Lines.{AllLinked}
 use Rattle.set_blocks.specs.BlockRules.{IsBlockCommit}
 use Rattle.set_script.specs.Catalogue.{Maps}

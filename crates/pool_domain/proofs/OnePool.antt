@@ -26,7 +26,7 @@ use Rattle.run_report.proofs.history.Inserted.{some_order}
 use Rattle.run_report.proofs.history.Replay.{IsLeft, replay}
 use Rattle.command_pool.specs.Pool.{PoolRan}
 use Rattle.domain_loan.specs.Met.{AllContinue}
-use Rattle.script_domain.proofs.OneHistory.{IsOneHistory}
+use Rattle.domain_lines.proofs.OneHistory.{IsOneHistory}
 use Rattle.script_domain.proofs.OneRun.{run_met}
 use Rattle.script_domain.proofs.Seats.{all_continue}
 use Rattle.pool_domain.specs.Legal.{ReplaysPool}

@@ -10,7 +10,7 @@ ghost use Rattle.set_script.specs.Rules.{IsSetCommit};
 ghost use Rattle.domain_loan.specs.Met.{AreTablesOf, MetAlong};
 ghost use Rattle.domain_loan.specs.New.{AreNewFrom};
 ghost use Rattle.domain_loan.specs.Shown.{handle_causes};
-ghost use Rattle.script_domain.specs.Joined.{past_of_whole};
+ghost use Rattle.domain_lines.specs.Joined.{past_of_whole};
 ghost use Rattle.pool_domain.specs.Whole.{PoolOf};
 
 use command_pool::run_pool;

@@ -1,8 +1,6 @@
 -- A read is no older than what its seat had seen when its command began.
-use Rattle.std.proofs.Common.{◌≡◌, ℕ, zero, suc, ◌+◌, ◌-◌, ◌<◌, ◌≤◌, List, [], ◌∷◌, ◌++◌, length, drop, Some}
-use Rattle.std.proofs.Common.{sym, ap, ◌∙◌, subst, arith}
+use Rattle.std.proofs.Common.{◌≡◌, ℕ, ◌+◌, ◌-◌, ◌≤◌, Some}
 use Rattle.std.specs.List.{slice_get}
-use Rattle.std.proofs.lemmas.List.{take-append-drop}
 use Rattle.mv_history.specs.declared.history.Entry.{Entry}
 use Rattle.mv_history.specs.Calls.{Continues, IsEntryAt}
 use Rattle.mv_history.specs.Meaning.{Seat}
@@ -11,33 +9,12 @@ use Rattle.set_script.specs.declared.commands.Reply.{Reply}
 use Rattle.section_work.specs.Causes.{Causes}
 use Rattle.section_work.specs.declared.place.Place.TheVariants.{Read}
 use Rattle.mvrlu.specs.Whole.{Whole}
-use Rattle.run_report.proofs.history.Grown.{there_longer}
-use Rattle.work_runner.specs.Tries.{IsEnteredBetween}
 use Rattle.script_workers.specs.Links.{Linked}
 use Rattle.script_workers.proofs.Fresh.{linked_fresh}
 use Rattle.domain_loan.specs.Met.{HasMet}
+use Rattle.domain_lines.proofs.Fresh.{fresh_between}
 
-there_below : (es : List Entry) (i : ℕ) (e : Entry) → slice_get es i ≡ Some e → i < length es
-there_below [] i e is = absurd (cc)
-there_below (f ∷ es) zero e is = omega arith
-there_below (f ∷ es) (suc i) e is = let b = there_below es i e is in omega arith
-
--- On a seat's way from its first to the one that met a section was entered behind this seat, at this printed time. Then each entry that this
--- seat had seen stands in the whole history, at its printed time, and the section's time isn't below that.
-pub fresh_between : (k : Causes) (w : Whole) (first met s t : Seat) (time : ℕ) → HasMet w first met → first.base ≡ w.base → Continues first s
-    → Continues s met → IsEnteredBetween k s t time
-    → (at : ℕ) (e : Entry) → IsEntryAt s at e → (at ≤ time) × (slice_get w.history (at - (w.base + 1)) ≡ Some e)
-fresh_between k w first met s t time has base from to fresh at e entry =
-    let below = there_below s.seen (at - (s.base + 1)) e entry.there in
-    let same : s.base ≡ w.base = from.base ∙ base in
-    let rest = drop (length s.seen) met.seen in
-    let begins = has.seen s.seen (rest, sym (take-append-drop (length s.seen) met.seen) ∙ ap (λ es. es ++ rest) to.seen) in (
-      omega (arith, below, entry.later, fresh.time_is, fresh.holds, fresh.comes.base, fresh.enters.enters.seat.continues.base),
-      ap (λ es. slice_get es (at - (w.base + 1))) begins.1
-          ∙ there_longer s.seen begins.0 (at - (w.base + 1)) e (subst (λ (n : ℕ). slice_get s.seen (at - (n + 1)) ≡ Some e) same entry.there),
-    )
-
--- So it is of a command that was begun at one seat, and was a read: the read's place isn't below any entry that the seat had seen then.
+-- A command was begun at one seat, and was a read: the read's place isn't below any entry that the seat had seen then.
 pub fresh_read : (k : Causes) (w : Whole) (first met s t : Seat) (command : Command) (time : ℕ) (answer : Reply) → HasMet w first met
     → first.base ≡ w.base → Continues first s → Continues s met → Linked k s t command (Read time) answer
     → (at : ℕ) (e : Entry) → IsEntryAt s at e → (at ≤ time) × (slice_get w.history (at - (w.base + 1)) ≡ Some e)

@@ -1,4 +1,3 @@
 pub mod Seats
-pub mod OneHistory
 pub mod OneRun
 pub mod Fresh

@@ -12,7 +12,7 @@ use Rattle.run_report.specs.Worked.{AllRan, Past}
 use Rattle.run_report.specs.Whole.{RunOf}
 use Rattle.run_report.proofs.history.Grown.{all_worked}
 use Rattle.run_report.proofs.history.OneRun.{run_of}
-use Rattle.script_domain.proofs.OneHistory.{IsOneHistory}
+use Rattle.domain_lines.proofs.OneHistory.{IsOneHistory}
 
 pub run_met : (p : Past) (olds news : List Seat) (scripts : List (List Command)) (lines : List Line) (tables : List LogTable)
     → IsOneHistory IsOpening IsSetCommit p (length scripts) olds news tables → AllRan olds news scripts lines

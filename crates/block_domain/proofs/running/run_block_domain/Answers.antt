@@ -5,8 +5,8 @@ use Rattle.set_script.specs.Lawful.{IsOpening}
 use Rattle.set_blocks.specs.BlockRules.{IsBlockCommit}
 use Rattle.block_workers.specs.Workers.{blocks_of}
 use Rattle.domain_loan.proofs.Seats.{as_many}
-use Rattle.script_domain.specs.Joined.{past_of_whole}
-use Rattle.script_domain.proofs.OneHistory.{one_history}
+use Rattle.domain_lines.specs.Joined.{past_of_whole}
+use Rattle.domain_lines.proofs.OneHistory.{one_history}
 use Rattle.block_domain.proofs.OneRun.{all_continue, blocks_met}
 use Rattle.block_domain.proofs.running.run_block_domain.Goals as goal
 

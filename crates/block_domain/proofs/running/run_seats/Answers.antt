@@ -3,7 +3,7 @@ use Rattle.mvrlu.specs.Meant.{seat_of}
 use Rattle.script_workers.specs.Numbers.{AreNumbered}
 use Rattle.domain_loan.specs.New.{AreNewFrom}
 use Rattle.domain_loan.proofs.Seats.{new_own, new_may_hold, left_for}
-use Rattle.script_domain.proofs.Seats.{new_numbered}
+use Rattle.domain_lines.proofs.NewSeats.{new_numbered}
 use Rattle.block_domain.proofs.OneRun.{all_continue}
 use Rattle.block_domain.proofs.running.run_seats.Goals as goal
 

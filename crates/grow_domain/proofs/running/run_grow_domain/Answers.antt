@@ -5,8 +5,8 @@ use Rattle.grow_hash.specs.Grown.{IsGrownOpening}
 use Rattle.grow_hash.specs.GrowRules.{IsGrowCommit}
 use Rattle.script_workers.specs.Workers.{items_of}
 use Rattle.domain_loan.proofs.Seats.{as_many}
-use Rattle.script_domain.specs.Joined.{past_of_whole}
-use Rattle.script_domain.proofs.OneHistory.{one_history}
+use Rattle.domain_lines.specs.Joined.{past_of_whole}
+use Rattle.domain_lines.proofs.OneHistory.{one_history}
 use Rattle.grow_domain.proofs.OneRun.{all_continue, grown_met}
 use Rattle.grow_domain.proofs.running.run_grow_domain.Goals as goal
 

@@ -6,8 +6,8 @@ use Rattle.set_script.specs.CatalogueOf.{catalogue_of}
 use Rattle.set_script.specs.Lawful.{IsOpening}
 use Rattle.set_script.specs.Rules.{IsSetCommit}
 use Rattle.domain_loan.proofs.Seats.{as_many}
-use Rattle.script_domain.specs.Joined.{past_of_whole}
-use Rattle.script_domain.proofs.OneHistory.{one_history}
+use Rattle.domain_lines.specs.Joined.{past_of_whole}
+use Rattle.domain_lines.proofs.OneHistory.{one_history}
 use Rattle.pool_domain.specs.Whole.{PoolOf}
 use Rattle.pool_domain.proofs.OnePool.{all_went_on, pool_met}
 use Rattle.pool_domain.proofs.running.run_pool_domain.Goals as goal

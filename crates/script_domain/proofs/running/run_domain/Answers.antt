@@ -5,8 +5,8 @@ use Rattle.set_script.specs.Lawful.{IsOpening}
 use Rattle.set_script.specs.Rules.{IsSetCommit}
 use Rattle.script_workers.specs.Workers.{items_of}
 use Rattle.domain_loan.proofs.Seats.{as_many}
-use Rattle.script_domain.specs.Joined.{past_of_whole}
-use Rattle.script_domain.proofs.OneHistory.{one_history}
+use Rattle.domain_lines.specs.Joined.{past_of_whole}
+use Rattle.domain_lines.proofs.OneHistory.{one_history}
 use Rattle.script_domain.proofs.OneRun.{run_met}
 use Rattle.script_domain.proofs.Seats.{all_continue}
 use Rattle.script_domain.proofs.running.run_domain.Goals as goal

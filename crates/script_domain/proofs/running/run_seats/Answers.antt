@@ -3,7 +3,8 @@ use Rattle.mvrlu.specs.Meant.{seat_of}
 use Rattle.script_workers.specs.Numbers.{AreNumbered}
 use Rattle.domain_loan.specs.New.{AreNewFrom}
 use Rattle.domain_loan.proofs.Seats.{new_own, new_may_hold, left_for}
-use Rattle.script_domain.proofs.Seats.{new_numbered, all_continue}
+use Rattle.domain_lines.proofs.NewSeats.{new_numbered}
+use Rattle.script_domain.proofs.Seats.{all_continue}
 use Rattle.script_domain.proofs.running.run_seats.Goals as goal
 
 -- the seats are of the domain, and their handles are numbered in order and may hold what a command locks

@@ -17,7 +17,7 @@ use Rattle.run_report.specs.Whole.{IsTableOf}
 use Rattle.run_report.proofs.history.Grown.{AreKnown}
 use Rattle.domain_loan.specs.Met.{AreTablesOf, HasMet, HaveMet}
 use Rattle.domain_loan.specs.New.{AreNewFrom}
-use Rattle.script_domain.specs.Joined.{past_of_whole}
+use Rattle.domain_lines.specs.Joined.{past_of_whole}
 
 -- What holds of the one history of so many seats, which went on from these to those that met, and of the tables of their logs.
 pub record IsOneHistory (starts : State → Type 0) (allows : List ℕ → State → Writes → Type 0) (p : Past) (count : ℕ) (olds news : List Seat)

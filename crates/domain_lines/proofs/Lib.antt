@@ -1,0 +1,3 @@
+pub mod OneHistory
+pub mod Fresh
+pub mod NewSeats

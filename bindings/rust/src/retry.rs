@@ -119,6 +119,7 @@ impl Seat {
 /// Ends the section in which the work was done.
 fn finish<T>(mut section: Section<'_>, value: T, tries: &mut Tries) -> Result<Done<T>, Unfinished> {
     loop {
+        // No call reads a tag.
         match section.commit([0; 4]) {
             Ok(time) => return Ok(Done { value, at: At::Commit(time) }),
             Err(Uncommitted::Again { section: same, .. }) if tries.take() => section = same,

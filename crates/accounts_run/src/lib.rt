@@ -15,6 +15,9 @@
 //!   section of its own, entered behind the one before;
 //! - each of these sums, and that of the last state, is the opening sum.
 //!
+//! Which transfers are made isn't said, only that each follows the rules: a clause on turns would repeat the
+//! loop. The number of refused attempts differs from run to run, so no clause gives it.
+//!
 //! # How it is made
 //!
 //! 1. *A task.* `Teller` implements `Task<Accounts>`: what it needs of its seat, and what it did (`specs/Runs.antt`), for

@@ -31,7 +31,8 @@ pub fn parse_blocks(alloc: Global, bytes: &[u8]) -> Result<Vec<Block>, BlockFaul
     progress.finish(last_line(bytes, number))
 }
 
-// The number of the last line, where the text has so many parts between its LFs.
+// The number of the last line, where the text has so many parts between its LFs. An empty rest behind the
+// last LF is no line here.
 fn last_line(bytes: &[u8], parts: u32) -> u32
     requires { parts ≡ length (lines_of bytes.now) }
     ensures { result ≡ last_line bytes.now }

@@ -12,7 +12,9 @@ pub trait Task<P: Protocol>: Sized {
     ghost ready: { Seat → Self → Type 0 };
 
     // What it did, from the seat before to the seat after, and from the task as it was to the task as it is. It may tell of
-    // the sections that it entered: the first argument is the store's `took`.
+    // the sections that it entered: the first argument is the store's `took`, which only `enter` gives.
+    // `Enters` of `mv_history` would not do: it holds also of a section that nobody entered, of all that the
+    // seat has seen.
     ghost did: { (Seat → InSection → Type 0) → Seat → Seat → Self → Self → Type 0 };
 
     /// Does what is asked, and gives the store back. It may wait for others, so it takes a `Wait`.

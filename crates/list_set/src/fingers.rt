@@ -46,7 +46,7 @@ struct Finger {
 ///
 /// A finger may be wrong, since nodes are taken out of lists and come into others. So a search reads the
 /// node in its own view, and begins there only where it is in the list, with the key that it had. No
-/// clause speaks of what fingers there are.
+/// clause speaks of what fingers there are. Searches in blocks and growing sets have none.
 #[derive(Drop)]
 pub struct Fingers {
     // Boxed, so that who moves a store with its fingers moves few words; None in the form that takes no

@@ -23,7 +23,8 @@
 //! round without. Both answer how many slots they freed, how many are live, and who holds the oldest
 //! write set, if one is left, with a cause in the call's own steps. In a domain of one seat whose
 //! last time isn't reached `tidy` leaves the log empty. `round` never exchanges CLOCK, and `tidy` at
-//! most once, won or lost. No call takes memory, waits, or tries again. `back_finish` is made of
+//! most once, won or lost. Bounds on steps are told of the trail too, since the calls of the domain have no
+//! count of steps. No call takes memory, waits, or tries again. `back_finish` is made of
 //! `back_cut`, and then of `back_death` and `back_end`, or of a `leave`; each makes one step, and others may
 //! move in between.
 //!

@@ -27,6 +27,8 @@ const SLOTS_MAX: usize = 4096;
 /// Of which other seat each write-back of a round found a version in HEAD, by the place of the version
 /// in the log, whose oldest position is `base`: one byte each, 0 where none was found, else one more
 /// than the seat's number.
+///
+/// It lies on the stack, since the holder is known only at a tidy's end, and no call takes memory.
 #[derive(Drop)]
 pub(crate) struct Found {
     base: u64,

@@ -31,7 +31,8 @@ pub trait Record: Copy {
         ensures words { result ≡ words_of self }
         ensures record { is_record self };
 
-    /// The record that these words say.
+    /// The record that these words say. Only the words of fields must be of their types, so that a client
+    /// needs no invariant on the other words.
     fn from_words(words: Words) -> Self
         requires { are_words words }
         ensures { result ≡ record_of words };

@@ -93,6 +93,8 @@ fn attempt<S: Store, T: Drop, F: Fn(&mut S::Open) -> Result<Decision<T, Tag>, Re
 }
 
 /// Updates so often at most, 1 or more, until the answer isn't `Again`, and gives the store back with the last answer.
+///
+/// No clause counts its exchanges on CLOCK: it loses one for each rival, and of rivals nothing else is told.
 pub fn update_at_most<S: Store, T: Drop, F: Fn(&mut S::Open) -> Result<Decision<T, Tag>, Refusal>>(
     store: S,
     tries: u32,

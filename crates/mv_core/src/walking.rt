@@ -32,7 +32,7 @@ impl<P: Protocol> Shared<P> {
     }
 
     /// The cell at which the slot that a link names begins, by which `load_first_at`, `load_prev_at` and
-    /// `load_data` load the words of the version there. No step is made.
+    /// `load_data` load the words of the version there, so that it is found once. No step is made.
     pub fn slot_linked(&self, link: u64) -> u32
         requires { IsPackedOf (config_of self.now) link }
         ensures { result ≡ cell_of (config_of self.now) (First (link_seat_of link) (slot_named (config_of self.now) link)) }

@@ -1,4 +1,7 @@
 // Times, words and tags, and the history as clauses speak of it.
+//
+// Commits and entries are types of this crate, though no running code makes one, so that the clauses of all
+// stores use the same words.
 use std::collections::LinkedList;
 
 /// The greatest printed time that a store can reach, `2^45 - 1`: a clock word has 45 bits for a time.

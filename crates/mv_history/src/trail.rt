@@ -90,7 +90,7 @@ pub enum StepKind {
 /// there and what it stored.
 ///
 /// A plain store and a move of a seat find nothing. A load, a lost exchange and a move store
-/// nothing, so an exchange is won exactly where it stored something.
+/// nothing, so an exchange is won exactly where it stored something, and no field of its own says so.
 ///
 /// Contracts speak of it; no running code makes one.
 pub struct Step {

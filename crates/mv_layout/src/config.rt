@@ -12,7 +12,8 @@ pub const LAST: u64 = 35184372088831;
 pub struct Config {
     /// How many seats, 1 to 64.
     pub seats: u32,
-    /// How many objects, 1 to 16,777,216.
+    /// How many objects, 1 to 16,777,216. Cells of 32 bits would allow 536,346,491; the smaller bound keeps a
+    /// table below 1.2 GB.
     pub objects: u32,
     /// How many slots each seat's log has, 64 to 4,096.
     pub slots: u32,

@@ -5,7 +5,7 @@ ghost use Rattle.mv_layout.specs.Limits.{Checked};
 use crate::config::Config;
 
 /// The slot of a position of a log, which is the position modulo `slots`. Where `slots` is a power of
-/// two no division is made.
+/// two a mask finds it, without a division.
 #[tactic(auto, using(crate::proofs::Masks::mask_is_rest))]
 pub fn slot_of_position(config: &Config, position: u64) -> u32
     requires checked { Checked config.now }

@@ -88,7 +88,8 @@ pub record HoldsBack (p q : Placed) (holder : Holder) : Type 0 where
   pub tidies : Tidies p q tidy
   pub held : tidy.held ≡ Some holder
 
--- The same of seats alone: it was so for a lawful pass and log that mean each of them.
+-- The same of seats alone: it was so for a lawful pass and log that mean each of them. So `holds_back` needs
+-- no relation of two stores, which would say more, but would stand in each contract.
 pub record HoldsSeat (starts : State → Type 0) (allows : List ℕ → State → Writes → Type 0) (old new : Seat) (holder : Holder) : Type 0 where
   pub before : Placed
   pub after : Placed

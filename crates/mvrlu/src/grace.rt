@@ -39,7 +39,8 @@ impl<'d, P: Protocol> Handle<'d, P> {
     /// A printed time that no section of the domain is below, and none ever will be: whatever a commit
     /// of that time or an earlier one took out of the state, no section reads it any more. It is the
     /// least of the time found in CLOCK and of the low times of all other seats' marks, or the time
-    /// found in GRACE, if that is greater.
+    /// found in GRACE, if that is greater: another seat's scan may have found a later time. A call that waits
+    /// until a time is passed was not taken, since no call of a domain waits.
     ///
     /// A seat in a section holds it back, at most to the section's time; one outside holds back nothing.
     /// It makes at most `seats + 3` steps, commits nothing, takes no memory and waits for nobody.

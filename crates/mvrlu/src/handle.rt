@@ -51,9 +51,10 @@ impl<'d, P: Protocol> Store for Handle<'d, P> {
         self.domain.shared.config().write_max
     }
 
-    // Below `low` live slots nothing is done, from `low` on a round with write-backs, and from `high` on a
-    // tidy, of the handle's own pass and log. A holder is that of the log that the call left. In a domain
-    // of one seat whose last time wasn't reached before, room is made.
+    // A seat's meaning has no log, so `holder` and `room` speak of the handle's own pass and log
+    // (`place_of`). Below `low` live slots nothing is done, from `low` on a round with write-backs, and from
+    // `high` on a tidy, of the handle's own pass and log. A holder is that of the log that the call left. In
+    // a domain of one seat whose last time wasn't reached before, room is made.
     fn prepare(&mut self) -> Room
         ensures prepares { Prepares (handled self.old) (handled self.new) }
         ensures enough { result ≡ Enough → (handled self.new).write_max ≤ (handled self.new).spare }
@@ -152,7 +153,8 @@ impl<P: Protocol> Domain<P> {
     ghost use Rattle.mvrlu.specs.Meant.{seat_of, handled, place_of, aborts_in, aborts_of, IsSeatOf};
 
     /// Lends the domain to a seat of it. The handle means what the seat meant. A seat of another domain,
-    /// which has another name, is refused by the condition. No step is made.
+    /// which has another name, is refused by the condition; a name doesn't tell the opening state, so the
+    /// condition asks for both. No step is made.
     pub fn handle<'d>(&'d self, seat: Seat<P>) -> Handle<'d, P>
         requires { IsSeatOf self.now seat }
         ensures meant { handled result ≡ seat_of seat }

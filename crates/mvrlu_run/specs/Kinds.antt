@@ -86,7 +86,8 @@ pool_chain_of script olds news own = PoolLinked (handle_causes IsOpening IsSetCo
 abbrev pub grow_chain_of : List (List Command) → List Seat → List Seat → List Line → Type 0
 grow_chain_of scripts olds news own = AllLinkedTurns (handle_causes IsGrownOpening IsGrowCommit) olds news scripts own
 
--- the numbers of a run that has no options
+-- The numbers of a run that has no options. They stand here as numbers, and not as the code's constants, with
+-- which a run over fewer objects would meet the clauses too.
 abbrev pub usual_options : Options
 usual_options = record { objects = 4096; slots = 1024; base = 0 }
 

@@ -18,17 +18,18 @@
 //!
 //! # Contract
 //!
-//! Status 0: the output grew by exactly the text that the words ask for (`IsTextFor` in `specs/Told.antt`). Of `run`, and
-//! of a pool, blocks or a growing set likewise: the texts of the files, where they are told, are scripts. There are lines,
-//! final maps and tables of which that text is. Each line stands in the history of the closing: a commit is the entry of
-//! its time by its seat with its command's tag, and a read has its reply in the state of its time. Each command has one
-//! line, each commit of the history has one, and the lines in their order, replayed one after another, give every reply
-//! and end in the printed sets. The domain has all the numbers that it was to have, each seat went along a chain from its
-//! opening to the seat that met, whose links are the attempts of its lines, and the tables are those of these very seats,
-//! each by its own log and trail (`IsRunAlong`): so a read's place isn't below any commit that its seat had seen when the
-//! command began (`fresh_read` in script_domain's proofs). Each other status has its cause, and where the texts are told and
-//! no call failed the scripts alone decide, but for want of memory. A gate is called around each command; no clause speaks
-//! of it, since it tells nothing.
+//! Status 0: the output grew by exactly the text that the words ask for (`IsTextFor` in `specs/Told.antt`).
+//! When `run`, `pool`, `block` or `grow` ends so, every input file whose content the model knows was a valid
+//! script, and the text is that of some lines, final maps and tables. Each line stands in the history of the
+//! closing: a commit is the entry of its time by its seat with its command's tag, and a read has its reply in
+//! the state of its time. Each command has one line, each commit of the history has one, and the lines in
+//! their order, replayed one after another, give every reply and end in the printed sets. The domain has all
+//! the numbers that it was to have, each seat went along a chain from its opening to the seat that met, whose
+//! links are the attempts of its lines, and the tables are those of these very seats, each by its own log and
+//! trail (`IsRunAlong`): so a read's place isn't below any commit that its seat had seen when the command
+//! began (`fresh_read` in script_domain's proofs). Each other status has its cause, and where the texts are
+//! told and no call failed the scripts alone decide, but for want of memory. A gate is called around each
+//! command; no clause speaks of it, since it tells nothing.
 //!
 //! On a growing set the commits of the history are those of lines and of splits: a seat has one split at most behind
 //! each second add of its script that replied yes, ahead of its next line. The text has a line on the buckets and the
@@ -37,8 +38,9 @@
 //! Status 5 names the first file of the words of which opening or reading failed in this call; of a name that stands
 //! twice, its first place.
 //!
-//! The bytes of the files are read one after another, and then each file's are parsed in a thread of its own where one can
-//! be made. The answer is decided by the results in the order of the files, so it is that of the first faulty file.
+//! All files are read into memory, one after another, and then the bytes of each are parsed in a thread of
+//! its own where one can be made. The answer is decided by the results in the order of the files, so it is
+//! that of the first faulty file.
 //!
 //! A replay runs no domain: with status 0 the output grew by exactly `text_of_plan`, a function of the plan that the file's
 //! bytes are.

@@ -10,6 +10,10 @@
 //! locking: `own_of` of its log, a list of objects with their words. The log's notes stand for the
 //! pass (`Stands` of `seat_log`), and say the same.
 //!
+//! A held version may have any words, since no fact of the rule speaks of them. What the loads of
+//! HEAD and STAMP tell of the own log (`IsOwnTop`, `IsOwnTime`) comes with them: as a condition it
+//! would ask the caller of `lock` for what only the rule knows.
+//!
 //! **The contract.** `lock` answers one of `LockAnswer`. `Held` for a new object adds the object to
 //! what is held, with the words of the state that the section reads, and takes one free slot. A
 //! refusal leaves what is held and how many slots are free, and has its cause in the call's own

@@ -59,7 +59,9 @@ pub(crate) fn exchange<P: Protocol, L: Ledger>(
     shared.lock_head(pass, object, previous, first, position, steps)
 }
 
-// Gives the built version up, and looks at what came first where a lost exchange put the walk.
+// Gives the built version up, and looks at what came first where a lost exchange put the walk. That was put
+// there after the section looked, so its stamp is unset or later than the section, and the answer is `Busy`
+// or `Stale`.
 fn lost<P: Protocol, L: Ledger>(
     shared: &Shared<P>,
     pass: &mut Pass<P>,

@@ -20,8 +20,8 @@ use std::snapshot::Snapshot;
 /// Nobody else commits, so it never answers `Busy`, `Stale`, `LogFull`, `Again` or `Short`, and it
 /// makes no rests. `write_max` is 16, and its trail is empty. It may be let go.
 ///
-/// It has 48 bytes for each object, which `new` takes, and nothing for a commit: the opening state
-/// and the history are only for clauses.
+/// It has 48 bytes for each object, which `new` takes, 0.8 GB at most, and nothing for a commit: the opening
+/// state and the history are only for clauses.
 pub struct PlainStore<P: Protocol> {
     // Only clauses read these two.
     pub(crate) start: Snapshot<Vec<Words>>,

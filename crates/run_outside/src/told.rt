@@ -15,7 +15,8 @@ pub(crate) enum Letters {
     },
 }
 
-/// The names of texts of which a call failed: none, or those before and one more. No value of it is kept.
+/// The names of texts of which a call failed: none, or those before and one more. No value of it is kept: the
+/// snapshots need no memory, which may be what was wanting when a call failed.
 #[derive(Drop)]
 pub(crate) enum Failures {
     None,

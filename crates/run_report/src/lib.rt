@@ -13,6 +13,9 @@
 //! 4. the replay of the ordered lines, from 30 empty maps, gives each line's reply and ends in `end`. A commit's command
 //!    changes something there, and the change is made. A read's command has nothing to change there.
 //!
+//! The run is the one sorted permutation of its lines, so one definition serves one script and many. A commit
+//! makes its time, and so shares it with no line before it along its script; a read may.
+//!
 //! Point 4 is what a reader of the text can check with the scripts alone: one catalogue, changed by one commit after
 //! another, gives every reply.
 //!

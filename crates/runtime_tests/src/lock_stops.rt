@@ -1,4 +1,5 @@
-// The first steps of a lock, after which the client stops.
+// The first steps of a lock, after which the client stops. That they are those of the body of `lock` is not
+// proved.
 ghost use Rattle.std.specs.Prelude.{◌≡◌, ℕ, ◌+◌, ◌<◌, ◌≤◌, ◌^◌, true, false};
 ghost use Rattle.mv_core.specs.declared.view.Walk.TheVariants as place;
 ghost use Rattle.mv_core.specs.LockSteps.{FitsField};

@@ -71,7 +71,7 @@ fn write_name_and_key(text: &mut String, name: Name, key: u32) -> Result<(), All
     write!(text, " {key}")
 }
 
-// Writes the letter and the digit of a name.
+// Writes the letter and the digit of a name, as `run_report` does, on which this crate doesn't stand.
 fn write_name(text: &mut String, name: Name) -> Result<(), AllocError>
     ensures { OnOk result (string_bytes text.new ≡ string_bytes text.old ++ name_text name) }
 {

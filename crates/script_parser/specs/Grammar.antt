@@ -204,7 +204,8 @@ abbrev pub first_read : List (List ℕ) → Reading
 first_read [] = Ok None
 first_read (word ∷ words) = if is_format_word word then (format_of words >>= λ format. Ok None) else command_of 1 (word ∷ words)
 
--- the format of the lines behind it, 1 where it names none; none yet as long as no line has words
+-- The format of the lines behind it, 1 where it names none; none yet as long as no line has words. It is 1
+-- too behind a faulty format line, which nobody sees, since parsing stops at the first fault.
 abbrev pub first_format : List (List ℕ) → Option ℕ
 first_format [] = None
 first_format (word ∷ words) = Some (if is_format_word word then result_unwrap_or (format_of words) 1 else 1)

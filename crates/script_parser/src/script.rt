@@ -13,7 +13,8 @@ use std::alloc::Global;
 /// `Err(At { line, kind })` is the first line, counted from 1 with the skipped ones, that is
 /// outside the grammar or whose command is one more than `MOST_COMMANDS`, and what is wrong with
 /// it first: `Word`, `Count`, `Format`, `Name`, `Key`, `Value`, `Same`, `Many`. `Err(Memory)` is
-/// want of memory. The text has fewer than 4294967295 bytes, so that a line's number fits.
+/// want of memory. The text has fewer than 4294967295 bytes, so that a line's number fits. What follows
+/// the last LF counts as a line, also where it is empty.
 pub fn parse(alloc: Global, bytes: &[u8]) -> Result<Vec<Command>, ScriptFault>
     requires { length bytes.now < 2 ^ 32 - 1 }
     ensures exact { MatchResult result (λ commands. parsed bytes.now ≡ Ok commands.items) (Refuses (parsed bytes.now)) }

@@ -114,6 +114,8 @@ unlocks_after before (s ∷ steps) = cond (is_unlock s && not before) 1 0 + unlo
 
 -- The aborts among a seat's steps, of sections that held something. Such an abort gives up its objects one right after the other, and then
 -- makes two steps of other kinds: so there is one for each step that gives an object up and doesn't follow another that does.
+-- Cleared marks aren't counted instead: each step of entering and leaving would have to be told apart, and
+-- loads of CLOCK come from write-backs too.
 abbrev pub aborts_in : List Step → ℕ
 aborts_in steps = unlocks_after false steps
 

@@ -2,6 +2,9 @@
 use mv_history::{Holder, Rival};
 
 /// Why a lock was refused.
+///
+/// A lock with room for its object is refused in no other way. [`Cause`], which has more, is a type of its
+/// own: one type for both would make each contract exclude values.
 #[derive(Clone, Copy, Debug, PartialEq, Eq)]
 pub enum Refusal {
     /// It found this object held by this other seat.

@@ -14,8 +14,9 @@ use section_work::{Attempt, attempt_work};
 
 /// Attempts a block in one section of the store, and gives the store back.
 ///
-/// It needs a `write_max` of at least 5 for each of the block's commands. It never waits or tries again by itself, and
-/// takes no memory. It enters one section, and a second one only where its commit found no time left; a block that changes
+/// It needs a `write_max` of at least 5 for each of the block's commands, and tests `prepare` first, so that
+/// no lock is refused for want of room. It never waits or tries again by itself, and takes no memory. It
+/// enters one section, and a second one only where its commit found no time left; a block that changes
 /// nothing locks nothing.
 ///
 /// - `Done` at a `Place::Commit`: the block changed the catalogue, by one commit of that printed time, and the replies and

@@ -1,4 +1,6 @@
 // Reading the words of what a walk has found.
+//
+// The readers are inlined: called apart they cost a third of a long walk's time.
 ghost use Rattle.std.specs.Prelude.{◌≡◌, ◌+◌, ◌<◌, slice_index};
 ghost use Rattle.mv_history.specs.declared.StepKind.TheVariants.{LoadData, LoadMaster};
 ghost use Rattle.mv_history.specs.Fours.{four_from};

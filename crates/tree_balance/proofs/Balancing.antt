@@ -88,7 +88,8 @@ pub balanced_half : (s : State) (root k v p l m w : ℕ) (ws : Writes) → IsLaw
     → IsVacant s m → IsVacant s w → m ≢ w → IsDraft s root (grow_writes s root k v p l m w) ws → Half s (written s ws) ws root (Lacks k) (put k v)
 balanced_half s root k v p l m w ws law lo lt fits place vm vw ne d =
     half_after (written s (grow_writes s root k v p l m w)) (written s ws) root lo lt steps s (grow_writes s root k v p l m w) ws (Lacks k) (put k v)
-    (grow_half s root k v p l m w law lo lt fits place vm vw ne) (λ o out. covered (touches (grow_writes s root k v p l m w) o) (names d.steps o) (sym (d.named o) ∙ out))
+    (grow_half s root k v p l m w law lo lt fits place vm vw ne)
+    (λ o out. covered (touches (grow_writes s root k v p l m w) o) (names d.steps o) (sym (d.named o) ∙ out))
   where
     some : 180 < length (written s (grow_writes s root k v p l m w))
     some = subst (λ (n : ℕ). 180 < n) (sym (length-written s (grow_writes s root k v p l m w))) law.some

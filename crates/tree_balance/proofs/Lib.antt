@@ -4,3 +4,7 @@ pub mod Turning
 pub mod Stepping
 pub mod Balancing
 pub mod Keeping
+pub mod Merging
+pub mod Drafting
+pub mod Making
+pub mod Planning

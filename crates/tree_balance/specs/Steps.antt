@@ -1,5 +1,5 @@
 -- The steps by which a tree is rebalanced, by the words of the objects that they name.
-use Rattle.std.specs.Prelude.{ℕ, Bool, false, ◌==◌, ◌||◌, eqb, ⊤, List, [], ◌∷◌, set, slice_index_or, if◌then◌else◌}
+use Rattle.std.specs.Prelude.{ℕ, suc, ◌≡◌, ◌≤◌, Bool, false, ◌==◌, ◌||◌, eqb, ⊤, List, [], ◌∷◌, set, slice_index_or, if◌then◌else◌}
 use Rattle.mv_history.specs.State.{State, Writes, written}
 use Rattle.mv_history.specs.Meaning.{words_at}
 use Rattle.set_script.specs.Objects.{revalue}
@@ -47,3 +47,7 @@ abbrev pub names : List Step → ℕ → Bool
 names [] o = false
 names (Rank node rank ∷ steps) o = eqb node o || names steps o
 names (Rotate grand parent child ∷ steps) o = eqb grand o || (eqb parent o || (eqb child o || names steps o))
+
+-- the object with these words is an inner node of the tree
+abbrev pub HasInner : ℕ → ℕ → List ℕ → Type 0
+HasInner root object words = (180 ≤ object) × (slice_index_or words 0 0 ≡ suc root) × (slice_index_or words 1 0 ≡ 2)

@@ -1,0 +1,10 @@
+pub mod Shapes
+pub mod Reshaping
+pub mod Turning
+pub mod Stepping
+pub mod Balancing
+pub mod Keeping
+pub mod Merging
+pub mod Drafting
+pub mod Making
+pub mod Planning

@@ -1,0 +1,261 @@
+// Which steps follow an add on the way of its search.
+ghost use Rattle.std.specs.Prelude.{◌≡◌, ◌≢◌, ◌+◌, ◌<◌, ◌≤◌, length, slice_index_or, true};
+ghost use Rattle.mv_history.specs.Legal.{are_distinct};
+ghost use Rattle.set_script.specs.Lawful.{IsLawful};
+ghost use Rattle.set_script.specs.Objects.{owner};
+ghost use Rattle.tree_set.specs.Forks.{EndsHere};
+ghost use Rattle.tree_set.specs.Places.{grow_writes};
+ghost use Rattle.tree_balance.specs.Drafts.{writes_in, Extends, IsAddOnWay};
+
+use crate::plan::AddOnWay;
+use crate::steps::Step;
+use mv_history::{View, Words};
+use tree_set::Fork;
+
+/// A way of at most so many objects, the root and 8 inner nodes, is left as it is.
+pub const SHORT: usize = 9;
+
+// The steps at one inner node of the way, and the node that is on the way above it then.
+#[derive(Clone, Copy)]
+struct Choice {
+    steps: [Step; 5],
+    count: usize,
+    next: u32,
+    ghost few: { count ≤ 5 },
+}
+
+// The rank of a node with these words: a leaf has rank 0.
+fn rank_of(words: Words) -> u64 {
+    if words[1] == 2 { words[5] } else { 0 }
+}
+
+// The child of an inner node with these words that is on the same side as `child`, and the other one of `words`.
+fn child_beside(words: Words, child: u32) -> u64 {
+    if words[3] == child as u64 {
+        words[4]
+    } else {
+        words[3]
+    }
+}
+
+// The child of the node with `words` that is nearer to the sibling of that node.
+fn child_inside(parent: Words, child: u32, words: Words) -> u64 {
+    if parent[3] == child as u64 {
+        words[4]
+    } else {
+        words[3]
+    }
+}
+
+impl AddOnWay {
+    // The object of this number, with its words once they are written, if there is such an object.
+    fn look<V: View>(&self, view: &mut V, object: u64) -> Option<(u32, Words)>
+        requires distinct { are_distinct (writes_in self.now) ≡ true }
+        ensures as_before { V.as_before view.old view.new }
+    {
+        if object >= view.objects() as u64 {
+            return None;
+        }
+        let object = object as u32;
+        Some((object, self.words(view, object)))
+    }
+
+    // What is to be done where the child's rank should be below that of its parent; None where there is
+    // no room.
+    fn choose<V: View>(
+        &self,
+        view: &mut V,
+        grand: u32,
+        parent: u32,
+        child: u32,
+        limit: usize,
+    ) -> Option<Choice>
+        requires limit { limit ≤ 16 }
+        requires distinct { are_distinct (writes_in self.now) ≡ true }
+        ensures as_before { V.as_before view.old view.new }
+    {
+        let (_, above) = self.look(view, parent as u64)?;
+        let (_, here) = self.look(view, child as u64)?;
+        let stay = Step::Rank {
+            node: parent,
+            rank: above[5],
+        };
+        if here[5] < above[5] {
+            return Some(Choice {
+                steps: [stay; 5],
+                count: 0,
+                next: parent,
+            });
+        }
+        if self.count() + 3 > limit {
+            return None;
+        }
+        let (_, sibling) = self.look(view, child_beside(above, child))?;
+        let beside = rank_of(sibling);
+        if above[5] <= beside.saturating_add(1) {
+            let most = if here[5] < beside { beside } else { here[5] };
+            let raise = Step::Rank {
+                node: parent,
+                rank: most.saturating_add(1),
+            };
+            return Some(Choice {
+                steps: [raise; 5],
+                count: 1,
+                next: parent,
+            });
+        }
+        self.choose_turn(view, grand, parent, child, limit, above, here)
+    }
+
+    // The turn, by one rotation or by two.
+    fn choose_turn<V: View>(
+        &self,
+        view: &mut V,
+        grand: u32,
+        parent: u32,
+        child: u32,
+        limit: usize,
+        above: Words,
+        here: Words,
+    ) -> Option<Choice>
+        requires limit { limit ≤ 16 }
+        requires distinct { are_distinct (writes_in self.now) ≡ true }
+        ensures as_before { V.as_before view.old view.new }
+    {
+        let (inside, words) = self.look(view, child_inside(above, child, here))?;
+        let lower = Step::Rank {
+            node: parent,
+            rank: above[5].saturating_sub(1),
+        };
+        if words[1] != 2 || here[5] >= words[5].saturating_add(2) {
+            let turn = Step::Rotate {
+                grand,
+                parent,
+                child,
+            };
+            return Some(Choice {
+                steps: [turn, lower, lower, lower, lower],
+                count: 2,
+                next: child,
+            });
+        }
+        if self.count() + 4 > limit {
+            return None;
+        }
+        let first = Step::Rotate {
+            grand: parent,
+            parent: child,
+            child: inside,
+        };
+        let second = Step::Rotate {
+            grand,
+            parent,
+            child: inside,
+        };
+        let raise = Step::Rank {
+            node: inside,
+            rank: words[5].saturating_add(1),
+        };
+        let lower_child = Step::Rank {
+            node: child,
+            rank: here[5].saturating_sub(1),
+        };
+        Some(Choice {
+            steps: [first, second, raise, lower_child, lower],
+            count: 5,
+            next: inside,
+        })
+    }
+
+    // Goes up the way from this node, which stands where the last object of the way leads.
+    fn climb<V: View>(&mut self, view: &mut V, root: u32, way: &[u32], from: u32, limit: usize)
+        requires root_in { root < 180 }
+        requires limit { limit ≤ 16 }
+        requires distinct { are_distinct (writes_in self.old) ≡ true }
+        ensures extends { Extends (V.state view.old) root limit (writes_in self.old) (writes_in self.new) }
+        ensures as_before { V.as_before view.old view.new }
+    {
+        let first = Step::Rank {
+            node: from,
+            rank: 1,
+        };
+        if !self.take_all(view, root, &[first], limit) {
+            return;
+        }
+        let mut node = from;
+        for i in 1..way.len() {
+            let place = way.len() - i;
+            let Some(choice) = self.choose(view, way[place - 1], way[place], node, limit) else {
+                return;
+            };
+            if !self.take_all(view, root, &choice.steps[..choice.count], limit) {
+                return;
+            }
+            node = choice.next;
+        }
+    }
+
+    /// Goes up the way from the new inner node, and makes steps where a node's rank isn't below that of its
+    /// parent, while the writes are of at most so many objects. A way of at most [`SHORT`] objects is left as it is.
+    ///
+    /// The way is advice: whatever objects it names, a step is made only where their words allow it.
+    pub fn rebalance<V: View>(
+        &mut self,
+        view: &mut V,
+        root: u32,
+        way: &[u32],
+        inner: u32,
+        limit: usize,
+    )
+        requires root_in { root < 180 }
+        requires limit { limit ≤ 16 }
+        requires distinct { are_distinct (writes_in self.old) ≡ true }
+        ensures extends { Extends (V.state view.old) root limit (writes_in self.old) (writes_in self.new) }
+        ensures short { length way.now ≤ 9 → writes_in self.new ≡ writes_in self.old }
+        ensures as_before { V.as_before view.old view.new }
+    {
+        if way.len() <= SHORT {
+            return;
+        }
+        self.climb(view, root, way, inner, limit);
+    }
+}
+
+/// The writes of an add of the key, with this value, where the search for it ended, and of the steps
+/// after it by which the tree stays short.
+///
+/// It needs a lawful state in which that search ended at this fork, at a leaf of another key, and two
+/// vacant objects. The way is what [`find_way`](crate::find_way) remembers; `most` is how many objects
+/// may be locked beside the add's own four, at most 12. It refuses nothing, and takes no memory.
+///
+/// A commit of these writes is an add. Where the way has at most [`SHORT`] objects the writes are
+/// those of the add alone.
+pub fn plan_add<V: View>(
+    view: &mut V,
+    root: u32,
+    key: u32,
+    value: u64,
+    fork: &Fork,
+    way: &[u32],
+    leaf: u32,
+    inner: u32,
+    most: usize,
+) -> AddOnWay
+    requires root_from { 170 ≤ root }
+    requires root_in { root < 180 }
+    requires lawful { IsLawful (V.state view.old) }
+    requires ends { EndsHere (V.state view.old) root key fork.now }
+    requires lacks { slice_index_or fork.now.words 2 0 ≢ key }
+    requires leaf_vacant { (180 ≤ leaf) × (leaf < length (V.state view.old)) × (owner (V.state view.old) leaf ≡ 0) }
+    requires inner_vacant { (180 ≤ inner) × (inner < length (V.state view.old)) × (owner (V.state view.old) inner ≡ 0) }
+    requires differ { leaf ≢ inner }
+    requires most { most ≤ 12 }
+    ensures plan { IsAddOnWay (V.state view.old) root key value fork.now.parent fork.now.leaf leaf inner most (writes_in result) }
+    ensures short { length way.now ≤ 9 → writes_in result ≡ grow_writes (V.state view.old) root key value fork.now.parent fork.now.leaf leaf inner }
+    ensures as_before { V.as_before view.old view.new }
+{
+    let writes = fork.grow_writes(root, key, value, leaf, inner);
+    let mut plan = AddOnWay::of(&writes);
+    plan.rebalance(view, root, way, inner, most + 4);
+    plan
+}

@@ -1,20 +1,11 @@
 -- What all seats did, and the number of their lines.
-use Rattle.std.proofs.Common.{◌≡◌, ℕ, ◌<◌, ◌+◌, ◌^◌, ◌≤◌, List, [], ◌∷◌, ◌++◌, length, map, sum_by, All, Vec, refl, sym, ap, ◌∙◌, arith}
-use Rattle.std.proofs.Common.{length-append}
-use Rattle.std.specs.declared.alloc.Global.{Global}
+use Rattle.std.proofs.Common.{◌≡◌, ℕ, ◌<◌, ◌+◌, ◌^◌, ◌≤◌, List, [], ◌∷◌, ◌++◌, length, map, sum_by, All, Vec, refl, sym, ap, ◌∙◌, arith, length-append}
 use Rattle.std.specs.List.{flat_map}
 use Rattle.std.proofs.lemmas.List.Elements.{All-nil, All-cons, All-head, All-tail, All-map, All-weaker}
 use Rattle.std.proofs.lemmas.List.Sums.{sum_by-cons}
-use Rattle.mv_history.specs.Meaning.{Seat}
-use Rattle.section_work.specs.Causes.{Causes}
-use Rattle.section_work.specs.declared.place.Place.{Place}
-use Rattle.set_script.specs.declared.commands.Command.{Command}
-use Rattle.set_script.specs.declared.commands.Reply.{Reply}
-use Rattle.set_script.specs.declared.script.TheConstants.{MOST_COMMANDS}
-use Rattle.item_workers.specs.declared.runner.Answer.{Answer}
-use Rattle.item_workers.specs.Chains.{Chain, EachDid, HaveNumbers, answered}
 use Rattle.item_workers.proofs.Each.{each_seat, chain_told}
 use Rattle.item_workers.proofs.Links.{did_to}
+use Rattle.script_workers.proofs.Terms.{Global, Seat, Causes, Place, Command, Reply, MOST_COMMANDS, Answer, Chain, EachDid, HaveNumbers, answered}
 use Rattle.block_workers.specs.BlockLines.{done_of, lines_in, row_in, row_of, AllFit, FitsNumbers}
 use Rattle.block_workers.specs.BlockLinks.{AllLinkedBlocks, LinkedBlockOf, LinkedDone}
 use Rattle.block_workers.specs.BlockRuns.{AllRanBlocks}
@@ -37,8 +28,6 @@ module _ (k : Causes) where
       → Chain (answered (LinkedDone k)) s u blocks ds → HaveNumbers length seat number blocks ds
       → (length (row_in ds) ≡ sum_by length blocks) × (number + sum_by length blocks < 2 ^ 32 → All FitsNumbers ds)
   counted s u seat number [] [] c n = (refl, λ few. All-nil FitsNumbers)
-  counted s u seat number [] (d ∷ ds) c n = absurd c
-  counted s u seat number (b ∷ blocks) [] c n = absurd c
   counted s u seat number (b ∷ blocks) (d ∷ ds) c n =
       let sum = sum_by-cons length b blocks in
       let own : length d.done.1 ≡ length b = replies_count k s c.0 b d.done.0 d.done.1 c.1 in
@@ -48,31 +37,29 @@ module _ (k : Causes) where
         omega (arith, both, lines, own, others.0, sum),
         λ few. All-cons FitsNumbers d ds (omega (arith, few, sum, own, n.1)) (others.1 (omega (arith, few, sum))),
       )
+  counted s u seat number _ _ c n = absurd c
 
 module _ (k : Causes) {T : Type 0} (seat_in : T → Seat) where
-  -- what all seats ran
+  -- what all seats ran, and that each went on from where it was
   pub all_ran : (ts : List T) (ns : List Seat) (scripts : List (List (List Command))) (rows : List (Vec (Answer (Place × List Reply)) Global))
-      → EachDid (λ (t : Seat). t) (LinkedDone k) length (map seat_in ts) ns scripts rows → AllRanBlocks (map seat_in ts) ns scripts (flat_map row_of rows)
-  all_ran =
-      each_seat seat_in (λ (t : Seat). t) (LinkedDone k) length (λ ts ns scripts rows. AllRanBlocks (map seat_in ts) ns scripts (flat_map row_of rows)) refl
-      (λ t n s r ts ns scripts rows h rest.
-      (row_of r, flat_map row_of rows, refl, chain_ran k (seat_in t) n s r.items (did_to (LinkedDone k) length (seat_in t) n s r.items h), rest))
-
-  -- and that each went on from where it was
-  pub all_linked : (ts : List T) (ns : List Seat) (scripts : List (List (List Command))) (rows : List (Vec (Answer (Place × List Reply)) Global))
       → EachDid (λ (t : Seat). t) (LinkedDone k) length (map seat_in ts) ns scripts rows
-      → AllLinkedBlocks k (map seat_in ts) ns scripts (flat_map row_of rows)
-  all_linked =
+      → AllRanBlocks (map seat_in ts) ns scripts (flat_map row_of rows) × AllLinkedBlocks k (map seat_in ts) ns scripts (flat_map row_of rows)
+  all_ran =
       each_seat seat_in (λ (t : Seat). t) (LinkedDone k) length
-      (λ ts ns scripts rows. AllLinkedBlocks k (map seat_in ts) ns scripts (flat_map row_of rows)) refl
-      (λ t n s r ts ns scripts rows h rest. (
-        map done_of r.items,
-        flat_map row_of rows,
-        ap (λ ls. ls ++ flat_map row_of rows) (done_lines r.items),
-        chain_told (answered (LinkedDone k)) (LinkedBlockOf k) done_of (λ a b c d l. l) (seat_in t) n s r.items
-            (did_to (LinkedDone k) length (seat_in t) n s r.items h).chain,
-        rest,
-      ))
+      (λ ts ns scripts rows. AllRanBlocks (map seat_in ts) ns scripts (flat_map row_of rows)
+      × AllLinkedBlocks k (map seat_in ts) ns scripts (flat_map row_of rows))
+      (refl, refl)
+      (λ t n s r ts ns scripts rows h rest.
+      (let did = did_to (LinkedDone k) length (seat_in t) n s r.items h in (
+        (row_of r, flat_map row_of rows, refl, chain_ran k (seat_in t) n s r.items did, rest.0),
+        (
+          map done_of r.items,
+          flat_map row_of rows,
+          ap (λ ls. ls ++ flat_map row_of rows) (done_lines r.items),
+          chain_told (answered (LinkedDone k)) (LinkedBlockOf k) done_of (λ a b c d l. l) (seat_in t) n s r.items did.chain,
+          rest.1,
+        ),
+      )))
 
   -- there are as many lines as commands, and no number is too great
   pub all_counted : (ts : List T) (ns : List Seat) (scripts : List (Vec (List Command) Global)) (rows : List (Vec (Answer (Place × List Reply)) Global))

@@ -1,28 +1,14 @@
 -- The place of a block: what its attempt says of it, and that it stays as more of the history is seen.
 use Rattle.std.proofs.Common.{◌≡◌, ℕ, ◌+◌, ◌-◌, ◌≤◌, ◌==◌, false, List, length, drop, refl, sym, ap, ◌∙◌, subst, arith, length-append}
 use Rattle.std.proofs.lemmas.Option.{slice_get_within}
-use Rattle.mv_history.specs.declared.history.Commit.{Commit}
-use Rattle.mv_history.specs.declared.history.Entry.{Entry}
-use Rattle.mv_history.specs.declared.history.Entry.TheVariants.{Change}
-use Rattle.mv_history.specs.State.{State}
-use Rattle.mv_history.specs.Meaning.{Seat, IsSeat}
-use Rattle.mv_history.specs.Calls.{Continues}
-use Rattle.set_script.specs.CatalogueOf.{catalogue_of}
-use Rattle.set_script.specs.Lawful.{IsOpening}
-use Rattle.set_script.specs.Rules.{capacity}
-use Rattle.set_script.specs.declared.commands.Command.{Command}
-use Rattle.section_work.specs.declared.place.Place.{Place}
-use Rattle.section_work.specs.declared.place.Place.TheVariants.{Commit as AtCommit, Read}
-use Rattle.set_script.specs.declared.commands.Reply.{Reply}
-use Rattle.section_work.specs.Causes.{Causes}
+use Rattle.set_blocks.specs.BlockReplies.{block_replies, block_changes, block_next}
+use Rattle.set_blocks.proofs.SingleBlocks.{length-block_replies}
+use Rattle.run_report.proofs.history.Grown.{longer, there_longer, state_longer}
 use Rattle.set_blocks.specs.declared.attempt.BlockAttempt.TheVariants.{Done}
 use Rattle.set_blocks.specs.BlockAttempts.{BlockAttempted}
-use Rattle.set_blocks.specs.BlockReplies.{block_replies, block_changes, block_next}
 use Rattle.set_blocks.specs.BlockRules.{IsBlockCommit}
-use Rattle.set_blocks.proofs.SingleBlocks.{length-block_replies}
-use Rattle.run_report.specs.Order.{time_of}
-use Rattle.run_report.specs.Worked.{Past, past_of, state_of_time}
-use Rattle.run_report.proofs.history.Grown.{longer, there_longer, state_longer}
+use Rattle.script_workers.proofs.Terms.{Commit, Entry, Change, State, Seat, IsSeat, Continues, catalogue_of, IsOpening, capacity, Command, Place, AtCommit}
+use Rattle.script_workers.proofs.Terms.{Read, Reply, Causes, time_of, Past, past_of, state_of_time}
 use Rattle.script_workers.proofs.Places.{same_room, ran_commit, ran_read, past_later, ran_after}
 use Rattle.block_workers.specs.BlockLinks.{LinkedBlock}
 use Rattle.block_workers.specs.BlockRuns.{BlockPlaceOf, RanBlock}

@@ -1,13 +1,10 @@
 -- The lines of blocks, as one more is made.
 use Rattle.std.proofs.Common.{◌≡◌, ℕ, suc, ◌+◌, ◌<◌, ◌≤◌, List, [], ◌∷◌, ◌++◌, length, take, get_or, slice_get, Some, Vec, refl, sym, ap, ◌∙◌, arith}
-use Rattle.std.specs.declared.alloc.Global.{Global}
 use Rattle.std.specs.List.{flat_map}
 use Rattle.std.proofs.lemmas.List.{flat_map_more, take_more, length-take-le}
 use Rattle.std.proofs.lemmas.List.Folds.{length-flat_map-take}
 use Rattle.std.proofs.lemmas.Option.{get_or_from_slice_get}
-use Rattle.section_work.specs.declared.place.Place.{Place}
-use Rattle.set_script.specs.declared.commands.Reply.{Reply}
-use Rattle.item_workers.specs.declared.runner.Answer.{Answer}
+use Rattle.script_workers.proofs.Terms.{Global, Place, Reply, Answer}
 use Rattle.block_workers.specs.BlockLines.{lines_at, lines_in, row_in, row_of}
 
 -- one more line of a block

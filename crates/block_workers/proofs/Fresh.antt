@@ -1,12 +1,7 @@
 -- A block that changes nothing is of a section that its own attempt entered.
 use Rattle.std.proofs.Common.{ℕ, List}
-use Rattle.mv_history.specs.Meaning.{Seat}
-use Rattle.set_script.specs.declared.commands.Command.{Command}
-use Rattle.section_work.specs.declared.place.Place.TheVariants.{Read}
-use Rattle.set_script.specs.declared.commands.Reply.{Reply}
-use Rattle.section_work.specs.Causes.{Causes}
-use Rattle.work_runner.specs.Tries.{IsEnteredBetween}
 use Rattle.work_runner.proofs.Tries.{entered_fresh}
+use Rattle.script_workers.proofs.Terms.{Seat, Command, Read, Reply, Causes, IsEnteredBetween}
 use Rattle.block_workers.specs.BlockLinks.{LinkedBlock}
 
 -- No such block is older than what its seat had seen when it began.

@@ -1,12 +1,12 @@
 -- What all workers took, put together: each number of a command, once.
-use Rattle.std.proofs.Common.{◌≡◌, ◌≢◌, ℕ, zero, suc, ◌+◌, ◌<◌, ◌≤◌, ◌==◌, Bool, cond, leb, List, [], ◌∷◌, ◌++◌, length, map, All, inl, inr, refl, ap}
-use Rattle.std.proofs.Common.{◌∙◌, arith, eq-eqb, ne_eqb}
+use Rattle.std.proofs.Common.{◌≡◌, ◌≢◌, ℕ, zero, suc, ◌+◌, ◌<◌, ◌≤◌, ◌==◌, Bool, cond, leb, List, [], ◌∷◌, ◌++◌, length, map, All, inl, inr, refl, ap, ◌∙◌}
+use Rattle.std.proofs.Common.{arith, eq-eqb, ne_eqb}
 use Rattle.std.proofs.lemmas.Bool.{cases_lt}
 use Rattle.std.proofs.lemmas.Bool.Decides.{nat_tests}
 use Rattle.std.proofs.lemmas.List.{map-append, length-map}
 use Rattle.std.proofs.lemmas.List.Elements.{All-nil, All-cons, All-head, All-tail, All-weaker, All-append, All-map}
 use Rattle.std.proofs.lemmas.List.Sums.{sum_by-cons}
-use Rattle.run_report.specs.declared.line.Line.{Line}
+use Rattle.script_workers.proofs.Terms.{Line}
 use Rattle.command_pool.specs.Pool.{times_of}
 use Rattle.command_pool.specs.Queue.{total, total_to}
 use Rattle.command_pool.proofs.Totals.{total-append}

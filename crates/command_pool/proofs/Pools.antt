@@ -1,27 +1,18 @@
 -- What all workers of a pool did.
 use Rattle.std.proofs.Common.{◌≡◌, ℕ, suc, ◌<◌, ◌≤◌, List, [], ◌∷◌, ◌++◌, length, map, All, Vec, refl, ap, ◌∙◌, subst}
-use Rattle.std.specs.declared.alloc.Global.{Global}
 use Rattle.std.specs.List.{flat_map}
 use Rattle.std.proofs.lemmas.List.Elements.{All-nil, All-cons, All-head, All-tail}
-use Rattle.mv_history.specs.Meaning.{Seat}
-use Rattle.set_script.specs.declared.commands.Command.{Command}
-use Rattle.section_work.specs.declared.place.Place.{Place}
-use Rattle.set_script.specs.declared.commands.Reply.{Reply}
-use Rattle.section_work.specs.Causes.{Causes}
-use Rattle.run_report.specs.declared.line.Line.{Line}
-use Rattle.crossbeam_queue.specs.Passes.{view}
-use Rattle.item_workers.specs.declared.runner.Answer.{Answer}
 use Rattle.item_workers.specs.Serving.{IsServedTo, EachServed}
+use Rattle.script_workers.proofs.Terms.{Global, Seat, Command, Place, Reply, Causes, Line, Answer}
 use Rattle.script_workers.specs.Lines.{line_of, row_of}
 use Rattle.script_workers.specs.Links.{LinkedDone}
-use Rattle.command_pool.specs.declared.queue.Hand.{Hand}
-use Rattle.command_pool.specs.declared.turns.Turns.{Turns}
-use Rattle.command_pool.specs.Pool.{AreTaken, EachSeat, Took, TookLinked, PoolRan}
 use Rattle.command_pool.specs.Queue.{total, total_to, last_of}
-use Rattle.command_pool.specs.Lending.{QueueOf, IsBegun, IsLent, taken_of}
 use Rattle.command_pool.specs.Turns.{GaveTurn, HasEnded}
+use Rattle.command_pool.specs.Pool.{AreTaken, EachSeat, Took, TookLinked, PoolRan}
+use Rattle.command_pool.specs.Lending.{QueueOf, IsBegun, IsLent, taken_of}
+use Rattle.command_pool.proofs.Terms.{view, Hand, Turns}
 use Rattle.command_pool.proofs.Gathering.{Gathered, gathered_none, gathered_more, each_once, all_told, number_of}
-use Rattle.command_pool.proofs.Runs.{took_of, linked_of, taken_within}
+use Rattle.command_pool.proofs.Runs.{took_of, taken_within}
 use Rattle.command_pool.proofs.Taking.{hand_is, turns_done}
 
 module _ (k : Causes) {Q A : Type 0} (queue : QueueOf Q A) (commands : List Command) where
@@ -39,28 +30,22 @@ module _ (k : Causes) {Q A : Type 0} (queue : QueueOf Q A) (commands : List Comm
       → IsServedTo (λ (u : Seat). u) (LinkedDone k) GaveTurn HasEnded s a t b ds → SeatDone s t b (map line_of ds)
   seat_done s t a b ds begun to =
       let served = to.served in
-      let done = turns_done k s.number s a to.end served.last ds begun.may.view_is served.serves in
-      let ended = served.ended_is in
-      let numbers : taken_of served.last ≡ map number_of (map line_of ds) =
-      ap (λ (v : Hand). v.taken) done.view_is ∙ ap (λ xs. xs ++ map number_of (map line_of ds)) begun.none_taken in
-      let same = done.commands ∙ begun.commands_are in
+      let done = turns_done k s.number s a to.end served.last b ds served.serves served.ended_is in
       let rising : AreTaken commands 0 (map line_of ds) done.script =
       subst (λ n. AreTaken commands n (map line_of ds) done.script) (ap last_of begun.none_taken)
       (subst (λ cs. AreTaken cs (last_of (view a.pass).taken) (map line_of ds) done.script) begun.commands_are done.rising) in
-      let pass = ended.took.pass in
       let took = took_of k commands s to.end done.script ds rising done.by done.chain in
-      let linked = linked_of k commands s to.end done.script ds rising done.by done.chain in
       record {
         lent = record {
-          pass = (pass.0 ∙ done.pass.0 ∙ begun.pass.0, pass.2 ∙ done.pass.2 ∙ begun.pass.1);
-          view_is = hand_is (view b.pass) ((view served.last.pass).taken ++ ended.mark ∷ []) ended.took.view_is;
+          pass = (done.pass.0 ∙ begun.pass.0, done.pass.2 ∙ begun.pass.1);
+          view_is = hand_is (view b.pass) ((view a.pass).taken ++ (map number_of (map line_of ds) ++ done.mark ∷ [])) done.view_is;
         };
-        mark = ended.mark;
-        beyond = subst (λ cs. length cs < ended.mark) same ended.beyond;
-        numbers = ap (λ (v : Hand). v.taken) ended.took.view_is ∙ ap (λ xs. xs ++ ended.mark ∷ []) numbers;
+        mark = done.mark;
+        beyond = subst (λ cs. length cs < done.mark) begun.commands_are done.beyond;
+        numbers = ap (λ (v : Hand). v.taken) done.view_is ∙ ap (λ xs. xs ++ (map number_of (map line_of ds) ++ done.mark ∷ [])) begun.none_taken;
         within = taken_within commands 0 (map line_of ds) done.script rising;
-        took = subst (λ (u : Seat). Took commands s u (map line_of ds)) to.seat_is took;
-        linked = subst (λ (u : Seat). TookLinked k commands s u (map line_of ds)) to.seat_is linked;
+        took = subst (λ (u : Seat). Took commands s u (map line_of ds)) to.seat_is took.0;
+        linked = subst (λ (u : Seat). TookLinked k commands s u (map line_of ds)) to.seat_is took.1;
       }
 
   -- What all workers did, and what their passes took.
@@ -87,18 +72,11 @@ module _ (k : Causes) {Q A : Type 0} (queue : QueueOf Q A) (commands : List Comm
       → PoolDone os ns after (flat_map row_of rows)
   pool_done [] [] [] [] [] all h =
       record { lent = All-nil (IsLent queue); many = refl; gathered = gathered_none (length commands); took = refl; linked = refl }
-  pool_done [] [] [] [] (r ∷ rows) all h = absurd h
-  pool_done [] [] [] (b ∷ after) rows all h = absurd h
-  pool_done [] [] (n ∷ ns) after rows all h = absurd h
-  pool_done [] (a ∷ begun) ns after rows all h = absurd h
-  pool_done (o ∷ os) [] ns after rows all h = absurd h
-  pool_done (o ∷ os) (a ∷ begun) [] after rows all h = absurd h
-  pool_done (o ∷ os) (a ∷ begun) (n ∷ ns) [] rows all h = absurd h
-  pool_done (o ∷ os) (a ∷ begun) (n ∷ ns) (b ∷ after) [] all h = absurd h
   pool_done (o ∷ os) (a ∷ begun) (n ∷ ns) (b ∷ after) (r ∷ rows) all h =
       one_more o n b (map line_of r.items) os ns after (flat_map row_of rows)
       (seat_done o n a b r.items (All-head (IsBegun queue commands) a begun all) h.0)
       (pool_done os begun ns after rows (All-tail (IsBegun queue commands) a begun all) h.1)
+  pool_done _ _ _ _ _ all h = absurd h
 
   -- So the pool did each command once, where its passes took each number up to one.
   pub pool_ran : (os ns : List Seat) (after : List Turns) (lines : List Line) → 1 ≤ length os → PoolDone os ns after lines

@@ -3,20 +3,10 @@ use Rattle.std.proofs.Common.{◌≡◌, ℕ, suc, ◌+◌, ◌-◌, ◌<◌, �
 use mathlib.Core.Option.{some}
 use lib.ListN.{get_elem?}
 use Rattle.crossbeam_queue.specs.Fifo.{Pushes, Pops, Forks, Merges, Learns}
-use Rattle.command_pool.specs.declared.queue.Hand.{Hand}
 use Rattle.command_pool.specs.Queue.{hand, all_parts, total, total_to, numbers_from, IsRising, IsShared}
-use Rattle.command_pool.proofs.Totals.{
-  total-append,
-  total_set,
-  total_whole,
-  each_set,
-  each_push,
-  numbers_more,
-  length-numbers_from,
-  numbers_first,
-  rising_higher,
-  rising_more,
-}
+use Rattle.command_pool.proofs.Terms.{Hand}
+use Rattle.command_pool.proofs.Totals.{total-append, total_set, total_whole, each_set, each_push, numbers_more, length-numbers_from, numbers_first}
+use Rattle.command_pool.proofs.Totals.{rising_higher, rising_more}
 
 abbrev parts_of : Hand → ℕ
 parts_of v = v.parts
@@ -29,19 +19,6 @@ Rises done v = v.put ≡ 0 → IsRising 0 v.taken done
 
 abbrev Idles : Hand → Type 0
 Idles v = v.parts ≡ 0 → (v.put ≡ 0) × (v.taken ≡ [])
-
--- at first nothing was put in
-pub begins : IsShared [] (hand all_parts 0 [] ∷ [])
-begins = record {
-  done = 0;
-  left = 0;
-  items_are = refl;
-  whole = refl;
-  put = refl;
-  once = λ f. refl;
-  rising = each_push (Rises 0) [] (hand all_parts 0 []) (λ none. omega arith) (λ i v at. absurd (cc));
-  idle = each_push Idles [] (hand all_parts 0 []) (λ none. absurd (omega (arith, none))) (λ i v at. absurd (cc));
-}
 
 -- the pass that has all parts put in all that was put in
 put_all : (items : List ℕ) (views : List Hand) (port : ℕ) (v : Hand) → IsShared items views → get_elem? views port ≡ some v

@@ -1,26 +1,15 @@
 -- What a worker took, turn by turn.
 use Rattle.std.proofs.Common.{◌≡◌, ℕ, zero, suc, ◌-◌, ◌<◌, List, [], ◌∷◌, ◌++◌, length, map, All, Some, slice_get, refl, sym, ap, ◌∙◌, subst, arith}
 use Rattle.std.proofs.Common.{append_assoc}
-use Rattle.std.proofs.lemmas.List.{append-nil}
 use Rattle.std.proofs.lemmas.List.Elements.{All-nil, All-cons}
-use Rattle.mv_history.specs.Meaning.{Seat}
-use Rattle.set_script.specs.declared.commands.Command.{Command}
-use Rattle.section_work.specs.declared.place.Place.{Place}
-use Rattle.set_script.specs.declared.commands.Reply.{Reply}
-use Rattle.section_work.specs.Causes.{Causes}
-use Rattle.run_report.specs.declared.line.Line.{Line}
-use Rattle.run_report.specs.Legal.{command_at}
-use Rattle.crossbeam_queue.specs.Passes.{view, IsSamePass}
-use Rattle.item_workers.specs.declared.runner.Answer.{Answer}
-use Rattle.item_workers.specs.Chains.{Chain, answered}
 use Rattle.item_workers.specs.Serving.{Serves}
+use Rattle.script_workers.proofs.Terms.{Seat, Command, Place, Reply, Causes, Line, command_at, Answer, Chain, answered}
 use Rattle.script_workers.specs.Lines.{line_of}
 use Rattle.script_workers.specs.Links.{LinkedDone}
-use Rattle.command_pool.specs.declared.queue.Hand.{Hand}
-use Rattle.command_pool.specs.declared.turns.Turns.{Turns}
-use Rattle.command_pool.specs.Pool.{AreTaken}
 use Rattle.command_pool.specs.Queue.{hand, last_of}
-use Rattle.command_pool.specs.Turns.{GaveTurn}
+use Rattle.command_pool.specs.Turns.{GaveTurn, HasEnded}
+use Rattle.command_pool.specs.Pool.{AreTaken}
+use Rattle.command_pool.proofs.Terms.{view, IsSamePass, Hand, Turns}
 use Rattle.command_pool.proofs.Totals.{last_push}
 use Rattle.command_pool.proofs.Gathering.{number_of}
 
@@ -41,53 +30,56 @@ command_there [] place lt = absurd (omega (arith, lt))
 command_there (c ∷ commands) zero lt = (c, refl)
 command_there (c ∷ commands) (suc place) lt = command_there commands place (omega (arith, lt))
 
--- Between two states of its turns a worker did these commands, each in a turn of its own.
+-- From one state of its turns to another a worker did these commands, each in a turn of its own, and then took a number that no command has.
 pub record TurnsDone (k : Causes) (seat : ℕ) (s : Seat) (a : Turns) (t : Seat) (b : Turns) (ds : List (Answer (Place × Reply))) : Type 0 where
   pub pass : IsSamePass a.pass b.pass
-  pub view_is : view b.pass ≡ hand 1 0 ((view a.pass).taken ++ map number_of (map line_of ds))
-  pub commands : b.commands.now ≡ a.commands.now
+  pub mark : ℕ
+  pub beyond : length a.commands.now < mark
+  pub view_is : view b.pass ≡ hand 1 0 ((view a.pass).taken ++ (map number_of (map line_of ds) ++ mark ∷ []))
   pub script : List Command
   pub rising : AreTaken a.commands.now (last_of (view a.pass).taken) (map line_of ds) script
   pub by : All (λ (line : Line). line.seat ≡ seat) (map line_of ds)
   pub chain : Chain (answered (LinkedDone k)) s t script ds
 
 module _ (k : Causes) (seat : ℕ) where
-  none_done : (s : Seat) (a : Turns) (t : Seat) → view a.pass ≡ hand 1 0 (view a.pass).taken → t ≡ s → TurnsDone k seat s a t a []
-  none_done s a t own same = record {
-    pass = (refl, refl, refl);
-    view_is = own ∙ ap (λ xs. hand 1 0 xs) (sym (append-nil (view a.pass).taken));
-    commands = refl;
+  none_done : (s : Seat) (a : Turns) (t : Seat) (b : Turns) → t ≡ s → HasEnded a b → TurnsDone k seat s a t b []
+  none_done s a t b same ended = record {
+    pass = ended.took.pass;
+    mark = ended.mark;
+    beyond = ended.beyond;
+    view_is = ended.took.view_is;
     script = [];
     rising = tt;
     by = All-nil (λ (line : Line). line.seat ≡ seat);
     chain = same;
   }
 
-  pub turns_done : (s : Seat) (a : Turns) (t : Seat) (b : Turns) (ds : List (Answer (Place × Reply))) → view a.pass ≡ hand 1 0 (view a.pass).taken
-      → Serves (LinkedDone k) GaveTurn seat s a t b ds → TurnsDone k seat s a t b ds
-  turns_done s a t b [] own h = subst (λ (c : Turns). TurnsDone k seat s a t c []) (sym h.1) (none_done s a t own h.0)
-  turns_done s a t b (d ∷ ds) own h =
-      let u : Seat = h.0 in
+  pub turns_done : (s : Seat) (a : Turns) (t : Seat) (last b : Turns) (ds : List (Answer (Place × Reply)))
+      → Serves (LinkedDone k) GaveTurn seat s a t last ds → HasEnded last b → TurnsDone k seat s a t b ds
+  turns_done s a t last b [] h ended = subst (λ (c : Turns). TurnsDone k seat s c t b []) h.1 (none_done s last t b h.0 ended)
+  turns_done s a t last b (d ∷ ds) h ended =
       let c : Turns = h.1 in
       let gave = h.2.given in
       let took = gave.took in
       let number : ℕ = d.number in
       let now : (view c.pass).taken ≡ (view a.pass).taken ++ number ∷ [] = ap (λ (v : Hand). v.taken) took.view_is in
-      let others = turns_done u c t b ds (hand_is (view c.pass) ((view a.pass).taken ++ number ∷ []) took.view_is) h.3 in
-      let last : last_of (view c.pass).taken ≡ number = ap last_of now ∙ last_push (view a.pass).taken number in
+      let others = turns_done h.0 c t last b ds h.3 ended in
+      let more : List ℕ = map number_of (map line_of ds) ++ others.mark ∷ [] in
+      let newest : last_of (view c.pass).taken ≡ number = ap last_of now ∙ last_push (view a.pass).taken number in
       record {
         pass = (others.pass.0 ∙ took.pass.0, others.pass.1 ∙ took.pass.1, others.pass.2 ∙ took.pass.2);
+        mark = others.mark;
+        beyond = subst (λ cs. length cs < others.mark) took.commands others.beyond;
         view_is = others.view_is
-            ∙ ap (λ xs. hand 1 0 (xs ++ map number_of (map line_of ds))) now
-            ∙ ap (λ xs. hand 1 0 xs) (append_assoc (view a.pass).taken (number ∷ []) (map number_of (map line_of ds)));
-        commands = others.commands ∙ took.commands;
+            ∙ ap (λ xs. hand 1 0 (xs ++ more)) now
+            ∙ ap (λ xs. hand 1 0 xs) (append_assoc (view a.pass).taken (number ∷ []) more);
         script = h.2.item ∷ others.script;
         rising = (
           gave.later,
           gave.there,
-          subst (λ n. AreTaken a.commands.now n (map line_of ds) others.script) last
+          subst (λ n. AreTaken a.commands.now n (map line_of ds) others.script) newest
               (subst (λ cs. AreTaken cs (last_of (view c.pass).taken) (map line_of ds) others.script) took.commands others.rising),
         );
         by = All-cons (λ (line : Line). line.seat ≡ seat) (line_of d) (map line_of ds) h.2.by others.by;
-        chain = (u, h.2.linked, others.chain);
+        chain = (h.0, h.2.linked, others.chain);
       }

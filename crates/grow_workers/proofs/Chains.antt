@@ -1,18 +1,11 @@
 -- What all seats did.
 use Rattle.std.proofs.Common.{false, List, map, Vec, refl, subst}
-use Rattle.std.specs.declared.alloc.Global.{Global}
 use Rattle.std.specs.List.{flat_map}
-use Rattle.mv_history.specs.Meaning.{Seat}
-use Rattle.set_script.specs.declared.commands.Command.{Command}
-use Rattle.section_work.specs.declared.place.Place.{Place}
-use Rattle.section_work.specs.Causes.{Causes}
-use Rattle.set_script.specs.declared.commands.Reply.{Reply}
-use Rattle.item_workers.specs.declared.runner.Answer.{Answer}
-use Rattle.item_workers.specs.Chains.{Chain, EachDid, answered}
 use Rattle.item_workers.proofs.Each.{each_seat, chain_told}
+use Rattle.grow_report.specs.Turns.{RanGrow, AllRanGrow}
+use Rattle.script_workers.proofs.Terms.{Global, Seat, Command, Place, Causes, Reply, Answer, Chain, EachDid, answered}
 use Rattle.script_workers.specs.Lines.{line_of, row_of}
 use Rattle.script_workers.proofs.Chains.{by_seat}
-use Rattle.grow_report.specs.Turns.{RanGrow, AllRanGrow}
 use Rattle.grow_workers.specs.Links.{GrowKept, kept, LinkedDone, LinkedLine, LinkedTurns, AllLinkedTurns}
 use Rattle.grow_workers.proofs.Turns.{chain_ran}
 

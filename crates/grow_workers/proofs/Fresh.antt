@@ -1,11 +1,7 @@
 -- A read is of a section that its own command entered.
 use Rattle.std.proofs.Common.{ℕ}
-use Rattle.set_script.specs.declared.commands.Command.{Command}
-use Rattle.section_work.specs.declared.place.Place.TheVariants.{Read}
-use Rattle.set_script.specs.declared.commands.Reply.{Reply}
-use Rattle.section_work.specs.Causes.{Causes}
-use Rattle.work_runner.specs.Tries.{IsEnteredBetween}
 use Rattle.work_runner.proofs.Tries.{entered_fresh}
+use Rattle.script_workers.proofs.Terms.{Command, Read, Reply, Causes, IsEnteredBetween}
 use Rattle.grow_workers.specs.Links.{GrowKept, LinkedTurn}
 
 -- No read is older than what its seat had seen when the command began, which is all that the commands before it and their splits did.

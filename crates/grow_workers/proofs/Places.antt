@@ -1,39 +1,31 @@
 -- The place of a command and of a split: what their tries say of it.
-use Rattle.std.proofs.Common.{◌≡◌, ℕ, ◌+◌, ◌-◌, ◌≤◌, ◌==◌, ◌&&◌, Bool, true, false, not, if◌then◌else◌, List, [], ◌∷◌, ◌++◌}
-use Rattle.std.proofs.Common.{Option, Some, None, length, take, inl, inr, refl, sym, ap, ◌∙◌, subst, arith}
+use Rattle.std.proofs.Common.{◌≡◌, ℕ, ◌+◌, ◌-◌, ◌≤◌, ◌==◌, ◌&&◌, Bool, true, false, not, if◌then◌else◌, List, [], ◌∷◌, ◌++◌, Option, Some, None, length, take}
+use Rattle.std.proofs.Common.{inl, inr, refl, sym, ap, ◌∙◌, subst, arith}
 use Rattle.std.proofs.lemmas.Bool.Decides.{nat_tests}
 use Rattle.std.proofs.lemmas.List.{append-nil}
-use Rattle.mv_history.specs.declared.history.Commit.{Commit}
-use Rattle.mv_history.specs.State.{State, Writes, state_at}
-use Rattle.mv_history.specs.Meaning.{Seat, IsSeat}
-use Rattle.mv_history.specs.Calls.{Continues}
-use Rattle.mv_history.specs.CallLaws.{Continues-itself}
+use Rattle.mv_history.specs.State.{Writes, state_at}
 use Rattle.mv_history.proofs.Steps.{Continues-Continues}
 use Rattle.mv_history.proofs.Writing.{length-state_after}
-use Rattle.set_script.specs.Replies.{reply, changes, next, applies, overflows}
-use Rattle.set_script.specs.declared.commands.Command.{Command}
-use Rattle.set_script.specs.declared.commands.Command.TheVariants as commands
+use Rattle.set_script.specs.Replies.{next, applies, overflows}
 use Rattle.section_work.specs.Attempts.{IsReadAt}
 use Rattle.section_work.specs.Works.{Meaning}
-use Rattle.section_work.specs.declared.place.Place.{Place}
-use Rattle.section_work.specs.declared.place.Place.TheVariants.{Commit as AtCommit, Read}
-use Rattle.set_script.specs.declared.commands.Reply.{Reply}
 use Rattle.set_script.specs.declared.commands.Reply.TheVariants.{Yes, No, Full, Worn}
-use Rattle.section_work.specs.Causes.{Causes}
-use Rattle.run_report.specs.Worked.{past_of, state_of_time}
-use Rattle.script_workers.specs.Commands.{RanTo}
-use Rattle.script_workers.proofs.Places.{last_by, ran_commit, ran_read, ran_after}
 use Rattle.work_runner.proofs.Tries.{seen_grows, entered_continues, entered_within}
-use Rattle.grow_hash.specs.Grown.{IsGrownOpening, grown_catalogue, grown_capacity, first_grown}
-use Rattle.grow_hash.specs.GrowRules.{IsGrowCommit}
+use Rattle.grow_hash.specs.Grown.{grown_catalogue, grown_capacity, first_grown, IsGrownOpening}
 use Rattle.grow_hash.specs.GrowPlans.{GrowPlan}
+use Rattle.grow_report.specs.Turns.{GrowPlaceOf, SplitIf, CannotSplit}
+use Rattle.grow_hash.specs.GrowRules.{IsGrowCommit}
 use Rattle.grow_hash.specs.GrowAttempts.{GrowAttempted}
 use Rattle.grow_hash.specs.SplitAttempts.{SplitTried}
 use Rattle.grow_hash.specs.declared.attempt.GrowStep.TheVariants.{Done}
 use Rattle.grow_hash.specs.declared.answer.Split.{Split}
-use Rattle.grow_hash.specs.declared.answer.Split.TheVariants as splits
-use Rattle.grow_report.specs.Turns.{GrowPlaceOf, SplitIf, CannotSplit}
+use Rattle.script_workers.proofs.Terms.{Commit, State, Seat, IsSeat, Continues, Continues-itself, reply, changes, Command, Place, AtCommit, Read, Reply, Causes}
+use Rattle.script_workers.proofs.Terms.{past_of, state_of_time}
+use Rattle.script_workers.specs.Commands.{RanTo}
+use Rattle.script_workers.proofs.Places.{last_by, ran_commit, ran_read, ran_after}
 use Rattle.grow_workers.specs.Links.{LinkedCommand, IsAnsweredBy, LinkedIf}
+use Rattle.set_script.specs.declared.commands.Command.TheVariants as commands
+use Rattle.grow_hash.specs.declared.answer.Split.TheVariants as splits
 
 -- each state has as many nodes as the first
 pub same_room : (s : Seat) (time : ℕ) → grown_capacity (state_of_time (past_of s) time) ≡ grown_capacity s.start
@@ -42,8 +34,7 @@ same_room s time = ap (λ objects. objects - first_grown) (length-state_after s.
 -- the reply of a change is yes only where there is one
 change_yes : (a o : Bool) → (if a then (if o then Full else (if false then Worn else Yes)) else No) ≡ Yes → a && not o && not false ≡ true
 change_yes true false e = refl
-change_yes true true e = absurd (cc)
-change_yes false o e = absurd (cc)
+change_yes _ _ e = absurd (cc)
 
 -- what locks something and replies yes changes something
 plan_changes : (command : Command) (from : State) (writes : Writes) (s : State) → GrowPlan command from writes
@@ -52,13 +43,7 @@ plan_changes (commands.Add name key) from writes s plan said =
     change_yes (applies (commands.Add name key) (grown_catalogue s)) (overflows (commands.Add name key) (grown_catalogue s) (grown_capacity s)) said
 plan_changes (commands.Del name key) from writes s plan said =
     change_yes (applies (commands.Del name key) (grown_catalogue s)) (overflows (commands.Del name key) (grown_catalogue s) (grown_capacity s)) said
-plan_changes (commands.Put name key value) from writes s plan said = absurd plan
-plan_changes (commands.Has name key) from writes s plan said = absurd plan
-plan_changes (commands.Get name key) from writes s plan said = absurd plan
-plan_changes (commands.Move source target key) from writes s plan said = absurd plan
-plan_changes (commands.Pair first second key) from writes s plan said = absurd plan
-plan_changes (commands.Size name) from writes s plan said = absurd plan
-plan_changes (commands.Next name key) from writes s plan said = absurd plan
+plan_changes _ from writes s plan said = absurd plan
 
 -- the command took place there, with this reply
 abbrev pub RanAt : Seat → Seat → Command → Place → Reply → Type 0

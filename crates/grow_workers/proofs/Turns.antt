@@ -1,32 +1,19 @@
 -- A chain of commands with their splits is a run.
-use Rattle.std.proofs.Common.{◌≡◌, ℕ, suc, ◌+◌, ◌-◌, ◌≤◌, ◌&&◌, Bool, true, false, List, [], ◌∷◌, ◌++◌, Option, Some, None}
-use Rattle.std.proofs.Common.{length, map, drop, refl, sym, ap, ◌∙◌, subst, arith, append_assoc}
+use Rattle.std.proofs.Common.{◌≡◌, ℕ, suc, ◌+◌, ◌-◌, ◌≤◌, ◌&&◌, Bool, true, false, List, [], ◌∷◌, ◌++◌, Option, Some, None, length, map, drop, refl, sym, ap}
+use Rattle.std.proofs.Common.{◌∙◌, subst, arith, append_assoc}
 use Rattle.std.proofs.lemmas.List.{append-nil}
 use Rattle.std.proofs.lemmas.Option.{slice_get_within}
-use Rattle.mv_history.specs.declared.history.Commit.{Commit}
-use Rattle.mv_history.specs.declared.history.Entry.TheVariants.{Change}
-use Rattle.mv_history.specs.Meaning.{Seat}
-use Rattle.mv_history.specs.Calls.{Continues}
-use Rattle.mv_history.specs.CallLaws.{Continues-itself}
 use Rattle.mv_history.proofs.Steps.{Continues-Continues}
-use Rattle.set_script.specs.declared.commands.Command.{Command}
-use Rattle.section_work.specs.declared.place.Place.{Place}
-use Rattle.section_work.specs.declared.place.Place.TheVariants.{Commit as AtCommit, Read}
-use Rattle.section_work.specs.Causes.{Causes}
-use Rattle.set_script.specs.declared.commands.Reply.{Reply}
-use Rattle.run_report.specs.declared.line.Line.{Line}
-use Rattle.run_report.specs.Order.{time_of}
-use Rattle.run_report.specs.Worked.{Past, past_of}
-use Rattle.item_workers.specs.declared.runner.Answer.{Answer}
-use Rattle.item_workers.specs.Chains.{Chain, HaveNumbers, answered}
-use Rattle.script_workers.specs.Lines.{line_of}
-use Rattle.script_workers.proofs.Places.{past_later, follows_earlier}
 use Rattle.work_runner.proofs.Tries.{seen_grows}
 use Rattle.grow_report.specs.Turns.{GrowPlaceOf, SplitIf, Turn, TurnsOf, RanGrow, IsAhead, first_place, is_added, odd_with}
-use Rattle.grow_report.specs.Turns as reported
 use Rattle.grow_report.proofs.Known.{place_longer, due_longer}
+use Rattle.script_workers.proofs.Terms.{Commit, Change, Seat, Continues, Continues-itself, Command, Place, AtCommit, Read, Causes, Reply, Line, time_of, Past}
+use Rattle.script_workers.proofs.Terms.{past_of, Answer, Chain, HaveNumbers, answered}
+use Rattle.script_workers.specs.Lines.{line_of}
+use Rattle.script_workers.proofs.Places.{past_later, follows_earlier}
 use Rattle.grow_workers.specs.Links.{GrowKept, kept, LinkedDone}
 use Rattle.grow_workers.proofs.Places.{command_ran, behind}
+use Rattle.grow_report.specs.Turns as reported
 
 module _ (p : Past) where
   -- the time of a place is one of the history
@@ -68,8 +55,6 @@ ran_from k s u number before [] [] le c n = record {
   ahead = λ time le. tt;
   each = refl;
 }
-ran_from k s u number before [] (d ∷ ds) le c n = absurd c
-ran_from k s u number before (i ∷ commands) [] le c n = absurd c
 ran_from k s u number before (i ∷ commands) (d ∷ ds) le c n =
     let t : GrowKept = c.0 in
     let link = c.1 in
@@ -123,6 +108,7 @@ ran_from k s u number before (i ∷ commands) (d ∷ ds) le c n =
             (subst (λ (o : Bool). TurnsOf (past_of u.seat) u.seat.number (number + 1) (time_of place) o commands rest.turns rest.commits) link.odd rest.each),
       );
     }
+ran_from k s u number before _ _ le c n = absurd c
 
 -- So a chain is a run.
 pub chain_ran : (k : Causes) (s : Seat) (u : GrowKept) (commands : List Command) (ds : List (Answer (Place × Reply)))

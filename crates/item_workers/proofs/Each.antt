@@ -16,22 +16,16 @@ module _ {T X I D : Type 0} (first : T → X) (seat_of : X → Seat) (link : X �
   pub each_seat : (ts : List T) (ns : List Seat) (lists : List (List I)) (rows : List (Vec (Answer D) Global))
       → EachDid seat_of link width (map first ts) ns lists rows → AllOf ts ns lists rows
   each_seat [] [] [] [] h = none
-  each_seat [] [] [] (r ∷ rows) h = absurd h
-  each_seat [] [] (l ∷ lists) rows h = absurd h
-  each_seat [] (n ∷ ns) lists rows h = absurd h
-  each_seat (t ∷ ts) [] lists rows h = absurd h
-  each_seat (t ∷ ts) (n ∷ ns) [] rows h = absurd h
-  each_seat (t ∷ ts) (n ∷ ns) (l ∷ lists) [] h = absurd h
   each_seat (t ∷ ts) (n ∷ ns) (l ∷ lists) (r ∷ rows) h = more t n l r ts ns lists rows h.0 (each_seat ts ns lists rows h.1)
+  each_seat _ _ _ _ h = absurd h
 
 -- A chain whose answers are told otherwise.
 module _ {X I D E : Type 0} (link : X → X → I → D → Type 0) (told : X → X → I → E → Type 0) (tell : D → E)
     (tells : (s t : X) (i : I) (d : D) → link s t i d → told s t i (tell d)) where
   pub chain_told : (s t : X) (items : List I) (ds : List D) → Chain link s t items ds → Chain told s t items (map tell ds)
   chain_told s t [] [] c = c
-  chain_told s t [] (d ∷ ds) c = absurd c
-  chain_told s t (i ∷ items) [] c = absurd c
   chain_told s t (i ∷ items) (d ∷ ds) c = (c.0, tells s c.0 i d c.1, chain_told c.0 t items ds c.2)
+  chain_told s t _ _ c = absurd c
 
 -- what every one has, all of a list have
 all_each : {X : Type 0} (P : X → Type 0) → ((x : X) → P x) → (xs : List X) → All P xs

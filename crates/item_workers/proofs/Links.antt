@@ -9,9 +9,8 @@ use Rattle.item_workers.specs.Chains.{Chain, DidAll, DidTo}
 pub chain_length : {X I D : Type 0} (link : X → X → I → D → Type 0) (s t : X) (items : List I) (ds : List D) → Chain link s t items ds
     → length ds ≡ length items
 chain_length link s t [] [] c = refl
-chain_length link s t [] (d ∷ ds) c = absurd c
-chain_length link s t (i ∷ items) [] c = absurd c
 chain_length link s t (i ∷ items) (d ∷ ds) c = ap (λ n. suc n) (chain_length link c.0 t items ds c.2)
+chain_length link s t _ _ c = absurd c
 
 -- where nothing is kept but the seat, the items were done up to the seat that was left
 pub did_to : {I D : Type 0} (link : Seat → Seat → I → D → Type 0) (width : I → ℕ) (s n : Seat) (items : List I) (ds : List (Answer D))
@@ -22,6 +21,5 @@ did_to link width s n items ds h = subst (λ (t : Seat). DidAll (λ (u : Seat). 
 pub each_zip : {X : Type 0} (P : X → X → Type 0) (os ns : List X) → length ns ≡ length os
     → ((i : ℕ) (d : X) → i < length os → P (get_or os i d) (get_or ns i d)) → AllZip P os ns
 each_zip P [] [] len h = tt
-each_zip P [] (n ∷ ns) len h = absurd (omega (arith, len))
-each_zip P (o ∷ os) [] len h = absurd (omega (arith, len))
 each_zip P (o ∷ os) (n ∷ ns) len h = (h 0 o (omega arith), each_zip P os ns (omega (arith, len)) (λ i d lt. h (suc i) d (omega (arith, lt))))
+each_zip P _ _ len h = absurd (omega (arith, len))

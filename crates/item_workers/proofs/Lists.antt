@@ -16,9 +16,8 @@ use Rattle.item_workers.specs.Workers.{MayDo}
 pub own_more : {I : Type 0} (lists : List (List I)) (sources : List (Own I)) (list : List I) (own : Own I) → AreOwn lists sources → own.items.now ≡ list
     → own.next ≡ 0 → own.number ≡ 1 → AreOwn (lists ++ list ∷ []) (sources ++ own ∷ [])
 own_more [] [] list own h items next number = (items, next, number, tt)
-own_more [] (s ∷ sources) list own h items next number = absurd h
-own_more (l ∷ lists) [] list own h items next number = absurd h
 own_more (l ∷ lists) (s ∷ sources) list own h items next number = (h.0, h.1, h.2, own_more lists sources list own h.3 items next number)
+own_more _ _ list own h items next number = absurd h
 
 -- at first no item was given
 pub at_first : {I : Type 0} (does : I → Type 0) (width : I → ℕ) (own : Own I) → MayDo does width own.items.now → own.next ≡ 0 → own.number ≡ 1
@@ -32,9 +31,8 @@ at_first does width own may next number = record {
 -- there is a source for each list
 pub own_count : {I : Type 0} (lists : List (List I)) (sources : List (Own I)) → AreOwn lists sources → length sources ≡ length lists
 own_count [] [] h = refl
-own_count [] (s ∷ sources) h = absurd h
-own_count (l ∷ lists) [] h = absurd h
 own_count (l ∷ lists) (s ∷ sources) h = ap suc (own_count lists sources h.3)
+own_count _ _ h = absurd h
 
 -- the items that are left, with the first of them ahead
 left_there : {I : Type 0} (items : List I) (i : ℕ) (item : I) → slice_get items i ≡ Some item → drop i items ≡ item ∷ drop (suc i) items
@@ -71,18 +69,6 @@ pub own_did : {X I D : Type 0} (seat_of : X → Seat) (link : X → X → I → 
     → EachServed seat_of link (GaveOwn width) (λ (old : Own I) new. length old.items.now ≤ old.next) os sources ns after rows
     → EachDid seat_of link width os ns lists rows
 own_did seat_of link width [] [] [] [] [] [] own h = tt
-own_did seat_of link width [] [] [] [] [] (r ∷ rows) own h = absurd h
-own_did seat_of link width [] [] [] [] (b ∷ after) rows own h = absurd h
-own_did seat_of link width [] [] [] (n ∷ ns) after rows own h = absurd h
-own_did seat_of link width [] [] (a ∷ sources) ns after rows own h = absurd own
-own_did seat_of link width [] (l ∷ lists) [] ns after rows own h = absurd own
-own_did seat_of link width [] (l ∷ lists) (a ∷ sources) ns after rows own h = absurd h
-own_did seat_of link width (o ∷ os) [] [] ns after rows own h = absurd h
-own_did seat_of link width (o ∷ os) [] (a ∷ sources) ns after rows own h = absurd own
-own_did seat_of link width (o ∷ os) (l ∷ lists) [] ns after rows own h = absurd own
-own_did seat_of link width (o ∷ os) (l ∷ lists) (a ∷ sources) [] after rows own h = absurd h
-own_did seat_of link width (o ∷ os) (l ∷ lists) (a ∷ sources) (n ∷ ns) [] rows own h = absurd h
-own_did seat_of link width (o ∷ os) (l ∷ lists) (a ∷ sources) (n ∷ ns) (b ∷ after) [] own h = absurd h
 own_did seat_of link width (o ∷ os) (l ∷ lists) (a ∷ sources) (n ∷ ns) (b ∷ after) (r ∷ rows) own h =
     let served = h.0.served in
     let done = list_done link width (seat_of o).number o h.0.end a served.last l r.items
@@ -94,3 +80,6 @@ own_did seat_of link width (o ∷ os) (l ∷ lists) (a ∷ sources) (n ∷ ns) (
       },
       own_did seat_of link width os lists sources ns after rows own.3 h.1,
     )
+own_did seat_of link width os [] (a ∷ sources) ns after rows own h = absurd own
+own_did seat_of link width os (l ∷ lists) [] ns after rows own h = absurd own
+own_did seat_of link width _ _ _ _ _ _ own h = absurd h

@@ -4,9 +4,6 @@ use Rattle.item_workers.specs.declared.runner.Answer.{Answer}
 use Rattle.item_workers.specs.Serving.{IsGiven, Serves}
 
 module _ {X I D P : Type 0} (link : X → X → I → D → Type 0) (gives : P → ℕ → I → P → Type 0) (seat : ℕ) where
-  pub serves_none : (s : X) (a : P) → Serves link gives seat s a s a []
-  serves_none s a = (refl, refl)
-
   pub serves_more : (s : X) (a : P) (t : X) (b : P) (u : X) (c : P) (ds : List (Answer D)) (d : Answer D)
       → Serves link gives seat s a t b ds → IsGiven link gives seat t b u c d → Serves link gives seat s a u c (ds ++ d ∷ [])
   serves_more s a t b u c [] d h g =

@@ -12,9 +12,8 @@ pub rooms_more : {P D M : Type 0} (left : P → ℕ) (sources : List P) (rooms :
     → AreRooms left sources rooms → room.answers.items ≡ [] → left source ≤ vec_capacity room.answers
     → AreRooms left (sources ++ source ∷ []) (rooms ++ room ∷ [])
 rooms_more left [] [] source room h empty fits = (empty, fits, tt)
-rooms_more left [] (r ∷ rooms) source room h empty fits = absurd h
-rooms_more left (s ∷ sources) [] source room h empty fits = absurd h
 rooms_more left (s ∷ sources) (r ∷ rooms) source room h empty fits = (h.0, h.1, rooms_more left sources rooms source room h.2 empty fits)
+rooms_more left _ _ source room h empty fits = absurd h
 
 -- what all workers did
 pub each_served : {W X I P D : Type 0} (kept_of : W → X) (seat_of : X → Seat) (link : X → X → I → D → Type 0) (gives : P → ℕ → I → P → Type 0)
@@ -22,10 +21,9 @@ pub each_served : {W X I P D : Type 0} (kept_of : W → X) (seat_of : X → Seat
     → EachServed seat_of link gives ended (map (keeps kept_of) os) (map source_of os) (map (stands_at kept_of seat_of) ns) (map source_of ns)
     (map answers_of ns)
 each_served kept_of seat_of link gives ended [] [] h = tt
-each_served kept_of seat_of link gives ended [] (n ∷ ns) h = absurd h
-each_served kept_of seat_of link gives ended (o ∷ os) [] h = absurd h
 each_served kept_of seat_of link gives ended (o ∷ os) (n ∷ ns) h =
     (record { end = kept_of n.runner; seat_is = refl; served = h.0 }, each_served kept_of seat_of link gives ended os ns h.1)
+each_served kept_of seat_of link gives ended _ _ h = absurd h
 
 -- where a source is left, a room is
 pub room_there : {P D M : Type 0} (left : P → ℕ) (sources others : List P) (source : P) (rooms : List (WorkerRoom M D)) → sources ≡ source ∷ others

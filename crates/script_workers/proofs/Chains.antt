@@ -1,24 +1,14 @@
 -- What all seats did.
-use Rattle.std.proofs.Common.{◌≡◌, ℕ, ◌<◌, ◌+◌, ◌^◌, ◌≤◌, List, [], ◌∷◌, length, map, sum_by, All, Vec, refl, sym, ap, ◌∙◌, arith, take, get_or}
-use Rattle.std.proofs.Common.{length-append}
-use Rattle.std.specs.declared.alloc.Global.{Global}
+use Rattle.std.proofs.Common.{◌≡◌, ℕ, ◌<◌, ◌+◌, ◌^◌, ◌≤◌, List, [], ◌∷◌, length, map, sum_by, All, Vec, refl, sym, ap, ◌∙◌, arith, take, get_or, length-append}
 use Rattle.std.specs.List.{flat_map}
 use Rattle.std.proofs.lemmas.List.{take_at, drop_at, length-map}
 use Rattle.std.proofs.lemmas.List.Elements.{All-weaker}
 use Rattle.std.proofs.lemmas.List.Folds.{length-flat_map-take}
 use Rattle.std.proofs.lemmas.List.Sums.{sum_by-cons}
-use Rattle.mv_history.specs.Meaning.{Seat}
-use Rattle.set_script.specs.declared.commands.Command.{Command}
-use Rattle.section_work.specs.declared.place.Place.{Place}
-use Rattle.set_script.specs.declared.commands.Reply.{Reply}
-use Rattle.set_script.specs.declared.script.TheConstants.{MOST_COMMANDS}
-use Rattle.section_work.specs.Causes.{Causes}
-use Rattle.run_report.specs.declared.line.Line.{Line}
-use Rattle.run_report.specs.Worked.{Ran, BySeat, AllRan}
-use Rattle.item_workers.specs.declared.runner.Answer.{Answer}
-use Rattle.item_workers.specs.Chains.{Chain, DidTo, EachDid, answered}
+use Rattle.run_report.specs.Worked.{AllRan}
 use Rattle.item_workers.proofs.Each.{each_seat}
 use Rattle.item_workers.proofs.Links.{chain_length, did_to}
+use Rattle.script_workers.proofs.Terms.{Global, Seat, Command, Place, Reply, MOST_COMMANDS, Causes, Line, Ran, BySeat, Answer, Chain, DidTo, EachDid, answered}
 use Rattle.script_workers.specs.Lines.{line_of, row_of, LinkedLine, AllLinked}
 use Rattle.script_workers.specs.Links.{LinkedDone}
 use Rattle.script_workers.specs.Workers.{items_of, command_count}

@@ -1,13 +1,8 @@
 -- A read is of a section that its own command entered.
 use Rattle.std.proofs.Common.{ℕ}
-use Rattle.mv_history.specs.Meaning.{Seat}
-use Rattle.set_script.specs.declared.commands.Command.{Command}
-use Rattle.section_work.specs.declared.place.Place.TheVariants.{Read}
-use Rattle.set_script.specs.declared.commands.Reply.{Reply}
-use Rattle.section_work.specs.Causes.{Causes}
-use Rattle.work_runner.specs.Tries.{IsEnteredBetween}
-use Rattle.script_workers.specs.Links.{Linked}
 use Rattle.work_runner.proofs.Tries.{entered_fresh}
+use Rattle.script_workers.proofs.Terms.{Seat, Command, Read, Reply, Causes, IsEnteredBetween}
+use Rattle.script_workers.specs.Links.{Linked}
 
 -- No read is older than what its seat had seen when the command began.
 pub linked_fresh : (k : Causes) (s t : Seat) (command : Command) (time : ℕ) (answer : Reply) → Linked k s t command (Read time) answer

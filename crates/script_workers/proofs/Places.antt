@@ -1,37 +1,21 @@
 -- The place of a command: what its attempt says of it, and that it stays as more of the history is seen.
-use Rattle.std.proofs.Common.{◌≡◌, ℕ, ◌+◌, ◌-◌, ◌<◌, ◌≤◌, ◌==◌, eqb, Bool, true, false, if◌then◌else◌, List, [], ◌∷◌, ◌++◌}
-use Rattle.std.proofs.Common.{length, take, drop, All, refl, sym, ap, ◌∙◌, subst, arith, length-append}
+use Rattle.std.proofs.Common.{◌≡◌, ℕ, ◌+◌, ◌-◌, ◌<◌, ◌≤◌, ◌==◌, eqb, Bool, true, false, if◌then◌else◌, List, [], ◌∷◌, ◌++◌, length, take, drop, All, refl, sym}
+use Rattle.std.proofs.Common.{ap, ◌∙◌, subst, arith, length-append}
 use Rattle.std.proofs.lemmas.Bool.{eqb-true}
 use Rattle.std.proofs.lemmas.List.{append-nil, get_or_push, take-append-drop}
 use Rattle.std.proofs.lemmas.List.Elements.{All-nil, All-cons, All-get_or}
 use Rattle.std.proofs.lemmas.Option.{slice_get_within}
-use Rattle.mv_history.specs.declared.history.Commit.{Commit}
-use Rattle.mv_history.specs.declared.history.Entry.{Entry}
-use Rattle.mv_history.specs.declared.history.Entry.TheVariants.{Rest, Change}
-use Rattle.mv_history.specs.State.{commits_of}
-use Rattle.mv_history.specs.Meaning.{Seat, InSection, IsSeat}
-use Rattle.mv_history.specs.Calls.{Continues}
+use Rattle.mv_history.specs.declared.history.Entry.TheVariants.{Rest}
 use Rattle.mv_history.proofs.Writing.{length-state_after}
-use Rattle.set_script.specs.CatalogueOf.{catalogue_of}
-use Rattle.set_script.specs.Lawful.{IsOpening}
 use Rattle.set_script.specs.Objects.{first_node}
-use Rattle.set_script.specs.Replies.{reply, changes}
-use Rattle.set_script.specs.Rules.{capacity, IsSetCommit}
-use Rattle.set_script.specs.declared.commands.Command.{Command}
-use Rattle.section_work.specs.Sections.{IsEntered}
-use Rattle.section_work.specs.declared.place.Place.{Place}
-use Rattle.section_work.specs.declared.place.Place.TheVariants.{Commit as AtCommit, Read}
-use Rattle.set_script.specs.declared.commands.Reply.{Reply}
+use Rattle.run_report.proofs.history.Grown.{longer, place_longer}
+use Rattle.work_runner.proofs.Tries.{seen_grows, entered_continues, entered_within}
+use Rattle.mv_history.proofs.Steps.{Continues-Continues}
 use Rattle.set_catalog.specs.declared.answer.Attempt.TheVariants.{Done}
 use Rattle.set_catalog.specs.Attempts.{Attempted}
-use Rattle.section_work.specs.Causes.{Causes}
-use Rattle.run_report.specs.Order.{time_of}
-use Rattle.run_report.specs.Worked.{Past, past_of, state_of_time, PlaceOf}
-use Rattle.run_report.proofs.history.Grown.{longer, place_longer}
-use Rattle.work_runner.specs.Tries.{CommitsNone}
-use Rattle.work_runner.proofs.Tries.{seen_grows, entered_continues, entered_within}
-use Rattle.run_report.specs.Legal.{Follows}
-use Rattle.mv_history.proofs.Steps.{Continues-Continues}
+use Rattle.script_workers.proofs.Terms.{Commit, Entry, Change, commits_of, Seat, InSection, IsSeat, Continues, catalogue_of, IsOpening, reply, changes}
+use Rattle.script_workers.proofs.Terms.{capacity, IsSetCommit, Command, IsEntered, Place, AtCommit, Read, Reply, Causes, time_of, Past, past_of, state_of_time}
+use Rattle.script_workers.proofs.Terms.{PlaceOf, CommitsNone, Follows}
 use Rattle.script_workers.specs.Commands.{RanTo, RanAt}
 
 -- one more commit, if it is this seat's

@@ -1,34 +1,20 @@
 -- A chain of links is a run.
 use Rattle.std.proofs.Common.{◌≡◌, ℕ, suc, ◌+◌, ◌≤◌, List, [], ◌∷◌, ◌++◌, length, map, refl, sym, ap, ◌∙◌, subst, arith, append_assoc}
 use Rattle.std.proofs.lemmas.List.{append-nil}
-use Rattle.mv_history.specs.declared.history.Commit.{Commit}
-use Rattle.mv_history.specs.Meaning.{Seat, IsSeat}
-use Rattle.mv_history.specs.Calls.{Continues}
-use Rattle.mv_history.specs.CallLaws.{Continues-itself}
 use Rattle.mv_history.proofs.Steps.{Continues-Continues}
-use Rattle.set_script.specs.declared.commands.Command.{Command}
-use Rattle.section_work.specs.declared.place.Place.{Place}
-use Rattle.set_script.specs.declared.commands.Reply.{Reply}
-use Rattle.section_work.specs.Causes.{Causes}
-use Rattle.section_work.specs.declared.causes.Cause.{Cause}
-use Rattle.set_script.specs.Lawful.{IsOpening}
-use Rattle.set_script.specs.Rules.{IsSetCommit}
 use Rattle.set_catalog.specs.Steps.{most_locks}
-use Rattle.set_catalog.specs.Attempts.{Attempted}
 use Rattle.set_catalog.specs.declared.answer.Attempt.{Attempt}
 use Rattle.set_catalog.specs.declared.answer.Attempt.TheVariants.{Done, Again}
-use Rattle.run_report.specs.declared.line.Line.{Line}
-use Rattle.run_report.specs.Order.{time_of}
-use Rattle.run_report.specs.Worked.{past_of, PlaceOf, LinesOf, Ran}
-use Rattle.item_workers.specs.declared.runner.Answer.{Answer}
-use Rattle.item_workers.specs.Chains.{Chain, DidAll, HaveNumbers, answered}
-use Rattle.script_workers.specs.Commands.{RanAt}
+use Rattle.set_catalog.specs.Attempts.{Attempted}
+use Rattle.run_report.specs.Worked.{LinesOf}
 use Rattle.item_workers.proofs.Each.{chain_told}
-use Rattle.script_workers.specs.Lines.{line_of, LinkedLine}
-use Rattle.script_workers.specs.Links.{Linked, LinkedDone}
-use Rattle.script_workers.proofs.Places.{done_at, place_later, time_seen, ran_after, follows_earlier}
-use Rattle.work_runner.specs.Tries.{IsUnder}
 use Rattle.work_runner.proofs.Tries.{done_behind, gave_up, under_still}
+use Rattle.script_workers.proofs.Terms.{Commit, Seat, IsSeat, Continues, Continues-itself, Command, Place, Reply, Causes, Cause, IsOpening, IsSetCommit, Line}
+use Rattle.script_workers.proofs.Terms.{time_of, past_of, PlaceOf, Ran, Answer, Chain, DidAll, HaveNumbers, answered, IsUnder}
+use Rattle.script_workers.specs.Links.{Linked, LinkedDone}
+use Rattle.script_workers.specs.Commands.{RanAt}
+use Rattle.script_workers.specs.Lines.{line_of, LinkedLine}
+use Rattle.script_workers.proofs.Places.{done_at, place_later, time_seen, ran_after, follows_earlier}
 
 -- The command of a link has its place.
 pub linked_ran : (k : Causes) (s t : Seat) (command : Command) (place : Place) (answer : Reply) → Linked k s t command place answer
@@ -68,8 +54,6 @@ ran_from k s u number before [] [] le c n = record {
   mine = ap (λ (t : Seat). t.mine) c ∙ sym (append-nil s.mine);
   each = refl;
 }
-ran_from k s u number before [] (d ∷ ds) le c n = absurd c
-ran_from k s u number before (i ∷ commands) [] le c n = absurd c
 ran_from k s u number before (i ∷ commands) (d ∷ ds) le c n =
     let t : Seat = c.0 in
     let place : Place = d.done.0 in
@@ -97,6 +81,7 @@ ran_from k s u number before (i ∷ commands) (d ∷ ds) le c n =
         subst (λ (m : ℕ). LinesOf (past_of u) u.number m (time_of place) commands (map line_of ds) rest.commits) next rest.each,
       );
     }
+ran_from k s u number before _ _ le c n = absurd c
 
 -- So a chain is a run.
 pub chain_ran : (k : Causes) (s u : Seat) (commands : List Command) (ds : List (Answer (Place × Reply)))

@@ -1,5 +1,5 @@
 use Rattle.std.proofs.Common.{◌+◌, ◌++◌, ◌∷◌, [], ap, sym, ◌∙◌, arith, take, append_assoc}
-use Rattle.run_report.specs.declared.line.Line.{Line}
+use Rattle.script_workers.proofs.Terms.{Line}
 use Rattle.block_workers.specs.BlockLines.{lines_at}
 use Rattle.block_workers.proofs.BlockRows.{lines_next}
 use Rattle.block_workers.proofs.rows.put_block.Goals as goal

@@ -1,6 +1,6 @@
 use Rattle.std.proofs.Common.{arith}
 use Rattle.item_workers.proofs.Each.{all_free, all_may}
-use Rattle.block_workers.proofs.AllBlocks.{few_numbers, all_ran, all_linked, all_counted}
+use Rattle.block_workers.proofs.AllBlocks.{few_numbers, all_ran, all_counted}
 use Rattle.block_workers.proofs.running.run_blocks.Goals as goal
 
 -- each block may be done on each store
@@ -22,9 +22,9 @@ make_lines-requires-clause-room g c =
 pub returns-clause-ran : goal.returns-clause-ran
 returns-clause-ran g c =
     rw (c.make_lines.ensures, c.deref.ensures.value)
-    (all_ran _ g.S.Store.seat_of c.args.stores.items _ _ c.in_ok-stores.rows.items c.in_ok-stores.ensures.did)
+    (all_ran _ g.S.Store.seat_of c.args.stores.items _ _ c.in_ok-stores.rows.items c.in_ok-stores.ensures.did).0
 
 pub returns-clause-linked : goal.returns-clause-linked
 returns-clause-linked g c =
     rw (c.make_lines.ensures, c.deref.ensures.value)
-    (all_linked _ g.S.Store.seat_of c.args.stores.items _ _ c.in_ok-stores.rows.items c.in_ok-stores.ensures.did)
+    (all_ran _ g.S.Store.seat_of c.args.stores.items _ _ c.in_ok-stores.rows.items c.in_ok-stores.ensures.did).1

@@ -1,5 +1,5 @@
 use Rattle.std.proofs.Common.{arith, ap}
-use Rattle.command_pool.specs.declared.queue.Hand.{Hand}
+use Rattle.command_pool.proofs.Terms.{Hand}
 use Rattle.command_pool.proofs.Sharing.{forks}
 use Rattle.command_pool.proofs.lending.share_out.Goals as goal
 

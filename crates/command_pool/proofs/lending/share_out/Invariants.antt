@@ -1,7 +1,7 @@
 use Rattle.std.proofs.Common.{◌≡◌, ◌≤◌, ◌-◌, [], length, All, vec_capacity}
-use Rattle.crossbeam_queue.specs.Passes.{view, IsPassOf}
 use Rattle.command_pool.specs.Queue.{hand, all_parts}
 use Rattle.command_pool.specs.Lending.{IsBegun}
+use Rattle.command_pool.proofs.Terms.{view, IsPassOf}
 use Rattle.command_pool.proofs.lending.share_out.Given as goal
 
 abbrev pub invariant-loop : goal.invariant-loop

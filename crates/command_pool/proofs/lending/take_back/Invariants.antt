@@ -1,8 +1,8 @@
 use Rattle.std.proofs.Common.{◌≡◌, ◌≤◌, ◌+◌, ◌++◌, length, All, vec_len}
 use Rattle.std.specs.List.{flat_map}
-use Rattle.crossbeam_queue.specs.Passes.{view, IsPassOf}
 use Rattle.command_pool.specs.Queue.{all_parts}
 use Rattle.command_pool.specs.Lending.{IsLent, taken_of}
+use Rattle.command_pool.proofs.Terms.{view, IsPassOf}
 use Rattle.command_pool.proofs.lending.take_back.Given as goal
 
 abbrev pub invariant-loop-turns : goal.invariant-loop-turns

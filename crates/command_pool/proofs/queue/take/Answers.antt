@@ -1,6 +1,5 @@
 use Rattle.std.proofs.Common.{arith, ap, ◌∙◌}
-use Rattle.crossbeam_queue.specs.Passes.{view}
-use Rattle.command_pool.specs.declared.queue.Hand.{Hand}
+use Rattle.command_pool.proofs.Terms.{view, Hand}
 use Rattle.command_pool.proofs.Sharing.{takes}
 use Rattle.command_pool.proofs.queue.take.Goals as goal
 

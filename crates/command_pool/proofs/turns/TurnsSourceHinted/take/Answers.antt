@@ -1,7 +1,6 @@
 use Rattle.std.proofs.Common.{◌-◌, length, ap, refl, arith}
 use Rattle.std.proofs.lemmas.List.{length_push}
-use Rattle.crossbeam_queue.specs.Passes.{view}
-use Rattle.command_pool.specs.declared.queue.Hand.{Hand}
+use Rattle.command_pool.proofs.Terms.{view, Hand}
 use Rattle.command_pool.proofs.Taking.{command_found, command_there}
 use Rattle.command_pool.proofs.Totals.{rising_last, rising_length}
 use Rattle.command_pool.proofs.turns.TurnsSourceHinted.take.Goals as goal

@@ -1,6 +1,6 @@
-use Rattle.std.proofs.Common.{◌&&◌, ◌∙◌, ap}
-use Rattle.grow_report.specs.Turns.{odd_with}
-use Rattle.grow_workers.proofs.Attempts.{done_command, begun_odd, begun_due, turn_done, under_due, split_told}
+use Rattle.std.proofs.Common.{◌≡◌, ◌&&◌, ◌∙◌, sym}
+use Rattle.grow_report.specs.Turns.{is_added, odd_with}
+use Rattle.grow_workers.proofs.Attempts.{under_none, done_command, turn_done, under_due, split_told}
 use Rattle.grow_workers.proofs.growing.GrowingRunner.attempt.Goals as goal
 
 pub returns-in-Some : goal.returns-in-Some
@@ -16,13 +16,12 @@ returns-then-is_due g c =
     record {
       tried = λ s u.
           let new = c.attempt_grow-store.result.0 in
-          let linked = done_command _ s c.args.item.now _ (g.S.Store.seat_of new) _ _ _ _ c.in_default.is c.in-Done.is u (g.met.S.Store.lawful new)
+          let begun = under_none _ s c.args.item.now _ _ c.in_default.is u in
+          let done = done_command _ s c.args.item.now _ (g.S.Store.seat_of new) _ _ _ c.in-Done.is begun.0 (g.met.S.Store.lawful new)
           c.attempt_grow-store.ensures.attempted in
-          let begun = begun_due _ s c.args.item.now _ (g.S.Store.seat_of new) _ _ _ c.in_default.is u linked in
-          split_told _ s c.args.item.now _ _ _ _ _ _ _ _ linked begun
-          (begun_odd _ s c.args.item.now _ _ c.is_due.result c.in-Done.reply c.in_default.is u
-          (c.is_due.ensures ∙ ap (λ a. c.args.self.odd && a) c.is_added-added.ensures)
-          ∙ c.if-is_due.true)
+          let due : c.is_due.result ≡ (s.odd && is_added c.args.item.now c.in-Done.reply) =
+          c.is_due.ensures ∙ (λ i. begun.1 i && c.is_added-added.ensures i) in
+          split_told _ s c.args.item.now _ _ _ _ _ _ _ _ done.0 done.1 (sym due ∙ c.if-is_due.true)
           (g.met.S.Store.lawful c.split-then-is_due.result.0.store) c.split-then-is_due.ensures.tried;
     }
 
@@ -31,10 +30,14 @@ returns-else-is_due g c =
     record {
       tried = λ s u.
           let new = c.attempt_grow-store.result.0 in
-          let linked = done_command _ s c.args.item.now _ (g.S.Store.seat_of new) _ _ _ _ c.in_default.is c.in-Done.is u (g.met.S.Store.lawful new)
+          let begun = under_none _ s c.args.item.now _ _ c.in_default.is u in
+          let done = done_command _ s c.args.item.now _ (g.S.Store.seat_of new) _ _ _ c.in-Done.is begun.0 (g.met.S.Store.lawful new)
           c.attempt_grow-store.ensures.attempted in
-          let turn = turn_done _ s c.args.item.now _ (g.S.Store.seat_of new) _ _ _ _ _ c.in_default.is u linked
-          (c.is_due.ensures ∙ ap (λ a. c.args.self.odd && a) c.is_added-added.ensures) c.if-is_due.false
-          (c.odd_with-odd.ensures ∙ ap (λ a. odd_with c.args.self.odd a) c.is_added-added.ensures) in
-          (turn.0, (c.in_default.is, turn.1));
+          let due : c.is_due.result ≡ (s.odd && is_added c.args.item.now c.in-Done.reply) =
+          c.is_due.ensures ∙ (λ i. begun.1 i && c.is_added-added.ensures i) in
+          let odd : c.odd_with-odd.result ≡ odd_with s.odd (is_added c.args.item.now c.in-Done.reply) =
+          c.odd_with-odd.ensures ∙ (λ i. odd_with (begun.1 i) (c.is_added-added.ensures i)) in (
+            turn_done _ s c.args.item.now (g.S.Store.seat_of new) c.odd_with-odd.result _ _ done.0 (sym due ∙ c.if-is_due.false) odd,
+            (c.in_default.is, done.1.may),
+          );
     }

@@ -30,6 +30,8 @@ pub enum Attempt {
 /// It locks both accounts, and so whatever others commit meanwhile leaves their balances as the
 /// section read them. That is what makes the commit fit: allowed on every state that may come to
 /// stand just before it. An account that is short is answered so even where the log has no room.
+/// A full log is told of the seat that `prepare` left, since no clause of a store says that leaving a section
+/// frees nothing.
 pub fn transfer<S: Store<Rules = Accounts>>(
     store: S,
     from: u32,

@@ -13,7 +13,7 @@
 //!   before it. Each commit of the history has exactly one block;
 //! - a block at a read has its replies on the catalogue of its printed time, where it changes nothing;
 //! - the table of each seat counts the seat's commits and rests in the history, and the versions that its commits wrote; it
-//!   is that of the very seat that met, by its own log and trail (`MetAlong`);
+//!   tells, by its log and trail, of a seat that met so (`MetAlong`), though the closing doesn't say which seats met;
 //! - the lines are a legal run of the blocks (`LegalBlocks`, specs/Legal.antt): each command has one line, the lines of a block
 //!   one place, along a script times rise, and the replay of the blocks in the order of their lines, one after another from
 //!   empty maps, gives every reply.

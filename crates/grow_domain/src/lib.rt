@@ -12,7 +12,7 @@
 //!   yes and ahead of its next line, one at most, and nowhere else; one is missing only where a state meanwhile can't be split;
 //! - there are as many splits as the history has, and the state at the end has 16 buckets and so many more;
 //! - the table of each seat counts the seat's commits and rests in the history, and the versions that its commits wrote; it
-//!   is that of the very seat that met, by its own log and trail (`MetAlong`);
+//!   tells, by its log and trail, of a seat that met so (`MetAlong`), though the closing doesn't say which seats met;
 //! - the lines are a legal run (`LegalRun` of `run_report`): each command has one line, along a script times rise, and the replay
 //!   of the lines in their order, one after another from empty maps, gives every reply.
 //!

@@ -26,6 +26,9 @@
 //!
 //! All memory is taken before the workers start. Want of it is the one error, and leaves the stores untouched.
 //!
+//! What goes to a thread is judged by the type of its argument, which names all its parts: so [`run_lists`]
+//! and [`run_sources`] bound store, memory, items and answers each, by `Send` or `Sync`.
+//!
 //! # How it is proved
 //!
 //! A link is of one item, so a chain grows by one link where an item is done (`proofs/Serves.antt`). Stores and sources move

@@ -59,7 +59,7 @@ pub record Kind (End : Type 0) : Type 1 where
 
 -- The history of a domain is that of a run, and each seat went along the chain of its lines: from the one with which a domain of these numbers,
 -- all of them, was opened, to the one that met. The lines that are printed are those of the chains, in another order, and the tables are
--- those of the very seats that met.
+-- those of the seats that the chains lead to.
 pub record IsRunAlong (allows : List ℕ → State → Writes → Type 0) (chain : List Seat → List Seat → List Line → Type 0) (numbers : Config)
     (is_run : Past → Type 0) (lines : List Line) (tables : List LogTable) (w : Whole) : Type 0 where
   pub run : is_run (past_of_whole w)

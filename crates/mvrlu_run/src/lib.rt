@@ -24,12 +24,13 @@
 //! closing: a commit is the entry of its time by its seat with its command's tag, and a read has its reply in
 //! the state of its time. Each command has one line, each commit of the history has one, and the lines in
 //! their order, replayed one after another, give every reply and end in the printed sets. The domain has all
-//! the numbers that it was to have, each seat went along a chain from its opening to the seat that met, whose
-//! links are the attempts of its lines, and the tables are those of these very seats, each by its own log and
-//! trail (`IsRunAlong`): so a read's place isn't below any commit that its seat had seen when the command
-//! began (`fresh_read` in script_domain's proofs). Each other status has its cause, and where the texts are
-//! told and no call failed the scripts alone decide, but for want of memory. A gate is called around each
-//! command; no clause speaks of it, since it tells nothing.
+//! the numbers that it was to have, and each seat went along a chain from its opening to a seat that met, whose
+//! links are the attempts of its lines: so a read's place isn't below any commit that its seat had seen when
+//! the command began (`fresh_read` in script_domain's proofs). The tables are those of the seats that these
+//! chains lead to, each by its log and trail (`IsRunAlong`); which seats met the closing doesn't say, so a
+//! table that another trail of the same history explains is accepted too. Each other status has its cause,
+//! and where the texts are told and no call failed the scripts alone decide, but for want of memory. A gate is
+//! called around each command; no clause speaks of it, since it tells nothing.
 //!
 //! On a growing set the commits of the history are those of lines and of splits: a seat has one split at most behind
 //! each second add of its script that replied yes, ahead of its next line. The text has a line on the buckets and the

@@ -14,6 +14,9 @@
 //! leaves and with which cause. `vacant` is a look through the objects and one try to lock: `Vacant` in specs/
 //! says which object it finds. Letting a seat go aborts its section, and ends the seat alone.
 //!
+//! No clause can see what the caller's words mean, nor that a pointer in them is followed inside its section
+//! alone: of that only `grace` tells.
+//!
 //! It stands on `mvrlu`.
 #![tactic(auto)]
 

@@ -12,7 +12,7 @@
 //!   of the history has exactly one line;
 //! - each `Read` line has its command's reply in the state of its printed time, where the command has nothing to change;
 //! - the table of each seat counts the seat's commits and rests in the history, and the versions that its commits wrote; it
-//!   is that of the very seat that met, by its own log and trail (`MetAlong`);
+//!   tells, by its log and trail, of a seat that met so (`MetAlong`), though the closing doesn't say which seats met;
 //! - the lines are a legal pool (`LegalPool`, specs/Legal.antt): each command has one line, along the numbers of each seat
 //!   times rise, and the replay of the ordered lines, one after another from empty maps, gives every reply.
 //!

@@ -36,7 +36,7 @@ use std::thread::Threads;
 /// sequential catalogue gives at the line's printed place, and each commit of the history has exactly one line.
 ///
 /// Each seat went along the chain of its lines, from the one that `open` gave to one that met (`MetAlong`), and the
-/// tables are those of these very seats.
+/// tables are those of the seats that these chains lead to.
 ///
 /// The error is want of memory. It comes only before the first command, and hands back the domain and the seats, which
 /// mean what they meant, so the call can be tried again. After the workers have ended nothing is refused.

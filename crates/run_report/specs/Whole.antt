@@ -43,7 +43,7 @@ writes_in commits = sum_by (λ (c : Commit). length c.writes) commits
 
 -- The table of the seat's log counts the seat's commits and rests in the history. The versions that are live or were freed are
 -- those of its commits' writes, and others only where a section of it was aborted: so much a history tells. Of a run over a domain
--- each count is told exactly, by the trail of the very seat that met (`AreTablesOf` of `domain_run`).
+-- each count is that of the trail of a seat that met (`AreTablesOf` of `domain_loan`).
 pub record IsTableOf (entries : List Entry) (seat : ℕ) (table : LogTable) : Type 0 where
   pub commits : table.commits ≡ length (commits_of seat entries)
   pub rests : table.rests ≡ rests_of seat entries

@@ -12,7 +12,7 @@
 //!   of the history has exactly one line;
 //! - each `Read` line has its command's reply in the state of its printed time, where the command has nothing to change;
 //! - the table of each seat counts the seat's commits and rests in the history, and the versions that its commits wrote; it
-//!   is that of the very seat that met, by its own log and trail (`MetAlong`);
+//!   tells, by its log and trail, of a seat that met so (`MetAlong`), though the closing doesn't say which seats met;
 //! - the lines are a legal run of the scripts: each command of each script has one line, along a script times rise, and
 //!   the replay of the ordered lines, one after another from empty maps, gives every reply. So every reply is that of
 //!   the sequential catalogue at its printed place;
@@ -22,6 +22,9 @@
 //!
 //! A run may go on forever where a command never gets what it needs; what is promised holds when it returns. Want of
 //! memory comes only before the first command, and hands back the domain and its seats.
+//!
+//! Seats handed back for want of memory mean what new ones mean, so that they can be given again; nothing is
+//! said of the pass and the log of what comes back.
 //!
 //! **Its place.** The crate stands on `script_workers`, which runs scripts over any stores in threads, and on `mvrlu`,
 //! whose handles are such stores and whose meeting knows the whole history. `run_report` says what a run is. The crate

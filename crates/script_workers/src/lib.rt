@@ -32,6 +32,9 @@
 //!
 //! All memory is taken before the workers start. Want of it is the one error, and leaves the stores untouched.
 //!
+//! That the numbers of the stores are their places is asked only so that a line's seat names its script.
+//! `S::Open` must be `Send`, since the type of a thread's argument names it.
+//!
 //! # How it is proved
 //!
 //! [`Hinted`], a store with its hints, is a `Runner` of `item_workers`, which has the threads and gives the chain. One

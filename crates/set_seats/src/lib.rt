@@ -15,6 +15,9 @@
 //! `set_catalog` finds it. A walk (`Walks`) writes the entries of one set from a key on, all of the state of a section that the call
 //! entered, and makes and tries no entry. Letting a seat go ends it alone.
 //!
+//! What is known of vacant nodes isn't carried over the seat's own commit, so a look is made once more. A
+//! block's tag doesn't tell whether it was a command or a block of one.
+//!
 //! It stands on `set_blocks` and `mvrlu`, and on `section_work`, by which a command is done as one section.
 #![tactic(auto)]
 

@@ -17,9 +17,9 @@ use Rattle.log_reclaim.specs.Parts.{HasScanned}
 use Rattle.log_reclaim.specs.Untimed.{TriedSo}
 use Rattle.log_reclaim.specs.Sweeps.{Sweeps, found_at}
 use Rattle.log_reclaim.specs.Tidies.{RestsSo}
-use Rattle.log_reclaim.proofs.ScanCauses.{low_known, marked_cause}
+use Rattle.log_reclaim.proofs.causes.ScanCauses.{low_known, marked_cause}
 use Rattle.log_reclaim.proofs.Reclaiming.{reclaims_number, reclaims_base}
-use Rattle.log_reclaim.proofs.TidyDeaths.{at_before, death_next}
+use Rattle.log_reclaim.proofs.rests.TidyDeaths.{at_before, death_next}
 
 module _ (c : Config) (one : c.seats ≡ 1) where
   -- a scan finds no mark, and so the clock's time

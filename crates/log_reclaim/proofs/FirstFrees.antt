@@ -20,7 +20,7 @@ use Rattle.log_reclaim.proofs.Reclaiming.{reclaims_on, makes_on, reclaims_number
 use Rattle.log_reclaim.proofs.Composed.{shrinks_then}
 use Rattle.log_reclaim.proofs.Untimed.{untimed_then, dated_then}
 use Rattle.log_reclaim.proofs.MoreSteps.{scanned_then}
-use Rattle.log_reclaim.proofs.Exchanges.{leaves_clock}
+use Rattle.log_reclaim.proofs.rests.Exchanges.{leaves_clock}
 use Rattle.log_reclaim.proofs.Sweeping.{left_at}
 
 module _ (v w : View) (l m : Noted) (made : List Step) (t freed : ℕ) (k : FreesAll v w l m made t freed) where

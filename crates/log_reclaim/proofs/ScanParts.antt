@@ -21,7 +21,7 @@ use Rattle.log_reclaim.specs.Parts.{IsReclaimKind, BeginsNoScan, LeavesClock, Is
 use Rattle.log_reclaim.specs.Tries.{Makes}
 use Rattle.mv_core.proofs.history.Fronts.{begins_long}
 use Rattle.log_reclaim.proofs.Reclaiming.{reclaims_outside}
-use Rattle.log_reclaim.proofs.ScanCauses.{after_clock_all}
+use Rattle.log_reclaim.proofs.causes.ScanCauses.{after_clock_all}
 
 one_kind : (P : StepKind → Type 0) (s : Step) → P s.kind → All (λ (x : Step). P x.kind) (s ∷ [])
 one_kind P s p = All-cons (λ (x : Step). P x.kind) s [] p (All-nil (λ (x : Step). P x.kind))

@@ -25,11 +25,11 @@ use Rattle.log_reclaim.proofs.Idle.{still_of}
 use Rattle.log_reclaim.proofs.Reclaiming.{reclaims_on, reclaims_number, reclaims_base, reclaims_more, reclaims_may}
 use Rattle.log_reclaim.proofs.Untimed.{untimed_on, untimed_then, dated_on, dated_then}
 use Rattle.log_reclaim.proofs.Needed.{time_seen}
-use Rattle.log_reclaim.proofs.ScanCauses.{low_below, low_known}
+use Rattle.log_reclaim.proofs.causes.ScanCauses.{low_below, low_known}
 use Rattle.log_reclaim.proofs.MoreSteps.{scanned_more}
 use Rattle.log_reclaim.proofs.ScanParts.{steps_of, scan_clock_is, scan_later, scan_reclaims, scan_rests, scan_leaves, scan_plain, scan_shown}
-use Rattle.log_reclaim.proofs.Exchanges.{begins_none, leaves_clock}
-use Rattle.log_reclaim.proofs.AloneSeen.{alone_seen}
+use Rattle.log_reclaim.proofs.rests.Exchanges.{begins_none, leaves_clock}
+use Rattle.log_reclaim.proofs.causes.AloneSeen.{alone_seen}
 use Rattle.log_reclaim.proofs.FreedAll.{free_kind}
 
 -- a note that is left was there before, after those that were freed

@@ -23,13 +23,13 @@ use Rattle.log_reclaim.specs.Tidies.{RestsOnce, RestsWhereDue, RestsSo, WritesBa
 use Rattle.log_reclaim.proofs.Reclaiming.{reclaims_on}
 use Rattle.log_reclaim.proofs.Composed.{shrinks_then}
 use Rattle.log_reclaim.proofs.FirstFrees.{frees_longer, frees_then, grace_plain, sweeps_then}
-use Rattle.log_reclaim.proofs.RoundCauses.{round_swept}
+use Rattle.log_reclaim.proofs.causes.RoundCauses.{round_swept}
 use Rattle.log_reclaim.proofs.Swept.{swept_then}
-use Rattle.log_reclaim.proofs.Exchanges.{none_exchanged, one_between}
-use Rattle.log_reclaim.proofs.TidyCauses.{tidy_holds, tidy_tried}
-use Rattle.log_reclaim.proofs.RestsDue.{tidy_due}
+use Rattle.log_reclaim.proofs.rests.Exchanges.{none_exchanged, one_between}
+use Rattle.log_reclaim.proofs.causes.TidyCauses.{tidy_holds, tidy_tried}
+use Rattle.log_reclaim.proofs.rests.RestsDue.{tidy_due}
 use Rattle.log_reclaim.proofs.Alone.{none_alive}
-use Rattle.log_reclaim.proofs.Heard.{heard_freed}
+use Rattle.log_reclaim.proofs.rests.Heard.{heard_freed}
 
 pub none_held : {A : Type 0} (holder : Holder) → ◌≡◌ {A = Option Holder} None (Some holder) → A
 none_held holder e = absurd (cc)

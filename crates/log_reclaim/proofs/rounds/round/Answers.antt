@@ -5,7 +5,7 @@ use Rattle.log_reclaim.specs.declared.rounds.Scanned.{Scanned}
 use Rattle.log_reclaim.specs.Sweeps.{SweepsSo}
 use Rattle.log_reclaim.specs.Rounds.{FreesFirst, IsHolder}
 use Rattle.log_reclaim.proofs.FirstFrees.{freed_first}
-use Rattle.log_reclaim.proofs.RoundCauses.{round_scanned, round_emptied, round_plain, emptied_plain}
+use Rattle.log_reclaim.proofs.causes.RoundCauses.{round_scanned, round_emptied, round_plain, emptied_plain}
 use Rattle.log_reclaim.proofs.Lengths.{live_few, round_bound}
 use Rattle.log_reclaim.proofs.rounds.round.Goals.{in-Some, in-None}
 use Rattle.log_reclaim.proofs.rounds.round.Goals as goal

@@ -1,7 +1,7 @@
 use Rattle.std.proofs.Common.{ℕ, ◌<◌, ◌++◌, subst, length}
 use Rattle.mv_core.specs.Passes.{view, config_of}
 use Rattle.commit_clock.proofs.Hearing.{hears_on}
-use Rattle.log_reclaim.proofs.Heard.{heard_scan, heard_freed}
+use Rattle.log_reclaim.proofs.rests.Heard.{heard_scan, heard_freed}
 use Rattle.log_reclaim.proofs.ScanParts.{steps_of, scan_stands}
 use Rattle.log_reclaim.proofs.Sweeping.{may_settle, sweeps}
 use Rattle.seat_log.proofs.OwnSlots.{same_on, of_still}

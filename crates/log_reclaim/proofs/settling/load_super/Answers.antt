@@ -1,6 +1,6 @@
 use Rattle.std.proofs.Common.{◌<◌, arith}
 use Rattle.mv_core.specs.Passes.{view, config_of}
-use Rattle.log_reclaim.proofs.Supers.{may_super, may_retire, super_stands, super_stands_none, loads_none, loads_some, empty_is}
+use Rattle.log_reclaim.proofs.looks.Supers.{may_super, may_retire, super_stands, super_stands_none, loads_none, loads_some, empty_is}
 use Rattle.log_reclaim.proofs.settling.load_super.Goals as goal
 
 pub load_super-time-requires : goal.load_super-time-requires

@@ -7,9 +7,9 @@ use Rattle.log_reclaim.specs.declared.settling.Found.{Found}
 use Rattle.log_reclaim.specs.Tries.{LoadsSuper}
 use Rattle.log_reclaim.specs.Sweeps.{found_set, SettlesOne}
 use Rattle.commit_clock.proofs.Hearing.{hears_none, hears_on}
-use Rattle.log_reclaim.proofs.Heard.{heard_super}
-use Rattle.log_reclaim.proofs.OneNote.{untimed_same, loads_is, log_same, tries_is, may_try, knows_still}
-use Rattle.log_reclaim.proofs.OneLook.{settles_timed, settles_found, settles_unbacked, settles_tried}
+use Rattle.log_reclaim.proofs.rests.Heard.{heard_super}
+use Rattle.log_reclaim.proofs.looks.OneNote.{untimed_same, loads_is, log_same, tries_is, may_try, knows_still}
+use Rattle.log_reclaim.proofs.looks.OneLook.{settles_timed, settles_found, settles_unbacked, settles_tried}
 use Rattle.seat_log.proofs.OwnSlots.{same_none, same_on, of_still}
 use Rattle.log_reclaim.proofs.Lengths.{none_more, one_longer, super_bound, looks_bound}
 use Rattle.log_reclaim.proofs.settling.settle.Goals as goal

@@ -1,4 +1,4 @@
-use Rattle.log_reclaim.proofs.OneNote.{note_of}
+use Rattle.log_reclaim.proofs.looks.OneNote.{note_of}
 use Rattle.log_reclaim.proofs.settling.settle.Given as goal
 
 abbrev pub ghost-load_super : goal.ghost-load_super

@@ -1,6 +1,6 @@
 use Rattle.std.proofs.Common.{◌≡◌, ◌+◌, length}
 use Rattle.mv_core.specs.Passes.{view, IsOf, IsSame, config_of}
-use Rattle.log_reclaim.proofs.StoringAll.{HasStored}
+use Rattle.log_reclaim.proofs.looks.StoringAll.{HasStored}
 use Rattle.log_reclaim.proofs.settling.store_all.Given as goal
 
 abbrev pub invariant-loop : goal.invariant-loop

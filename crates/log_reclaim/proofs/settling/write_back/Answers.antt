@@ -7,9 +7,9 @@ use Rattle.log_reclaim.specs.declared.writing_back.NoBack.TheVariants.{Young, Go
 use Rattle.log_reclaim.specs.Backs.{StartsSo}
 use Rattle.log_reclaim.specs.Tries.{LoadsSuper, TriesOne}
 use Rattle.commit_clock.proofs.Hearing.{hears_on, hears_more}
-use Rattle.log_reclaim.proofs.Heard.{heard_super}
-use Rattle.log_reclaim.proofs.Visits.{looked_stands, left_stands}
-use Rattle.log_reclaim.proofs.Trying.{tries_young, gone_may, gone_number, gone_empty, tries_gone, tries_own, tries_above, tries_cut, tries_lost}
+use Rattle.log_reclaim.proofs.rests.Heard.{heard_super}
+use Rattle.log_reclaim.proofs.looks.Visits.{looked_stands, left_stands}
+use Rattle.log_reclaim.proofs.looks.Trying.{tries_young, gone_may, gone_number, gone_empty, tries_gone, tries_own, tries_above, tries_cut, tries_lost}
 use Rattle.mv_core.specs.declared.view.View.{View}
 use Rattle.seat_log.specs.Stands.{Stands}
 use Rattle.seat_log.proofs.OwnSlots.{same_on, of_still}

@@ -7,7 +7,7 @@ use Rattle.log_reclaim.proofs.Reclaiming.{reclaims_may, reclaims_still}
 use Rattle.log_reclaim.proofs.ScanParts.{grace_makes, grace_stands, grace_may}
 use Rattle.log_reclaim.proofs.FirstFrees.{frees_shrinks, frees_again, grace_plain, sweeps_all, sweeps_on}
 use Rattle.log_reclaim.proofs.Tidied.{left_from, left_begins, left_rests, left_shrinks, left_reclaims, left_alone, emptied, no_notes, none_held}
-use Rattle.log_reclaim.proofs.FreshTimes.{left_fresh}
+use Rattle.log_reclaim.proofs.causes.FreshTimes.{left_fresh}
 use Rattle.log_reclaim.proofs.tidying.tidy.Given.{Over}
 use Rattle.mv_core.specs.declared.view.View.{View}
 use Rattle.seat_log.proofs.OwnSlots.{same_on, of_still}

@@ -1,6 +1,6 @@
 use Rattle.std.proofs.Common.{rules, refl}
 use Rattle.mv_core.specs.Passes.{view, config_of}
-use Rattle.log_reclaim.proofs.CutBacks.{may_cut, has_cut, cut_waits, open_cut, has_lost, open_lost}
+use Rattle.log_reclaim.proofs.looks.CutBacks.{may_cut, has_cut, cut_waits, open_cut, has_lost, open_lost}
 use Rattle.log_reclaim.proofs.writing_back.back_cut.Goals as goal
 
 pub cut_head-requires : goal.cut_head-requires

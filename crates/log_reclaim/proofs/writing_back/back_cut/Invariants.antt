@@ -1,5 +1,5 @@
 use Rattle.mv_core.specs.Passes.{view, config_of}
-use Rattle.log_reclaim.proofs.Picks.{committed_in}
+use Rattle.log_reclaim.proofs.looks.Picks.{committed_in}
 use Rattle.log_reclaim.proofs.writing_back.back_cut.Given as goal
 
 abbrev pub ghost-cut_head : goal.ghost-cut_head

@@ -1,7 +1,7 @@
 use Rattle.std.proofs.Common.{ap, ◌∙◌}
 use Rattle.mv_core.specs.Passes.{view, config_of}
 use Rattle.seat_log.specs.Notes.{back_noted}
-use Rattle.log_reclaim.proofs.CutBacks.{open_timed, may_retire_timed, may_note_timed, cut_at_timed, stands_timed}
+use Rattle.log_reclaim.proofs.looks.CutBacks.{open_timed, may_retire_timed, may_note_timed, cut_at_timed, stands_timed}
 use Rattle.log_reclaim.proofs.writing_back.back_end.Goals as goal
 
 pub leave-requires-clause-open : goal.leave-requires-clause-open

@@ -1,5 +1,5 @@
 use Rattle.mv_core.specs.Passes.{view, config_of}
-use Rattle.log_reclaim.proofs.Picks.{back_in}
+use Rattle.log_reclaim.proofs.looks.Picks.{back_in}
 use Rattle.log_reclaim.proofs.writing_back.back_word.Given as goal
 
 abbrev pub ghost-store_master : goal.ghost-store_master

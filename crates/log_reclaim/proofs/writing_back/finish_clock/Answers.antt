@@ -1,6 +1,6 @@
 use Rattle.mv_core.specs.Passes.{view, config_of}
-use Rattle.log_reclaim.proofs.Heard.{heard_cut, heard_uncut}
-use Rattle.log_reclaim.proofs.CutBacks.{stands_lost, ends_uncut}
+use Rattle.log_reclaim.proofs.rests.Heard.{heard_cut, heard_uncut}
+use Rattle.log_reclaim.proofs.looks.CutBacks.{stands_lost, ends_uncut}
 use Rattle.std.proofs.Common.{refl, ap, length}
 use Rattle.mv_core.specs.declared.view.View.{View}
 use Rattle.seat_log.proofs.OwnSlots.{same_on, of_still}

@@ -15,7 +15,7 @@ use Rattle.log_reclaim.specs.declared.rounds.Scanned.{Scanned}
 use Rattle.log_reclaim.specs.Parts.{Reclaims, DiesFrom, HasScan, super_load, TimesDeath}
 use Rattle.log_reclaim.specs.Sweeps.{Sweeps}
 use Rattle.log_reclaim.specs.Tidies.{IsAnyAbove, TriesRest, RestsSo, RestIsDue, RestsWhereDue}
-use Rattle.log_reclaim.proofs.Exchanges.{none_exchanged, none_in_both}
+use Rattle.log_reclaim.proofs.rests.Exchanges.{none_exchanged, none_in_both}
 use Rattle.log_reclaim.proofs.MoreSteps.{scan_more}
 use Rattle.log_reclaim.proofs.Reclaiming.{reclaims_number, reclaims_on}
 use Rattle.log_reclaim.proofs.Untimed.{times_first}

@@ -12,7 +12,7 @@ use Rattle.log_reclaim.specs.declared.rounds.Scanned.{Scanned}
 use Rattle.log_reclaim.specs.Sweeps.{SweepsSo, found_at}
 use Rattle.log_reclaim.specs.Rounds.{untimed_holder, holder_of, IsHolder}
 use Rattle.log_reclaim.specs.Tidies.{HeldBy, TidiesLeft}
-use Rattle.log_reclaim.proofs.HolderCases.{by_cases}
+use Rattle.log_reclaim.proofs.causes.HolderCases.{by_cases}
 use Rattle.log_reclaim.proofs.Reclaiming.{reclaims_base, reclaims_more}
 
 -- where this holder is a fresh time, it is above the clock

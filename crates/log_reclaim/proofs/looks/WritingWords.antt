@@ -16,7 +16,7 @@ use Rattle.reader_marks.specs.Sections.{inside_of}
 use Rattle.seat_log.specs.Builds.{version_in, note_in}
 use Rattle.log_reclaim.specs.declared.writing_back.Back.{Back}
 use Rattle.log_reclaim.specs.Backs.{IsWriting, StoresWord}
-use Rattle.log_reclaim.proofs.Picks.{position_of, back_in}
+use Rattle.log_reclaim.proofs.looks.Picks.{position_of, back_in}
 
 module _ (c : Config) (v : View) (b : Back) (k : IsWriting c v b) where
   -- the position that the view gives is that of the write-back

@@ -15,7 +15,7 @@ use Rattle.log_reclaim.specs.declared.rounds.Scanned.{Scanned}
 use Rattle.log_reclaim.specs.Parts.{TimesDeath}
 use Rattle.log_reclaim.specs.Sweeps.{Sweeps}
 use Rattle.log_reclaim.specs.Holders.{FindsLast}
-use Rattle.log_reclaim.proofs.ScanCauses.{end_found}
+use Rattle.log_reclaim.proofs.causes.ScanCauses.{end_found}
 use Rattle.log_reclaim.proofs.Needed.{death_known}
 
 -- no time is above the last

@@ -21,11 +21,11 @@ use Rattle.log_reclaim.specs.Sweeps.{found_at, Sweeps, SweepsAll}
 use Rattle.log_reclaim.specs.Holders.{RoundHolds, HeldSo}
 use Rattle.log_reclaim.specs.Rounds.{untimed_holder, holder_of, IsHolder, SweptSo, HasMade}
 use Rattle.log_reclaim.proofs.Reclaiming.{reclaims_number}
-use Rattle.log_reclaim.proofs.Exchanges.{none_exchanged}
+use Rattle.log_reclaim.proofs.rests.Exchanges.{none_exchanged}
 use Rattle.log_reclaim.proofs.Needed.{needs_of_note, needs_more_timed, needs_more_untimed}
-use Rattle.log_reclaim.proofs.ScanCauses.{low_known, marked_cause, fresh_cause}
-use Rattle.log_reclaim.proofs.EndCause.{end_cause}
-use Rattle.log_reclaim.proofs.HolderCases.{by_cases}
+use Rattle.log_reclaim.proofs.causes.ScanCauses.{low_known, marked_cause, fresh_cause}
+use Rattle.log_reclaim.proofs.causes.EndCause.{end_cause}
+use Rattle.log_reclaim.proofs.causes.HolderCases.{by_cases}
 
 module _ (starts : State → Type 0) (allows : List ℕ → State → Writes → Type 0) (c : Config) (v w : View) (l m : Noted) (made : List Step) (back : Bool)
     (scanned : Scanned) (found : Found) (freed : ℕ) (k : Sweeps c v w l m made back scanned found freed) where

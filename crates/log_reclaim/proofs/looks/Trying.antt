@@ -31,8 +31,8 @@ use Rattle.log_reclaim.specs.Tries.{IsUntimed, Makes, LoadsSuper, StoresAll, Tri
 use Rattle.log_reclaim.proofs.Reclaiming.{makes_none, makes_on, reclaims_number, reclaims_base, reclaims_may}
 use Rattle.log_reclaim.proofs.Idle.{still_of}
 use Rattle.log_reclaim.proofs.Untimed.{times_then}
-use Rattle.log_reclaim.proofs.Visits.{IsPlain, section_makes, looked_steps, looked_trail, looked_plain, looked_seen, looked_rest}
-use Rattle.log_reclaim.proofs.Visits.{head_step, left_steps, left_makes, left_top, left_has_step, left_empty}
+use Rattle.log_reclaim.proofs.looks.Visits.{IsPlain, section_makes, looked_steps, looked_trail, looked_plain, looked_seen, looked_rest}
+use Rattle.log_reclaim.proofs.looks.Visits.{head_step, left_steps, left_makes, left_top, left_has_step, left_empty}
 
 module _ (starts : State → Type 0) (allows : List ℕ → State → Writes → Type 0) (c : Config) (v : View) (l : Noted) (n : Note) (mark : Watermark)
     (known : ∥ Known starts allows v ∥₁) (may : MayLoadLow v) (base : v.base ≡ c.base) where

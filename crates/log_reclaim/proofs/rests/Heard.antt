@@ -24,8 +24,8 @@ use Rattle.log_reclaim.specs.Parts.{grace_load, super_load}
 use Rattle.log_reclaim.specs.Rounds.{FreesAll}
 use Rattle.log_reclaim.specs.Tries.{LoadsSuper}
 use Rattle.log_reclaim.proofs.FreedAll.{free_kind}
-use Rattle.log_reclaim.proofs.ScanCauses.{after_clock_all}
-use Rattle.log_reclaim.proofs.StoringAll.{HasStored}
+use Rattle.log_reclaim.proofs.causes.ScanCauses.{after_clock_all}
+use Rattle.log_reclaim.proofs.looks.StoringAll.{HasStored}
 
 -- HEAD was loaded after that
 pub heard_looked : (c : Config) (v u w : View) (inside : Section) (object link top : ℕ) → Hears v u top → w ≡ head_loaded c u inside object link

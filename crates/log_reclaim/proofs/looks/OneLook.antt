@@ -30,8 +30,8 @@ use Rattle.log_reclaim.specs.Sweeps.{found_at, found_set, IsTableOf, SettlesOne}
 use Rattle.log_reclaim.proofs.Idle.{still_of}
 use Rattle.log_reclaim.proofs.Reclaiming.{makes_none, makes_on, reclaims_number, reclaims_base, reclaims_more}
 use Rattle.log_reclaim.proofs.Untimed.{times_then, untimed_on}
-use Rattle.log_reclaim.proofs.OneNote.{position_is, place_is, one_note, committed}
-use Rattle.log_reclaim.proofs.FoundSeats.{table_set, found_here, found_else}
+use Rattle.log_reclaim.proofs.looks.OneNote.{position_is, place_is, one_note, committed}
+use Rattle.log_reclaim.proofs.looks.FoundSeats.{table_set, found_here, found_else}
 
 -- one step of such a kind
 one_plain : (s : Step) → IsPlainKind s.kind → All (λ (t : Step). IsPlainKind t.kind) (s ∷ [])

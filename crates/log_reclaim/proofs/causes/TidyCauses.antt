@@ -23,14 +23,14 @@ use Rattle.log_reclaim.specs.Sweeps.{Sweeps, found_at}
 use Rattle.log_reclaim.specs.Holders.{ReadsMark, IsAfterScan, FindsLast, TidyHolds, HeldSo}
 use Rattle.log_reclaim.specs.Rounds.{by_mark_of, untimed_holder, holder_of, IsHolder}
 use Rattle.log_reclaim.specs.Tidies.{RestsSo, HasTried}
-use Rattle.log_reclaim.proofs.ScanCauses.{low_below, low_known, marked_cause, fresh_cause}
-use Rattle.log_reclaim.proofs.EndCause.{end_cause}
+use Rattle.log_reclaim.proofs.causes.ScanCauses.{low_below, low_known, marked_cause, fresh_cause}
+use Rattle.log_reclaim.proofs.causes.EndCause.{end_cause}
 use Rattle.log_reclaim.proofs.Needed.{needs_of_note, needs_more_timed, needs_more_untimed}
-use Rattle.log_reclaim.proofs.HolderCases.{by_cases}
+use Rattle.log_reclaim.proofs.causes.HolderCases.{by_cases}
 use Rattle.log_reclaim.proofs.MoreSteps.{reads_mark_more, last_found_more, scan_more, after_scan_more}
 use Rattle.log_reclaim.proofs.Reclaiming.{reclaims_number, reclaims_on}
 use Rattle.log_reclaim.proofs.Untimed.{untimed_on}
-use Rattle.log_reclaim.proofs.TidyDeaths.{untimed_first, death_others}
+use Rattle.log_reclaim.proofs.rests.TidyDeaths.{untimed_first, death_others}
 
 -- a version that isn't dead by a time is dead only from above it, or has no time of death
 dead_above : (time : ℕ) (n : Note) → (IsDeadNote time n → ⊥) → 0 < n.dead → time < n.dead

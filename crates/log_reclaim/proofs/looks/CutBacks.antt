@@ -30,7 +30,7 @@ use Rattle.seat_log.proofs.Retired.{noted_live}
 use Rattle.seat_log.proofs.CutLogs.{note_cut_room, stands_cut, stands_uncut}
 use Rattle.log_reclaim.specs.declared.writing_back.Back.{Back}
 use Rattle.log_reclaim.specs.Backs.{IsWriting, HasCut, HasLostTo, HasTimed, IsCut, IsCutAt, IsUncut}
-use Rattle.log_reclaim.proofs.Picks.{committed_in}
+use Rattle.log_reclaim.proofs.looks.Picks.{committed_in}
 
 -- nothing is held after the time of death was put
 none_held_timed : (r : Ring) (t : ℕ) → HoldsNothing r → HoldsNothing (record r { slots = map (timed t) r.slots })

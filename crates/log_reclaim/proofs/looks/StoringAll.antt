@@ -25,7 +25,7 @@ use Rattle.log_reclaim.specs.Backs.{IsWriting, StoresWord, IsCutAt, IsUncut, Fin
 use Rattle.mv_core.specs.Tops.{NamesNewer}
 use Rattle.log_reclaim.specs.Parts.{IsReclaimKind, IsOtherKind, FindsSeat, FindsTop}
 use Rattle.log_reclaim.specs.Tries.{StoresAll}
-use Rattle.log_reclaim.proofs.Visits.{IsPlain}
+use Rattle.log_reclaim.proofs.looks.Visits.{IsPlain}
 
 -- a store of a word of a write-back is one
 abbrev IsStore : Step → Type 0

@@ -36,7 +36,7 @@ use Rattle.seat_log.proofs.PlainSteps.{LeavesLog, kinds_leave, help_leaves, stan
 use Rattle.seat_log.proofs.Rested.{rests_room, stands_rested, stands_unrested}
 use Rattle.log_reclaim.specs.Parts.{IsReclaimKind, BeginsNoScan, LeavesClock, Reclaims}
 use Rattle.log_reclaim.specs.Tidies.{IsAnyAbove, RestsSo}
-use Rattle.log_reclaim.proofs.Exchanges.{none_exchanged, one_last}
+use Rattle.log_reclaim.proofs.rests.Exchanges.{none_exchanged, one_last}
 use Rattle.log_reclaim.proofs.Reclaiming.{reclaims_outside}
 
 -- a step of a rest: it names no commit and begins no scan

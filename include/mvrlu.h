@@ -59,11 +59,12 @@ extern "C" {
 #define MVRLU_SLOTS_MIN 64u
 #define MVRLU_SLOTS_MAX 4096u
 #define MVRLU_WRITE_MAX 64u /* and less than the slots */
+#define MVRLU_TIME_MAX 35184372088831u /* the last time, 2^45 - 1 */
 
 /* ---- status: 0 or more: the call was made, or the same call may be made again; below 0: nothing was done, and why ---- */
 typedef enum mvrlu_status {
     MVRLU_OK = 0,
-    MVRLU_NO = 1,           /* sets: there is nothing to change, or nothing of what was asked for */
+    MVRLU_NO = 1,           /* sets: there is nothing to change, or nothing of what was asked for; close_last: it wasn't the last seat */
     MVRLU_AGAIN = 2,        /* another entry came first. Commit again at once; of the sets nothing was done: make the call again */
     MVRLU_BUSY = 3,         /* another seat holds an object. Abort, and begin again later; of the sets nothing was done */
     MVRLU_STALE = 4,        /* an object was written after the section began. Abort, and enter anew; of the sets nothing was done */
@@ -101,8 +102,9 @@ typedef struct mvrlu_options {
     uint32_t objects;   /* 1 to MVRLU_OBJECTS_MAX */
     uint32_t slots;     /* versions in the log of each seat, MVRLU_SLOTS_MIN to MVRLU_SLOTS_MAX */
     uint32_t write_max; /* objects that one section may lock, 1 to MVRLU_WRITE_MAX */
+    uint64_t opening_time; /* the time of the opening state, 0 to MVRLU_TIME_MAX: 0, or where an earlier domain ended */
 } mvrlu_options;
-#define MVRLU_OPTIONS_INIT { sizeof(mvrlu_options), 1024u, 1024u, 16u }
+#define MVRLU_OPTIONS_INIT { sizeof(mvrlu_options), 1024u, 1024u, 16u, 0u }
 
 /* What the library owns of a seat. */
 typedef struct mvrlu_raw { uint8_t is_open; void *at; } mvrlu_raw;
@@ -110,7 +112,7 @@ typedef struct mvrlu_seat { mvrlu_raw raw; const void *self; uint32_t in_call; u
 
 /* The calls of the library itself, which test neither null pointers nor a second thread: use the calls below. */
 int32_t mvrlu_raw_open(const mvrlu_options *options, mvrlu_raw seats[], size_t count);
-int32_t mvrlu_raw_close(mvrlu_raw *seat);
+int32_t mvrlu_raw_close(mvrlu_raw *seat, uint64_t *last);
 int32_t mvrlu_raw_prepare(mvrlu_raw *seat);
 int32_t mvrlu_raw_tidy(mvrlu_raw *seat, uint32_t *live);
 int32_t mvrlu_raw_grace(mvrlu_raw *seat, uint64_t *time);
@@ -182,8 +184,19 @@ static inline int32_t mvrlu_open(const mvrlu_options *options, mvrlu_seat seats[
     return MVRLU_OK;
 }
 
-/* Closes a seat. What its section holds is given up first. The domain ends with the last of its seats. */
-static inline int32_t mvrlu_close(mvrlu_seat *seat) { MVRLU_ON(seat, mvrlu_raw_close(&seat->raw)); }
+/* Closes a seat, and tells whether it was the last one of its domain. What its section holds is given up first. MVRLU_OK: it was. All seats of the
+ * domain have met: there is one history of all that they did, and `last`, which may be NULL, is the time of its last entry, or the opening time
+ * where there is none. The domain's memory is given back. MVRLU_NO: other seats of the domain are open still, and `last` stays. */
+static inline int32_t mvrlu_close_last(mvrlu_seat *seat, uint64_t *last) {
+    uint64_t unused = 0;
+    MVRLU_ON(seat, mvrlu_raw_close(&seat->raw, last == NULL ? &unused : last));
+}
+
+/* Closes a seat, as mvrlu_close_last does, and tells only that it is closed: MVRLU_OK. */
+static inline int32_t mvrlu_close(mvrlu_seat *seat) {
+    int32_t status = mvrlu_close_last(seat, NULL);
+    return status == MVRLU_NO ? MVRLU_OK : status;
+}
 
 /* ---- outside a section ---- */
 
@@ -260,7 +273,7 @@ static inline int32_t mvrlu_write(mvrlu_seat *seat, uint32_t object, const uint6
     MVRLU_ON(seat, mvrlu_raw_write(&seat->raw, object, words));
 }
 
-/* Tells the time of the section's snapshot: how many entries of the history it sees. */
+/* Tells the time of the section's snapshot: the opening time, and one for each entry of the history that it sees. */
 static inline int32_t mvrlu_time(mvrlu_seat *seat, uint64_t *time) {
     if (time == NULL) return MVRLU_NULL;
     MVRLU_ON(seat, mvrlu_raw_time(&seat->raw, time));
@@ -314,8 +327,9 @@ typedef struct mvrlu_sets_options {
     uint32_t size;    /* sizeof(mvrlu_sets_options) */
     uint32_t objects; /* MVRLU_SETS_OBJECTS_MIN to MVRLU_SETS_OBJECTS_MAX */
     uint32_t slots;   /* versions in the log of each seat, MVRLU_SLOTS_MIN to MVRLU_SLOTS_MAX */
+    uint64_t opening_time; /* the time of the opening state, 0 to MVRLU_TIME_MAX */
 } mvrlu_sets_options;
-#define MVRLU_SETS_OPTIONS_INIT { sizeof(mvrlu_sets_options), 4096u, 1024u }
+#define MVRLU_SETS_OPTIONS_INIT { sizeof(mvrlu_sets_options), 4096u, 1024u, 0u }
 
 /* What a command came to, beside its status. A call that is refused below MVRLU_WORN, or at a closed seat, leaves it as it was. */
 typedef struct mvrlu_reply {
@@ -368,7 +382,7 @@ typedef struct mvrlu_sets { mvrlu_sets_raw raw; const void *self; uint32_t in_ca
 
 /* The calls of the library itself, which test neither null pointers nor a second thread: use the calls below. */
 int32_t mvrlu_raw_sets_open(const mvrlu_sets_options *options, mvrlu_sets_raw sets[], size_t count);
-int32_t mvrlu_raw_sets_close(mvrlu_sets_raw *sets);
+int32_t mvrlu_raw_sets_close(mvrlu_sets_raw *sets, uint64_t *last);
 int32_t mvrlu_raw_sets_tidy(mvrlu_sets_raw *sets, uint32_t *live);
 int32_t mvrlu_raw_sets_counts(mvrlu_sets_raw *sets, mvrlu_counts *counts);
 int32_t mvrlu_raw_sets_add(mvrlu_sets_raw *sets, uint32_t set, uint32_t key, mvrlu_reply *reply);
@@ -411,8 +425,17 @@ static inline int32_t mvrlu_sets_open(const mvrlu_sets_options *options, mvrlu_s
     return MVRLU_OK;
 }
 
-/* Closes a seat. The domain ends with the last of its seats. */
-static inline int32_t mvrlu_sets_close(mvrlu_sets *sets) { MVRLU_ON(sets, mvrlu_raw_sets_close(&sets->raw)); }
+/* Closes a seat, and tells whether it was the last one of its domain, with the time of the last entry, as mvrlu_close_last does. */
+static inline int32_t mvrlu_sets_close_last(mvrlu_sets *sets, uint64_t *last) {
+    uint64_t unused = 0;
+    MVRLU_ON(sets, mvrlu_raw_sets_close(&sets->raw, last == NULL ? &unused : last));
+}
+
+/* Closes a seat, and tells only that it is closed: MVRLU_OK. */
+static inline int32_t mvrlu_sets_close(mvrlu_sets *sets) {
+    int32_t status = mvrlu_sets_close_last(sets, NULL);
+    return status == MVRLU_NO ? MVRLU_OK : status;
+}
 
 /* Reclaims what nobody reads any more of the seat's log. `live`: how many slots are live afterwards. */
 static inline int32_t mvrlu_sets_tidy(mvrlu_sets *sets, uint32_t *live) {

@@ -245,12 +245,15 @@ public:
     /* Whether it is open. */
     bool is_open() const noexcept { return place_ != nullptr; }
 
-    /* Closes it. What its section holds is given up first, and the section is over. The domain ends with the last of its seats. */
-    void close() noexcept {
-        if (place_ == nullptr) return;
+    /* Closes it. What its section holds is given up first, and the section is over. Where it was the last seat of the domain, all of them
+     * have met, and the time of the last entry is told; std::nullopt: other seats are open still, or this one was closed already. */
+    std::optional<time> close() noexcept {
+        if (place_ == nullptr) return std::nullopt;
         if (place_->entered != nullptr) place_->entered->drop();
-        mvrlu_close(&place_->seat);
+        time last = 0;
+        std::int32_t status = mvrlu_close_last(&place_->seat, &last);
         place_.reset();
+        return status == MVRLU_OK ? std::optional<time>(last) : std::nullopt;
     }
 
     /* Makes room in the log for one section that locks write_max objects. Refused by errc::short_of_room. Throws errc::inside. */
@@ -343,12 +346,13 @@ struct options {
     std::uint32_t objects = 1024;  /* 1 to MVRLU_OBJECTS_MAX */
     std::uint32_t slots = 1024;    /* versions in the log of each seat, MVRLU_SLOTS_MIN to MVRLU_SLOTS_MAX */
     std::uint32_t write_max = 16;  /* objects that one section may lock, 1 to MVRLU_WRITE_MAX, and less than the slots */
+    time opening_time = 0;         /* the time of the opening state, 0 to MVRLU_TIME_MAX */
 };
 
 /* Opens a domain of objects that are all 0, with 1 to MVRLU_SEATS_MAX seats. Throws errc::bad_number, errc::no_memory and
  * std::bad_alloc, and then nothing is open. */
 [[nodiscard]] inline seats open(const options &options, std::size_t count) {
-    mvrlu_options given = {sizeof(mvrlu_options), options.objects, options.slots, options.write_max};
+    mvrlu_options given = {sizeof(mvrlu_options), options.objects, options.slots, options.write_max, options.opening_time};
     mvrlu_seat opened[MVRLU_SEATS_MAX] = {};
     if (count < 1 || count > MVRLU_SEATS_MAX) throw error(MVRLU_BAD_NUMBER, "mvrlu_open");
     seats made(count);

@@ -127,11 +127,14 @@ public:
 
     bool is_open() const noexcept { return lines_ != nullptr; }
 
-    /* Closes it. The domain ends with the last of its seats. */
-    void close() noexcept {
-        if (lines_ == nullptr) return;
-        mvrlu_sets_close(&lines_->seat);
+    /* Closes it. Where it was the last seat of the domain, all of them have met, and the time of the last entry is told; std::nullopt: other
+     * seats are open still, or this one was closed already. */
+    std::optional<time> close() noexcept {
+        if (lines_ == nullptr) return std::nullopt;
+        time last = 0;
+        std::int32_t status = mvrlu_sets_close_last(&lines_->seat, &last);
         lines_.reset();
+        return status == MVRLU_OK ? std::optional<time>(last) : std::nullopt;
     }
 
     /* Whether a key is there. */
@@ -299,12 +302,13 @@ private:
 struct sets_options {
     std::uint32_t objects = 4096; /* MVRLU_SETS_OBJECTS_MIN to MVRLU_SETS_OBJECTS_MAX: 180 heads, and the nodes of keys */
     std::uint32_t slots = 1024;   /* versions in the log of each seat, MVRLU_SLOTS_MIN to MVRLU_SLOTS_MAX */
+    time opening_time = 0;        /* the time of the opening state, 0 to MVRLU_TIME_MAX */
 };
 
 /* Opens a domain of thirty empty sets, with 1 to MVRLU_SEATS_MAX seats. Throws errc::bad_number, errc::no_memory and std::bad_alloc, and
  * then nothing is open. */
 [[nodiscard]] inline std::vector<sets> open_sets(const sets_options &options, std::size_t count) {
-    mvrlu_sets_options given = {sizeof(mvrlu_sets_options), options.objects, options.slots};
+    mvrlu_sets_options given = {sizeof(mvrlu_sets_options), options.objects, options.slots, options.opening_time};
     mvrlu_sets opened[MVRLU_SEATS_MAX] = {};
     if (count < 1 || count > MVRLU_SEATS_MAX) throw error(MVRLU_BAD_NUMBER, "mvrlu_sets_open");
     std::vector<sets> made(count);

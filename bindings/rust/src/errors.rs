@@ -168,7 +168,7 @@ pub enum Unfinished {
 /// Why a call on sets was not done. It changed nothing.
 ///
 /// ```
-/// # let mut seats = mvrlu::open_sets(mvrlu::SetsOptions { objects: 181, slots: 64 }, 1).unwrap();
+/// # let mut seats = mvrlu::open_sets(mvrlu::SetsOptions { objects: 181, slots: 64, opening_time: 0 }, 1).unwrap();
 /// # let list = mvrlu::Set::List(0);
 /// seats[0].add(list, 1).unwrap();
 /// assert_eq!(seats[0].add(list, 2), Err(mvrlu::Failed::Full { time: 1 }));

@@ -5,7 +5,7 @@
 //! thread enters a [`Section`] with its seat, and all its reads see the one state of that moment, whatever others commit
 //! meanwhile. Readers and writers never wait for each other. To write, a section locks each object, gives it new words, and
 //! commits: the commit takes place whole, at one time of the one commit history, or not at all. The domain ends with its last
-//! seat.
+//! seat: all of them have met then, and [`Seat::close`] tells the last time.
 //!
 //! ```
 //! # fn main() -> Result<(), Box<dyn std::error::Error>> {
@@ -34,7 +34,7 @@
 //! state. So is a [block](Sets::block) of up to 8 commands.
 //!
 //! **Times.** A time counts entries of the history: commits, and rests, which change no object and which a seat makes where only
-//! a later time lets it reclaim. The state of time 0 is that of all words 0, and the last time is 2^45 - 1.
+//! a later time lets it reclaim. The state of the opening time is that of all words 0, and the last time is 2^45 - 1.
 //!
 //! **Isolation.** It is snapshot isolation: two sections that lock different objects may both commit though each read what
 //! the other wrote (write skew). Lock what a commit depends on; a locked object that is not written keeps its words.

@@ -28,11 +28,13 @@ pub struct Options {
     pub slots: u32,
     /// How many objects one section may lock, 1 to [`WRITE_MAX`], and less than `slots`.
     pub write_max: u32,
+    /// The time of the opening state, 0 to 2^45 - 1.
+    pub opening_time: u64,
 }
 
 impl Default for Options {
-    /// 1,024 objects, 1,024 slots, and 16 objects that one section may lock.
+    /// 1,024 objects, 1,024 slots, 16 objects that one section may lock, and the opening time 0.
     fn default() -> Options {
-        Options { objects: 1024, slots: 1024, write_max: 16 }
+        Options { objects: 1024, slots: 1024, write_max: 16, opening_time: 0 }
     }
 }

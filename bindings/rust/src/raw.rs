@@ -23,13 +23,14 @@ struct RawOptions {
     objects: u32,
     slots: u32,
     write_max: u32,
+    opening_time: u64,
 }
 
-const _: () = assert!(size_of::<RawSeat>() == 16 && size_of::<RawOptions>() == 16 && size_of::<Counts>() == 48);
+const _: () = assert!(size_of::<RawSeat>() == 16 && size_of::<RawOptions>() == 24 && size_of::<Counts>() == 48);
 
 extern "C" {
     fn mvrlu_raw_open(options: &RawOptions, seats: *mut RawSeat, count: usize) -> i32;
-    fn mvrlu_raw_close(seat: &mut RawSeat) -> i32;
+    fn mvrlu_raw_close(seat: &mut RawSeat, last: &mut u64) -> i32;
     fn mvrlu_raw_prepare(seat: &mut RawSeat) -> i32;
     fn mvrlu_raw_tidy(seat: &mut RawSeat, live: &mut u32) -> i32;
     fn mvrlu_raw_count(seat: &mut RawSeat, counts: &mut Counts) -> i32;
@@ -106,6 +107,15 @@ impl Status {
         }
     }
 
+    /// Of a close of an open seat: the last time of its domain, where it was the last seat.
+    fn tells_last(self, last: u64) -> Option<u64> {
+        match self {
+            Status::Done => Some(last),
+            Status::No => None,
+            other => other.is_unexpected(),
+        }
+    }
+
     /// Of a call that never gives this answer.
     pub(crate) fn is_unexpected(self) -> ! {
         unreachable!("libmvrlu answered {self:?}")
@@ -125,15 +135,20 @@ impl RawSeat {
 
     /// Opens a domain with these seats, all of them or none.
     pub(crate) fn open_all(options: Options, seats: &mut [RawSeat]) -> Status {
-        let Options { objects, slots, write_max } = options;
-        let options = RawOptions { size: size_of::<RawOptions>() as u32, objects, slots, write_max };
+        let Options { objects, slots, write_max, opening_time } = options;
+        let options = RawOptions { size: size_of::<RawOptions>() as u32, objects, slots, write_max, opening_time };
         // SAFETY: as said above; the pointer and the count are those of one slice that is borrowed mutably.
         Status::of(unsafe { mvrlu_raw_open(&options, seats.as_mut_ptr(), seats.len()) })
     }
 
-    pub(crate) fn close(&mut self) -> Status {
+    /// Closes it. The last time of its domain, where it was open and the last one.
+    pub(crate) fn close(&mut self) -> Option<u64> {
+        let mut last = 0;
+        if self.is_open == 0 {
+            return None;
+        }
         // SAFETY: as said above.
-        Status::of(unsafe { mvrlu_raw_close(self) })
+        Status::of(unsafe { mvrlu_raw_close(self, &mut last) }).tells_last(last)
     }
 
     pub(crate) fn prepare(&mut self) -> Status {

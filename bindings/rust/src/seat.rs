@@ -118,6 +118,22 @@ impl Seat {
         Section::of(&mut self.raw)
     }
 
+    /// Closes the seat, as dropping it does. Where it was the last one of its domain, all seats have met, and the time of the last
+    /// entry is told, or the opening time where there is none.
+    ///
+    /// ```
+    /// # fn main() -> Result<(), mvrlu::OpenError> {
+    /// let mut seats = mvrlu::open(mvrlu::Options { opening_time: 70, ..Default::default() }, 2)?;
+    /// let (second, mut first) = (seats.remove(1), seats.remove(0));
+    /// first.retry(0, |section| section.lock(3)).unwrap();
+    /// assert_eq!((first.close(), second.close()), (None, Some(71)));
+    /// # Ok(())
+    /// # }
+    /// ```
+    pub fn close(mut self) -> Option<u64> {
+        self.raw.close()
+    }
+
     /// Makes a call that is for a seat outside a section. A section that was leaked (`std::mem::forget`) is given up first.
     fn outside(&mut self, mut call: impl FnMut(&mut RawSeat) -> Status) -> Status {
         match call(&mut self.raw) {
@@ -132,6 +148,6 @@ impl Seat {
 
 impl Drop for Seat {
     fn drop(&mut self) {
-        self.raw.close().must_be_done();
+        self.raw.close();
     }
 }

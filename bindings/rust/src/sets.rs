@@ -26,12 +26,14 @@ pub struct SetsOptions {
     pub objects: u32,
     /// How many versions the log of each seat holds, [`SLOTS_MIN`](crate::SLOTS_MIN) to [`SLOTS_MAX`](crate::SLOTS_MAX).
     pub slots: u32,
+    /// The time of the opening state, 0 to 2^45 - 1.
+    pub opening_time: u64,
 }
 
 impl Default for SetsOptions {
-    /// 4,096 objects and 1,024 slots.
+    /// 4,096 objects, 1,024 slots, and the opening time 0.
     fn default() -> SetsOptions {
-        SetsOptions { objects: 4096, slots: 1024 }
+        SetsOptions { objects: 4096, slots: 1024, opening_time: 0 }
     }
 }
 
@@ -268,6 +270,12 @@ impl Sets {
         counts
     }
 
+    /// Closes the seat, as dropping it does. Where it was the last one of its domain, all seats have met, and the time of the last
+    /// entry is told, or the opening time where there is none.
+    pub fn close(mut self) -> Option<u64> {
+        self.raw.close()
+    }
+
     /// Makes a call, and makes it again where another seat came first, at most `limit` times, 0 or more. The thread yields before
     /// each of these.
     ///
@@ -287,6 +295,6 @@ impl Sets {
 
 impl Drop for Sets {
     fn drop(&mut self) {
-        self.raw.close().must_be_done();
+        self.raw.close();
     }
 }

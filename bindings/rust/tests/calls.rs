@@ -10,7 +10,7 @@ const TAG: [u64; 4] = [1, 2, 3, 4];
 const COUNTED: Words = [1, 2, 3, 4, 5, 6];
 
 fn open_two() -> [Seat; 2] {
-    let options = Options { objects: OBJECTS, slots: SLOTS, write_max: WRITE_MAX };
+    let options = Options { objects: OBJECTS, slots: SLOTS, write_max: WRITE_MAX, opening_time: 0 };
     open(options, 2).unwrap().try_into().unwrap()
 }
 

@@ -1,14 +1,20 @@
 //! Opening a domain, and the end of it.
 
-use mvrlu::{open, OpenError, Options, Seat, OBJECTS_MAX, SEATS_MAX, SLOTS_MAX, SLOTS_MIN, WRITE_MAX};
+use mvrlu::{
+    open, open_sets, OpenError, Options, Seat, Set, SetsOptions, OBJECTS_MAX, SEATS_MAX, SLOTS_MAX, SLOTS_MIN,
+    WRITE_MAX,
+};
 use std::env::{current_exe, var_os};
 use std::mem::{align_of, size_of};
 use std::process::Command;
 
-const SMALL: Options = Options { objects: 16, slots: 64, write_max: 4 };
+/// The last time.
+const TIME_MAX: u64 = (1 << 45) - 1;
+
+const SMALL: Options = Options { objects: 16, slots: 64, write_max: 4, opening_time: 0 };
 
 fn options(objects: u32, slots: u32, write_max: u32) -> Options {
-    Options { objects, slots, write_max }
+    Options { objects, slots, write_max, opening_time: 0 }
 }
 
 fn answer(options: Options, seats: usize) -> Result<usize, OpenError> {
@@ -36,6 +42,8 @@ fn numbers_and_their_ranges() {
         (options(16, WRITE_MAX, WRITE_MAX), 1, bad),
         (options(16, 128, WRITE_MAX + 1), 1, bad),
         (options(u32::MAX, u32::MAX, u32::MAX), 1, bad),
+        (Options { opening_time: TIME_MAX, ..SMALL }, 1, Ok(1)),
+        (Options { opening_time: TIME_MAX + 1, ..SMALL }, 1, bad),
     ];
     for (options, seats, wanted) in asked {
         assert_eq!(answer(options, seats), wanted, "{options:?} for {seats} seats");
@@ -79,6 +87,44 @@ fn a_domain_lives_as_long_as_one_of_its_seats() {
     assert_eq!(last.enter().read(7), Ok([5; 6]));
     let at = last.retry(0, |section| section.lock(7)).unwrap().at;
     assert_eq!(at, mvrlu::At::Commit(2));
+}
+
+#[test]
+fn the_seat_closed_last_tells_the_last_time() {
+    for order in [[0, 0, 0], [0, 1, 0], [1, 0, 0], [1, 1, 0], [2, 0, 0], [2, 1, 0]] {
+        let mut seats = open(Options { opening_time: 70, ..SMALL }, 3).unwrap();
+        for seat in &mut seats {
+            seat.retry(0, |section| section.lock(7)).unwrap();
+        }
+        let told = order.map(|place| seats.remove(place).close());
+        assert_eq!(told, [None, None, Some(73)], "{order:?}");
+    }
+}
+
+#[test]
+fn a_seat_that_was_dropped_meets_too() {
+    let mut seats = open(SMALL, 2).unwrap();
+    let last = seats.remove(1);
+    drop(seats);
+    assert_eq!(last.close(), Some(0));
+}
+
+#[test]
+fn seats_of_the_sets_tell_the_last_time() {
+    let mut seats = open_sets(SetsOptions::default(), 2).unwrap();
+    seats[0].add(Set::Tree(3), 5).unwrap();
+    let told = [seats.remove(0).close(), seats.remove(0).close()];
+    assert_eq!(told, [None, Some(1)]);
+}
+
+#[test]
+fn no_commit_is_possible_behind_the_last_time() {
+    let mut seats = open(Options { opening_time: TIME_MAX - 1, ..SMALL }, 1).unwrap();
+    let mut seat = seats.remove(0);
+    let mut lock = || seat.retry(0, |section| section.lock(7)).map(|done| done.at);
+    assert_eq!(lock(), Ok(mvrlu::At::Commit(TIME_MAX)));
+    assert_eq!(lock(), Err(mvrlu::Unfinished::Worn));
+    assert_eq!(seat.close(), Some(TIME_MAX));
 }
 
 #[test]

@@ -4,7 +4,7 @@ use mvrlu::{open, At, Done, Misuse, Options, Refused, Seat, Section, Unfinished}
 use std::cell::Cell;
 
 const SLOTS: u32 = 64;
-const SMALL: Options = Options { objects: 16, slots: SLOTS, write_max: 4 };
+const SMALL: Options = Options { objects: 16, slots: SLOTS, write_max: 4, opening_time: 0 };
 
 fn open_two() -> [Seat; 2] {
     open(SMALL, 2).unwrap().try_into().unwrap()

@@ -12,7 +12,7 @@ const TREE: Set = Set::Tree(9);
 const TRIES: u32 = 1_000_000;
 
 fn open_one(objects: u32) -> Sets {
-    open_sets(SetsOptions { objects, slots: 64 }, 1).unwrap().remove(0)
+    open_sets(SetsOptions { objects, slots: 64, opening_time: 0 }, 1).unwrap().remove(0)
 }
 
 fn committed<T>(value: T, time: u64) -> Result<Done<T>, Failed> {
@@ -37,7 +37,7 @@ fn numbers_and_their_ranges() {
         (4096, 64, SEATS_MAX + 1, false),
     ];
     for (objects, slots, seats, opens) in asked {
-        let opened = open_sets(SetsOptions { objects, slots }, seats).map(|seats| seats.len());
+        let opened = open_sets(SetsOptions { objects, slots, opening_time: 0 }, seats).map(|seats| seats.len());
         assert_eq!(opened, if opens { Ok(seats) } else { Err(OpenError::BadNumber) }, "{objects} {slots} {seats}");
     }
     assert_eq!(align_of::<Sets>(), 128);

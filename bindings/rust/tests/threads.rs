@@ -4,7 +4,7 @@ use mvrlu::{open, At, Done, Options, Refused, Seat, Section, Uncommitted};
 use std::sync::mpsc::channel;
 use std::thread::{scope, spawn};
 
-const SMALL: Options = Options { objects: 16, slots: 64, write_max: 4 };
+const SMALL: Options = Options { objects: 16, slots: 64, write_max: 4, opening_time: 0 };
 const TRIES: u32 = 1_000_000;
 
 fn open_two() -> [Seat; 2] {

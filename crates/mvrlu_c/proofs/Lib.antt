@@ -3,3 +3,4 @@ pub mod HandleValues
 pub mod Telling
 pub mod SetsTelling
 pub mod Blocks
+pub mod Closes

@@ -8,3 +8,4 @@ pub mod Counted
 pub mod SetsWalk
 pub mod Statuses
 pub mod Told
+pub mod Closing

@@ -31,12 +31,12 @@ config_of o seats = record {
   write_max = o.write_max;
   low = max 1 ((o.slots - o.write_max) / 2);
   high = o.slots - o.write_max;
-  base = 0;
+  base = o.opening_time;
 }
 
 -- a number is out of its range: the size of the options, the count of seats, or one of the domain's
 abbrev pub IsBadNumber : MvrluOptions → ℕ → Type 0
-IsBadNumber o seats = (o.size ≢ 16) ⊎ (64 < seats) ⊎ ((fault : ConfigFault) × FirstUnfit (config_of o seats) fault)
+IsBadNumber o seats = (o.size ≢ 24) ⊎ (64 < seats) ⊎ ((fault : ConfigFault) × FirstUnfit (config_of o seats) fault)
 
 -- Opening: all of them or none, and why none.
 abbrev pub OpensAs : MvrluOptions → List MvrluSeat → List MvrluSeat → Status → Type 0

@@ -23,12 +23,12 @@ seat_in h = h.state
 
 -- the numbers of the domain of so many seats
 abbrev pub sets_of : MvrluSetsOptions → ℕ → OpenSets
-sets_of o seats = record { seats = seats; objects = o.objects; slots = o.slots }
+sets_of o seats = record { seats = seats; objects = o.objects; slots = o.slots; opening_time = o.opening_time }
 
 -- a number is out of its range: the size of the options, the count of seats, that of objects, or another of the domain's
 abbrev pub IsBadNumber : MvrluSetsOptions → ℕ → Type 0
 IsBadNumber o seats =
-    (o.size ≢ 12) ⊎ (64 < seats) ⊎ (¬ HasObjects (sets_of o seats)) ⊎ ((fault : ConfigFault) × FirstUnfit (config_of (sets_of o seats)) fault)
+    (o.size ≢ 24) ⊎ (64 < seats) ⊎ (¬ HasObjects (sets_of o seats)) ⊎ ((fault : ConfigFault) × FirstUnfit (config_of (sets_of o seats)) fault)
 
 -- Opening: all of them or none, and why none.
 abbrev pub OpensAs : MvrluSetsOptions → List MvrluSets → List MvrluSets → Status → Type 0

@@ -4,9 +4,10 @@
 //! is a closed one; an open one owns the block with its `ObjectSeat` or its `SetSeat`, which shares the domain with the other seats.
 //!
 //! **The contract.** Each call tells by its status which answer the call of `object_seats` or of `set_seats` gave, and all
-//! that its clauses say of that answer holds of the seat: `Tells`, `TellsCommand`, `TellsBlock` and `TellsWalk` in specs/ tie the two. A
-//! closed seat answers `CLOSED` and stays as it was. A number is one meaning (`status`). Memory is safe whatever the order of
-//! the calls and the numbers given; what no call can see is C's to keep, and `mvrlu.h` says it.
+//! that its clauses say of that answer holds of the seat: `Tells`, `TellsCommand`, `TellsBlock` and `TellsWalk` in specs/ tie the two. The
+//! last handle of a domain to be closed lets all seats meet, and tells the last time (`TellsClose`). A closed seat
+//! answers `CLOSED` and stays as it was. A number is one meaning (`status`). Memory is safe whatever the order of the
+//! calls and the numbers given; what no call can see is C's to keep, and `mvrlu.h` says it.
 //!
 //! **Choices.** A seat is 128 bytes, two lines, so that threads write different ones. Open seats aren't
 //! copied: a caller couldn't tell them apart. Seats of objects and of sets are different structs, since no
@@ -17,6 +18,7 @@
 #![tactic(auto)]
 
 mod calls;
+mod closing;
 mod counting;
 mod handle;
 mod loose;

@@ -1,8 +1,6 @@
-// Opening and closing.
+// Opening a domain of objects.
 ghost use Rattle.std.specs.Prelude.{◌≡◌, ◌≢◌, length, map, true, false, All, IfOk, box_value};
 ghost use Rattle.mvrlu_c.specs.Opening.{IsClosed, IsOpen, Opens, OpensAs, config_of, seat_in};
-ghost use Rattle.mvrlu_c.specs.Statuses.{code_of};
-ghost use Rattle.mvrlu_c.specs.declared.status.Status.TheVariants.{Done, Closed};
 
 use crate::handle::MvrluSeat;
 use crate::loose::Loose;
@@ -17,7 +15,7 @@ use std::alloc::{AllocError, Global};
 #[repr(C)]
 #[derive(Clone, Copy)]
 pub struct MvrluOptions {
-    /// How many bytes the caller's options have: 16.
+    /// How many bytes the caller's options have: 24.
     pub size: u32,
     /// How many objects, 1 to 16,777,216.
     pub objects: u32,
@@ -25,9 +23,11 @@ pub struct MvrluOptions {
     pub slots: u32,
     /// How many objects one section may lock, 1 to 64, and less than the slots.
     pub write_max: u32,
+    /// The time of the opening state, 0 to `2^45 - 1`.
+    pub opening_time: u64,
 }
 
-const SIZE: u32 = 16;
+const SIZE: u32 = 24;
 
 const MOST_SEATS: usize = 64;
 
@@ -79,7 +79,7 @@ fn numbers(options: &MvrluOptions, seats: u32) -> Config
         write_max: options.write_max,
         low: (high / 2).max(1),
         high,
-        base: 0,
+        base: options.opening_time,
     }
 }
 
@@ -135,29 +135,4 @@ fn hand_out(handles: &mut [MvrluSeat], mut blocks: Vec<Box<ObjectSeat>>)
         *first = MvrluSeat::seal(Loose::of(blocks.remove(0)));
         hand_out(others, blocks);
     }
-}
-
-/// Closes a handle. What its section holds is given up first, and its seat ends alone. The domain's memory
-/// is given back with the last of its seats.
-#[unsafe(no_mangle)]
-pub extern "C" fn mvrlu_raw_close(alloc: Global, handle: &mut MvrluSeat) -> i32
-    ensures closed { handle.old.is_open ≡ false → (result ≡ code_of Closed) × (handle.new ≡ handle.old) }
-    ensures open { handle.old.is_open ≡ true → (result ≡ code_of Done) × (handle.new.is_open ≡ false) }
-{
-    let status = replace_with(
-        handle,
-        alloc,
-        |handle: MvrluSeat, alloc: Global|
-            ensures closed { handle.is_open ≡ false → (result.1 ≡ Closed) × (result.0 ≡ handle) }
-            ensures open { handle.is_open ≡ true → (result.1 ≡ Done) × (result.0.is_open ≡ false) }
-        {
-            let (open, handle) = handle.with_open();
-            if !open {
-                return (handle, Status::Closed);
-            }
-            let block = handle.unseal(alloc).into_box();
-            (MvrluSeat::closed(&block), Status::Done)
-        },
-    );
-    status.code()
 }

@@ -1,8 +1,6 @@
-// Opening a domain of the sets, and closing its seats.
+// Opening a domain of the sets.
 ghost use Rattle.std.specs.Prelude.{◌≡◌, ◌≢◌, length, map, true, false, All, IfOk, box_value};
 ghost use Rattle.mvrlu_c.specs.SetsOpening.{IsClosed, IsOpen, Opens, OpensAs, sets_of, seat_in};
-ghost use Rattle.mvrlu_c.specs.Statuses.{code_of};
-ghost use Rattle.mvrlu_c.specs.declared.status.Status.TheVariants.{Done, Closed};
 
 use crate::loose::Loose;
 use crate::sets_handle::MvrluSets;
@@ -15,15 +13,17 @@ use std::alloc::{AllocError, Global};
 #[repr(C)]
 #[derive(Clone, Copy)]
 pub struct MvrluSetsOptions {
-    /// How many bytes the caller's options have: 12.
+    /// How many bytes the caller's options have: 24.
     pub size: u32,
     /// How many objects, 181 to 65,535.
     pub objects: u32,
     /// How many slots the log of each seat has, 64 to 4,096.
     pub slots: u32,
+    /// The time of the opening state, 0 to `2^45 - 1`.
+    pub opening_time: u64,
 }
 
-const SIZE: u32 = 12;
+const SIZE: u32 = 24;
 
 const MOST_SEATS: usize = 64;
 
@@ -71,6 +71,7 @@ fn numbers(options: &MvrluSetsOptions, seats: u32) -> OpenSets
         seats,
         objects: options.objects,
         slots: options.slots,
+        opening_time: options.opening_time,
     }
 }
 
@@ -126,28 +127,4 @@ fn hand_out(handles: &mut [MvrluSets], mut blocks: Vec<Box<SetSeat>>)
         *first = MvrluSets::seal(Loose::of(blocks.remove(0)));
         hand_out(others, blocks);
     }
-}
-
-/// Closes a handle. Its seat ends alone. The domain's memory is given back with the last of its seats.
-#[unsafe(no_mangle)]
-pub extern "C" fn mvrlu_raw_sets_close(alloc: Global, handle: &mut MvrluSets) -> i32
-    ensures closed { handle.old.is_open ≡ false → (result ≡ code_of Closed) × (handle.new ≡ handle.old) }
-    ensures open { handle.old.is_open ≡ true → (result ≡ code_of Done) × (handle.new.is_open ≡ false) }
-{
-    let status = replace_with(
-        handle,
-        alloc,
-        |handle: MvrluSets, alloc: Global|
-            ensures closed { handle.is_open ≡ false → (result.1 ≡ Closed) × (result.0 ≡ handle) }
-            ensures open { handle.is_open ≡ true → (result.1 ≡ Done) × (result.0.is_open ≡ false) }
-        {
-            let (open, handle) = handle.with_open();
-            if !open {
-                return (handle, Status::Closed);
-            }
-            let block = handle.unseal(alloc).into_box();
-            (MvrluSets::closed(&block), Status::Done)
-        },
-    );
-    status.code()
 }

@@ -10,7 +10,8 @@ use object_seats::{CommitResult, Misuse};
 pub enum Status {
     /// It was made.
     Done,
-    /// The set had nothing to change, or nothing of what was asked for.
+    /// The set had nothing to change, or nothing of what was asked for; or a handle was closed, and the
+    /// domain's seats haven't met yet.
     No,
     /// Another seat's entry came first: nothing was committed, and the same call may be made again.
     Again,

@@ -1,10 +1,10 @@
 -- What a new domain of objects is, with its seats.
 use Rattle.std.specs.Prelude.{◌≡◌, ℕ, List, map, replicate, All}
-use Rattle.std.specs.Arc.{arc_value}
 use Rattle.mv_history.specs.declared.rules.AnyRules.{AnyRules}
 use Rattle.mv_layout.specs.declared.Config.{Config}
 use Rattle.mvrlu.specs.Opened.{IsOpened}
 use Rattle.mvrlu.specs.declared.domain.Domain.{Domain}
+use Rattle.shared_domain.specs.Met.{domain_of}
 use Rattle.object_seats.specs.declared.position.Position.{Position}
 use Rattle.object_seats.specs.declared.position.Position.TheVariants.{Outside}
 use Rattle.object_seats.specs.declared.seat.ObjectSeat.{ObjectSeat}
@@ -19,7 +19,7 @@ position_of s = s.position
 
 -- it has a share of this domain
 abbrev pub Shares : Domain AnyRules → ObjectSeat → Type 0
-Shares d s = arc_value s.domain ≡ d
+Shares d s = domain_of s.share ≡ d
 
 -- They are all the seats of a domain of these numbers that was just opened, in order of number, each outside, and share the domain. All
 -- words of it are 0.

@@ -12,12 +12,13 @@
 //! not be made now is a `Misuse`: it says which condition fails, and the seat is as it was, but that a
 //! section may have seen more. Every other answer is that of the call of `mvrlu`, and `Calls` says what it
 //! leaves and with which cause. `vacant` is a look through the objects and one try to lock: `Vacant` in specs/
-//! says which object it finds. Letting a seat go aborts its section, and ends the seat alone.
+//! says which object it finds. Closing a seat, as letting it go does, aborts its section; the last
+//! one of the domain lets all seats meet, and the law of the whole holds of them.
 //!
 //! No clause can see what the caller's words mean, nor that a pointer in them is followed inside its section
 //! alone: of that only `grace` tells.
 //!
-//! It stands on `mvrlu`.
+//! It stands on `shared_domain` and `mvrlu`.
 #![tactic(auto)]
 
 mod inside;

@@ -1,7 +1,7 @@
 // Opening a domain of objects, with its seats.
 ghost use Rattle.std.specs.Prelude.{◌≡◌, map, All, IfOk, IfErr, replicate};
-ghost use Rattle.std.specs.Arc.{arc_value};
 ghost use Rattle.mv_layout.specs.Limits.{Checked};
+ghost use Rattle.shared_domain.specs.Met.{domain_of};
 ghost use Rattle.mvrlu.specs.Meant.{IsSeatOf};
 ghost use Rattle.mvrlu.specs.Opened.{IsOpened, Refuses};
 ghost use Rattle.object_seats.specs.declared.position.Position.TheVariants.{Outside};
@@ -12,8 +12,8 @@ use crate::seat::ObjectSeat;
 use mv_history::AnyRules;
 use mv_layout::Config;
 use mvrlu::{Domain, OpenFault, Seat, open_zeros};
+use shared_domain::Share;
 use std::alloc::{AllocError, Global};
-use std::sync::Arc;
 
 /// Opens a domain of these numbers, all words 0, with its seats outside, in order of number.
 ///
@@ -35,9 +35,9 @@ fn open_checked(alloc: Global, config: Config) -> Result<Vec<ObjectSeat>, AllocE
     ensures { IfOk result (λ seats. AreOpened config seats.items) }
 {
     let (whole, seats) = open_objects(alloc, config)?;
-    match Arc::new(alloc, whole) {
-        Ok(domain) => share_all(alloc, &domain, seats),
-        Err(_) => {
+    match Share::new(alloc, whole, seats.len()) {
+        Ok(first) => share_all(alloc, &first, seats),
+        Err(AllocError) => {
             let_all_go(seats);
             Err(AllocError)
         }
@@ -60,19 +60,19 @@ fn open_objects(
 // Gives each of these seats of the domain a share of it, in their order.
 fn share_all(
     alloc: Global,
-    domain: &Arc<Domain<AnyRules>, Global>,
+    first: &Share<AnyRules>,
     mut seats: Vec<Seat<AnyRules>>,
 ) -> Result<Vec<ObjectSeat>, AllocError>
-    requires of { All (λ seat. IsSeatOf (arc_value domain.now) seat) seats.items }
+    requires of { All (λ seat. IsSeatOf (domain_of first.now) seat) seats.items }
     ensures outside { IfOk result (λ shared. map position_of shared.items ≡ map Outside seats.items) }
-    ensures shared { IfOk result (λ shared. All (Shares (arc_value domain.now)) shared.items) }
+    ensures shared { IfOk result (λ shared. All (Shares (domain_of first.now)) shared.items) }
 {
     let Ok(mut shared) = Vec::with_capacity(alloc, seats.len()) else {
         let_all_go(seats);
         return Err(AllocError);
     };
     while !seats.is_empty() {
-        match share(domain, seats.remove(0)) {
+        match share(first, seats.remove(0)) {
             Ok(seat) => shared.push_reserved(seat),
             Err(AllocError) => {
                 let_all_go(seats);
@@ -85,17 +85,14 @@ fn share_all(
 }
 
 // Gives a seat of the domain a share of it.
-fn share(
-    domain: &Arc<Domain<AnyRules>, Global>,
-    seat: Seat<AnyRules>,
-) -> Result<ObjectSeat, AllocError>
-    requires of { IsSeatOf (arc_value domain.now) seat }
-    ensures { IfOk result (λ shared. (shared.position ≡ Outside seat) × Shares (arc_value domain.now) shared) }
+fn share(first: &Share<AnyRules>, seat: Seat<AnyRules>) -> Result<ObjectSeat, AllocError>
+    requires of { IsSeatOf (domain_of first.now) seat }
+    ensures { IfOk result (λ shared. (shared.position ≡ Outside seat) × Shares (domain_of first.now) shared) }
 {
-    match Arc::try_clone(domain) {
-        Ok(domain) => {
+    match first.try_clone() {
+        Ok(share) => {
             let position = Position::Outside(seat);
-            Ok(ObjectSeat { domain, position })
+            Ok(ObjectSeat { share, position })
         }
         Err(AllocError) => {
             seat.let_go();

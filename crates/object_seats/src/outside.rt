@@ -1,12 +1,13 @@
 // Calls for a seat outside a section.
 ghost use Rattle.object_seats.specs.Positions.{IsOf, aborts_at};
 ghost use Rattle.object_seats.specs.Calls.{Enters, MakesRoom, Tidies, TellsGrace, Counts};
+ghost use Rattle.mvrlu.specs.Meant.{IsSeatOf};
 ghost use Rattle.std.specs.Prelude.{◌≡◌};
 
 use crate::position::{Misuse, Position};
 use log_reclaim::Tidy;
-use mv_history::{AnyRules, LogTable, Room, Store};
-use mvrlu::Domain;
+use mv_history::{AnyRules, LogTable, Room, Section, Store};
+use mvrlu::{Domain, Seat};
 
 // Begins a section.
 #[inline(always)]
@@ -105,5 +106,16 @@ pub(crate) fn count_in(
             let table = handle.table();
             (Position::Outside(handle.into_seat()), Ok(table))
         }
+    }
+}
+
+// The seat outside. What its section holds is given up, if it is in one.
+pub(crate) fn brought_out(domain: &Domain<AnyRules>, position: Position) -> Seat<AnyRules>
+    requires of { IsOf domain.now position }
+    ensures of { IsSeatOf domain.now result }
+{
+    match position {
+        Position::Outside(seat) => seat,
+        Position::Inside(section) => domain.resume(section).abort().into_seat(),
     }
 }

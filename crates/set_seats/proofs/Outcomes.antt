@@ -10,7 +10,7 @@ use Rattle.section_work.specs.declared.place.Place.TheVariants.{Commit as AtComm
 use Rattle.set_script.specs.declared.commands.Command.{Command}
 use Rattle.set_script.specs.declared.commands.Reply.{Reply}
 use Rattle.set_blocks.specs.BlockMeaning.{block_meaning}
-use Rattle.set_blocks.proofs.BlockOutcomes.{answered, refused}
+use Rattle.set_blocks.proofs.BlockOutcomes.{answered}
 use Rattle.set_catalog.specs.declared.answer.Attempt.{Attempt}
 use Rattle.set_catalog.specs.declared.answer.Attempt.TheVariants.{Done, Again}
 use Rattle.set_seats.specs.Calls.{domain_causes, Attempted, Replied}
@@ -26,11 +26,15 @@ module _ (old lent back new : Seat) (command : Command) (e : lent ≡ old) (f : 
       → Attempted old new command (Done answer place)
   done_one tried answers place answer is one h =
       moved (Done answer place)
-      (answered domain_causes lent back (command ∷ []) tried (answer ∷ []) place (is ∙ ap (λ (rs : List Reply). WorkDone rs place) one) h)
+      (answered domain_causes lent back (command ∷ []) (answer ∷ []) place
+      (subst (λ (x : WorkAttempt (List Reply)). WorkAttempted domain_causes (block_meaning (command ∷ [])) lent back x)
+      (is ∙ ap (λ (rs : List Reply). WorkDone rs place) one) h))
 
   pub again_one : (tried : WorkAttempt (List Reply)) (cause : Cause) → tried ≡ WorkAgain cause
       → WorkAttempted domain_causes (block_meaning (command ∷ [])) lent back tried → Attempted old new command (Again cause)
-  again_one tried cause is h = moved (Again cause) (refused domain_causes lent back (command ∷ []) tried cause is h)
+  again_one tried cause is h =
+      moved (Again cause)
+      (subst (λ (x : WorkAttempt (List Reply)). WorkAttempted domain_causes (block_meaning (command ∷ [])) lent back x) is h)
 
 -- the only reply of a block of one
 only : (a b : Reply) → a ∷ [] ≡ b ∷ [] → a ≡ b

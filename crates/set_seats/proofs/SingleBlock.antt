@@ -1,5 +1,5 @@
 -- What a command comes to in a state, as the block of one.
-use Rattle.std.proofs.Common.{◌≡◌, ◌≤◌, Bool, true, false, [], ◌∷◌, length, refl, sym, ap, ◌∙◌, subst, arith, length-take}
+use Rattle.std.proofs.Common.{◌≡◌, ◌≤◌, Bool, true, false, [], ◌∷◌, length, refl, sym, ap, ◌∙◌, subst, arith}
 use Rattle.mv_history.specs.State.{State, Writes, written}
 use Rattle.mv_history.specs.Drift.{Drifts}
 use Rattle.section_work.specs.Works.{IsPlanned}
@@ -11,15 +11,13 @@ use Rattle.set_script.specs.declared.commands.Reply.{Reply}
 use Rattle.set_script.specs.declared.commands.Reply.TheVariants.{Yes, Worn}
 use Rattle.set_catalog.specs.CommandLaws.{tag_stands}
 use Rattle.set_catalog.specs.Findings.{IsPlanned as IsPlannedFor}
-use Rattle.set_catalog.specs.Merges.{writes_in}
+use Rattle.set_catalog.specs.Merges.{Plan, writes_in}
 use Rattle.set_catalog.specs.Replies.{reply_in, changes_in}
 use Rattle.set_catalog.specs.declared.plan.Gone.{Gone}
-use Rattle.set_catalog.specs.declared.plan.Plan.{Plan}
 use Rattle.set_catalog.proofs.Deciding.{settled_any, worn_at_last, unchanging_at_last}
 use Rattle.set_catalog.proofs.Merging.{merged-none}
 use Rattle.set_blocks.specs.Blocks.{IsBlock}
-use Rattle.set_blocks.specs.BlockAttempts.{replies_in, block_changes_in}
-use Rattle.set_blocks.specs.BlockMeaning.{block_meaning}
+use Rattle.set_blocks.specs.BlockMeaning.{block_meaning, replies_in, block_changes_in}
 use Rattle.set_blocks.specs.BlockPlans.{BlockPlan}
 use Rattle.set_blocks.specs.BlockPlans.BlockPlan.{nothing_yet, one_more}
 use Rattle.set_blocks.specs.BlockPlans.StepPlan.{changing}
@@ -71,8 +69,7 @@ module _ (command : Command) (s : State) where
       × IsPlanned IsBlockCommit (block_meaning (command ∷ [])) s (block_tag 1) (writes_in plan) (Yes ∷ [])
   change_one plan gone l c p =
       let ws : Writes = writes_in plan in
-      let count : plan.count ≤ 5 = plan.few in
-      let few : length ws ≤ 5 = omega (arith, length-take plan.count plan.writes, count) in
+      let few : length ws ≤ 5 = p.few in
       let said : Yes ∷ [] ≡ replies_in (command ∷ []) s false =
       sym (said_one false ∙ ap (λ (r : Reply). r ∷ []) (makes_here ws gone p).answer) in
       change_found s s (command ∷ []) (command ∷ []) ws ws (Yes ∷ []) refl refl refl (one_block command) l few

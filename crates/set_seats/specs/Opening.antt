@@ -1,6 +1,5 @@
 -- What a new domain of the sets is, with its seats, and why one isn't opened.
 use Rattle.std.specs.Prelude.{◌≡◌, ◌-◌, ◌/◌, max, ◌<◌, ◌≤◌, List, map, replicate, All}
-use Rattle.std.specs.Arc.{arc_value}
 use Rattle.mv_layout.specs.declared.Config.{Config}
 use Rattle.mv_layout.specs.Limits.{Checked, FirstUnfit}
 use Rattle.mvrlu.specs.Opened.{IsOpened}
@@ -10,6 +9,7 @@ use Rattle.mvrlu.specs.declared.domain.Seat.{Seat}
 use Rattle.set_blocks.specs.contracts.rules.BlockRulesProtocol.TheImpl.{ghosts}
 use Rattle.set_blocks.specs.declared.rules.BlockRules.{BlockRules}
 use Rattle.set_script.specs.Objects.{no_words}
+use Rattle.shared_domain.specs.Met.{domain_of}
 use Rattle.set_seats.specs.declared.opening.OpenSets.{OpenSets}
 use Rattle.set_seats.specs.declared.opening.SetsFault.{SetsFault}
 use Rattle.set_seats.specs.declared.opening.SetsFault.TheVariants as fault
@@ -25,7 +25,7 @@ config_of o = record {
   write_max = 40;
   low = max 1 ((o.slots - 40) / 2);
   high = o.slots - 40;
-  base = 0;
+  base = o.opening_time;
 }
 
 -- the 180 heads and a node at least, and no more than a link can name
@@ -43,7 +43,7 @@ seat_in s = s.seat
 
 -- it has a share of this domain
 abbrev pub Shares : Domain BlockRules → SetSeat → Type 0
-Shares d s = arc_value s.domain ≡ d
+Shares d s = domain_of s.share ≡ d
 
 -- They are all the seats of a domain of these numbers that was just opened, in order of number, and share the domain. All words of it are
 -- 0, so all sets are empty.

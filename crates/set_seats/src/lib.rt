@@ -13,12 +13,13 @@
 //! before it; or a read of a section that the call entered, with the replies of the catalogue there; or given up for a cause,
 //! and no entry. A single command is found with the hints, the fingers and the known shortage of its seat, as
 //! `set_catalog` finds it. A walk (`Walks`) writes the entries of one set from a key on, all of the state of a section that the call
-//! entered, and makes and tries no entry. Letting a seat go ends it alone.
+//! entered, and makes and tries no entry. The last seat of a domain that is
+//! closed, or let go, lets all of them meet, and the law of the whole holds of them.
 //!
 //! What is known of vacant nodes isn't carried over the seat's own commit, so a look is made once more. A
 //! block's tag doesn't tell whether it was a command or a block of one.
 //!
-//! It stands on `set_blocks` and `mvrlu`, and on `section_work`, by which a command is done as one section.
+//! It stands on `set_blocks`, `shared_domain` and `mvrlu`, and on `section_work`, by which a command is done as one section.
 #![tactic(auto)]
 
 mod opening;

@@ -1,7 +1,7 @@
 // Opening a domain of the sets, with its seats.
 ghost use Rattle.std.specs.Prelude.{◌≡◌, ◌<◌, ◌≤◌, map, All, IfOk, IfErr, replicate};
-ghost use Rattle.std.specs.Arc.{arc_value};
 ghost use Rattle.mvrlu.specs.Opened.{IsOpened};
+ghost use Rattle.shared_domain.specs.Met.{domain_of};
 ghost use Rattle.set_script.specs.Objects.{no_words};
 ghost use Rattle.set_seats.specs.Opening.{AreOpened, HasObjects, MayShare, Refuses, Shares, config_of, seat_in};
 
@@ -11,8 +11,8 @@ use mv_layout::{Config, ConfigFault};
 use mvrlu::{Domain, Seat, open_zeros};
 use set_blocks::BlockRules;
 use set_catalog::Hints;
+use shared_domain::Share;
 use std::alloc::{AllocError, Global};
-use std::sync::Arc;
 
 /// The numbers of a domain of the sets that a caller chooses.
 #[derive(Clone, Copy)]
@@ -23,6 +23,8 @@ pub struct OpenSets {
     pub objects: u32,
     /// How many slots the log of each seat has, 64 to 4,096.
     pub slots: u32,
+    /// The printed time of the opening state, 0 to `2^45 - 1`.
+    pub opening_time: u64,
 }
 
 /// Why a domain of the sets can't be opened. Nothing is left of it.
@@ -78,7 +80,7 @@ fn numbers(sets: OpenSets) -> Config
         write_max: WRITE_MAX,
         low: (high / 2).max(1),
         high,
-        base: 0,
+        base: sets.opening_time,
     }
 }
 
@@ -88,9 +90,9 @@ fn open_checked(alloc: Global, sets: OpenSets, config: Config) -> Result<Vec<Set
     ensures { IfOk result (λ seats. AreOpened sets seats.items) }
 {
     let (whole, seats) = open_sets(alloc, config)?;
-    match Arc::new(alloc, whole) {
-        Ok(domain) => share_all(alloc, &domain, seats),
-        Err(_) => {
+    match Share::new(alloc, whole, seats.len()) {
+        Ok(first) => share_all(alloc, &first, seats),
+        Err(AllocError) => {
             let_all_go(seats);
             Err(AllocError)
         }
@@ -114,19 +116,19 @@ fn open_sets(
 // Gives each of these seats of the domain a share of it, in their order.
 fn share_all(
     alloc: Global,
-    domain: &Arc<Domain<BlockRules>, Global>,
+    first: &Share<BlockRules>,
     mut seats: Vec<Seat<BlockRules>>,
 ) -> Result<Vec<SetSeat>, AllocError>
-    requires may { All (λ seat. MayShare (arc_value domain.now) seat) seats.items }
+    requires may { All (λ seat. MayShare (domain_of first.now) seat) seats.items }
     ensures seats { IfOk result (λ shared. map seat_in shared.items ≡ seats.items) }
-    ensures shared { IfOk result (λ shared. All (Shares (arc_value domain.now)) shared.items) }
+    ensures shared { IfOk result (λ shared. All (Shares (domain_of first.now)) shared.items) }
 {
     let Ok(mut shared) = Vec::with_capacity(alloc, seats.len()) else {
         let_all_go(seats);
         return Err(AllocError);
     };
     while !seats.is_empty() {
-        match share(alloc, domain, seats.remove(0)) {
+        match share(alloc, first, seats.remove(0)) {
             Ok(seat) => shared.push_reserved(seat),
             Err(AllocError) => {
                 let_all_go(seats);
@@ -141,15 +143,15 @@ fn share_all(
 // Gives a seat of the domain a share of it.
 fn share(
     alloc: Global,
-    domain: &Arc<Domain<BlockRules>, Global>,
+    first: &Share<BlockRules>,
     seat: Seat<BlockRules>,
 ) -> Result<SetSeat, AllocError>
-    requires may { MayShare (arc_value domain.now) seat }
-    ensures { IfOk result (λ shared. (shared.seat ≡ seat) × Shares (arc_value domain.now) shared) }
+    requires may { MayShare (domain_of first.now) seat }
+    ensures { IfOk result (λ shared. (shared.seat ≡ seat) × Shares (domain_of first.now) shared) }
 {
-    match share_and_hints(alloc, domain) {
-        Ok((domain, hints)) => Ok(SetSeat {
-            domain,
+    match share_and_hints(alloc, first) {
+        Ok((share, hints)) => Ok(SetSeat {
+            share,
             seat,
             remembered: Remembered::of(hints),
         }),
@@ -163,13 +165,13 @@ fn share(
 // One more share of the domain, and room for a seat's hints.
 fn share_and_hints(
     alloc: Global,
-    domain: &Arc<Domain<BlockRules>, Global>,
-) -> Result<(Arc<Domain<BlockRules>, Global>, Hints), AllocError>
-    ensures { IfOk result (λ r. arc_value r.0 ≡ arc_value domain.now) }
+    first: &Share<BlockRules>,
+) -> Result<(Share<BlockRules>, Hints), AllocError>
+    ensures { IfOk result (λ r. domain_of r.0 ≡ domain_of first.now) }
 {
     let hints = Hints::new(alloc, HINTS)?;
-    let domain = Arc::try_clone(domain)?;
-    Ok((domain, hints))
+    let share = first.try_clone()?;
+    Ok((share, hints))
 }
 
 // Ends these seats alone.

@@ -1,7 +1,9 @@
 // A seat of the sets, with a share of its domain.
 ghost use Rattle.std.specs.Prelude.{◌≡◌, ◌≤◌};
-ghost use Rattle.std.specs.Arc.{arc_value};
 ghost use Rattle.mvrlu.specs.Meant.{seat_of, IsSeatOf};
+ghost use Rattle.shared_domain.specs.Met.{domain_of, gathering_of, Closes};
+ghost use Rattle.set_script.specs.Lawful.{IsOpening};
+ghost use Rattle.set_blocks.specs.BlockRules.{IsBlockCommit};
 ghost use Rattle.set_catalog.specs.Shortages.{IsKnown};
 ghost use Rattle.set_seats.specs.Calls as calls;
 
@@ -10,33 +12,27 @@ use crate::single::Remembered;
 use crate::walk::{Entry, Walked};
 use log_reclaim::Tidy;
 use mv_history::LogTable;
-use mvrlu::{Domain, Seat};
+use mvrlu::Seat;
 use set_blocks::{Block, BlockAttempt, BlockRules};
 use set_catalog::Attempt;
 use set_script::{Command, Name};
-use std::alloc::Global;
-use std::sync::Arc;
+use shared_domain::{Closed, Share};
 
 /// A seat of the thirty sets, with a share of its domain, which lasts as long as one of its seats does. It belongs to
 /// one thread at a time, and may go from one to another.
 pub struct SetSeat {
-    pub(crate) domain: Arc<Domain<BlockRules>, Global>,
+    pub(crate) share: Share<BlockRules>,
     pub(crate) seat: Seat<BlockRules>,
     pub(crate) remembered: Remembered,
-    pub ghost of: { IsSeatOf (arc_value domain) seat },
+    pub ghost of: { IsSeatOf (domain_of share) seat },
     pub ghost room: { 40 ≤ (seat_of seat).write_max },
     pub ghost known: { IsKnown (seat_of seat) remembered.memo.known },
 }
 
-/// Ends the seat alone.
+/// Closes the seat.
 impl Drop for SetSeat {
     fn drop(self) {
-        let SetSeat {
-            domain: _domain,
-            seat,
-            remembered: _remembered,
-        } = self;
-        seat.let_go();
+        drop(self.close());
     }
 }
 
@@ -51,13 +47,13 @@ impl SetSeat {
         ensures continues { calls.GoesOn self.seat result.0.seat }
     {
         let SetSeat {
-            domain,
+            share,
             seat,
             mut remembered,
         } = self;
-        let (seat, answer) = attempt_in(&domain, seat, &mut remembered, command);
+        let (seat, answer) = attempt_in(share.domain(), seat, &mut remembered, command);
         let seat = SetSeat {
-            domain,
+            share,
             seat,
             remembered,
         };
@@ -71,13 +67,13 @@ impl SetSeat {
         ensures continues { calls.GoesOn self.seat result.0.seat }
     {
         let SetSeat {
-            domain,
+            share,
             seat,
             remembered,
         } = self;
-        let (seat, answer) = attempt_block_in(&domain, seat, &remembered, block);
+        let (seat, answer) = attempt_block_in(share.domain(), seat, &remembered, block);
         let seat = SetSeat {
-            domain,
+            share,
             seat,
             remembered,
         };
@@ -93,13 +89,13 @@ impl SetSeat {
         ensures continues { calls.GoesOn self.seat result.0.seat }
     {
         let SetSeat {
-            domain,
+            share,
             seat,
             mut remembered,
         } = self;
-        let (seat, walked) = walk_on(&domain, seat, &mut remembered, name, from, entries);
+        let (seat, walked) = walk_on(share.domain(), seat, &mut remembered, name, from, entries);
         let seat = SetSeat {
-            domain,
+            share,
             seat,
             remembered,
         };
@@ -112,13 +108,13 @@ impl SetSeat {
         ensures continues { calls.GoesOn self.seat result.0.seat }
     {
         let SetSeat {
-            domain,
+            share,
             seat,
             remembered,
         } = self;
-        let (seat, tidy) = tidy_in(&domain, seat, &remembered);
+        let (seat, tidy) = tidy_in(share.domain(), seat, &remembered);
         let seat = SetSeat {
-            domain,
+            share,
             seat,
             remembered,
         };
@@ -131,16 +127,29 @@ impl SetSeat {
         ensures same { seat_of result.0.seat ≡ seat_of self.seat }
     {
         let SetSeat {
-            domain,
+            share,
             seat,
             remembered,
         } = self;
-        let (seat, table) = count_in(&domain, seat);
+        let (seat, table) = count_in(share.domain(), seat);
         let seat = SetSeat {
-            domain,
+            share,
             seat,
             remembered,
         };
         (seat, table)
+    }
+
+    /// Closes the seat: it stands in its place of the domain from then on. If it was the last one, all seats of
+    /// the domain meet. It never refuses and takes no memory.
+    pub fn close(self) -> Closed<BlockRules>
+        ensures closes { Closes IsOpening IsBlockCommit (gathering_of self.share) result }
+    {
+        let SetSeat {
+            share,
+            seat,
+            remembered: _remembered,
+        } = self;
+        share.close(seat)
     }
 }

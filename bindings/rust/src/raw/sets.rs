@@ -22,6 +22,7 @@ struct RawOptions {
     size: u32,
     objects: u32,
     slots: u32,
+    opening_time: u64,
 }
 
 /// What the library tells of a command.
@@ -57,12 +58,12 @@ pub(crate) struct RawWalk {
 }
 
 const _: () = assert!(size_of::<RawWalk>() == 24 && size_of::<Entry>() == 16);
-const _: () = assert!(size_of::<RawSets>() == 16 && size_of::<RawOptions>() == 12);
+const _: () = assert!(size_of::<RawSets>() == 16 && size_of::<RawOptions>() == 24);
 const _: () = assert!(size_of::<RawReply>() == 32 && size_of::<RawCommand>() == 24);
 
 extern "C" {
     fn mvrlu_raw_sets_open(options: &RawOptions, seats: *mut RawSets, count: usize) -> i32;
-    fn mvrlu_raw_sets_close(seat: &mut RawSets) -> i32;
+    fn mvrlu_raw_sets_close(seat: &mut RawSets, last: &mut u64) -> i32;
     fn mvrlu_raw_sets_tidy(seat: &mut RawSets, live: &mut u32) -> i32;
     fn mvrlu_raw_sets_counts(seat: &mut RawSets, counts: &mut Counts) -> i32;
     fn mvrlu_raw_sets_add(seat: &mut RawSets, set: u32, key: u32, told: &mut RawReply) -> i32;
@@ -141,15 +142,20 @@ impl RawSets {
 
     /// Opens a domain with these seats, all of them or none.
     pub(crate) fn open_all(options: SetsOptions, seats: &mut [RawSets]) -> Status {
-        let SetsOptions { objects, slots } = options;
-        let options = RawOptions { size: size_of::<RawOptions>() as u32, objects, slots };
+        let SetsOptions { objects, slots, opening_time } = options;
+        let options = RawOptions { size: size_of::<RawOptions>() as u32, objects, slots, opening_time };
         // SAFETY: as said above; the pointer and the count are those of one slice that is borrowed mutably.
         Status::of(unsafe { mvrlu_raw_sets_open(&options, seats.as_mut_ptr(), seats.len()) })
     }
 
-    pub(crate) fn close(&mut self) -> Status {
+    /// Closes it. The last time of its domain, where it was open and the last one.
+    pub(crate) fn close(&mut self) -> Option<u64> {
+        let mut last = 0;
+        if self.is_open == 0 {
+            return None;
+        }
         // SAFETY: as said above.
-        Status::of(unsafe { mvrlu_raw_sets_close(self) })
+        Status::of(unsafe { mvrlu_raw_sets_close(self, &mut last) }).tells_last(last)
     }
 
     pub(crate) fn tidy(&mut self, live: &mut u32) -> Status {

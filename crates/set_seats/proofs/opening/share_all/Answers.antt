@@ -1,5 +1,5 @@
 use Rattle.std.proofs.Common.{rules, ◌<◌, sym, subst, length, All}
-use Rattle.std.specs.Arc.{arc_value}
+use Rattle.shared_domain.specs.Met.{domain_of}
 use Rattle.std.proofs.lemmas.List.Elements.{All-push}
 use Rattle.set_seats.specs.Opening.{MayShare, Shares}
 use Rattle.set_seats.proofs.NewSeats.{own_next, may_next}
@@ -8,10 +8,10 @@ use Rattle.set_seats.proofs.opening.share_all.Goals as goal
 pub loop-alloc-preserved : goal.loop-alloc-preserved
 loop-alloc-preserved c =
     let i = c.loop-alloc.invariant in
-    let shares = Shares (arc_value c.args.domain.now) in
+    let shares = Shares (domain_of c.args.first.now) in
     let longer : 0 < length c.loop-alloc.seats.items = search rules in
     record {
-      may = may_next (λ s. MayShare (arc_value c.args.domain.now) s) _ _ i.may c.remove.ensures.items longer;
+      may = may_next (λ s. MayShare (domain_of c.args.first.now) s) _ _ i.may c.remove.ensures.items longer;
       own = own_next _ _ _ _ _ c.in-Ok-share.seat i.own c.remove.ensures.value c.remove.ensures.items longer c.in-Ok-share.ensures.0
           c.push_reserved.ensures.items;
       shared = subst (λ xs. All shares xs) (sym c.push_reserved.ensures.items)

@@ -1,5 +1,5 @@
 -- What each command comes to that may change something, by where its searches ended.
-use Rattle.std.proofs.Common.{◌≡◌, ◌≢◌, ℕ, ◌^◌, ◌+◌, ◌-◌, ◌<◌, ◌≤◌, ◌⊎◌, inl, inr, Bool, true, false, not, ◌&&◌, ◌==◌, eq-eqb, ne_eqb, if◌then◌else◌}
+use Rattle.std.proofs.Common.{◌≡◌, ◌≢◌, ℕ, ◌^◌, ◌+◌, ◌-◌, ◌<◌, ◌≤◌, inl, inr, Bool, true, false, not, ◌&&◌, ◌==◌, eq-eqb, ne_eqb, if◌then◌else◌}
 use Rattle.std.proofs.Common.{length, Some, None, refl, sym, ap, ◌∙◌, subst, arith, true≢false}
 use Rattle.mv_history.specs.State.{State, Writes, written}
 use Rattle.mv_history.specs.Legal.{are_distinct}
@@ -14,22 +14,23 @@ use Rattle.set_script.specs.declared.commands.Reply.TheVariants.{No, Full, Both}
 use Rattle.set_script.proofs.MapLemmas.{has_key-none, has_key-some}
 use Rattle.section_work.specs.Held.{count_unheld}
 use Rattle.set_catalog.specs.Ends.{EndsAt, objects_added, adds_at, dels_at, puts_at, node_gone, inner_gone}
-use Rattle.set_catalog.specs.Findings.{IsNew, IsPlanned, IsFound}
+use Rattle.set_catalog.specs.Findings.{IsNew, IsPlanned, IsPlannedWithin, IsFound, IsFoundWithin}
 use Rattle.set_catalog.specs.Merges.{writes_in, merged}
 use Rattle.set_catalog.specs.Picks.{vacant_nodes}
 use Rattle.set_catalog.specs.Needs.{taken, wanted, may_change, AreEnough}
 use Rattle.set_catalog.specs.declared.ends.End.{End}
 use Rattle.set_catalog.specs.declared.finding.Finding.{Finding}
 use Rattle.set_catalog.specs.declared.finding.Finding.TheVariants.{Settled, Open}
-use Rattle.set_catalog.specs.declared.plan.Plan.{Plan}
+use Rattle.tree_balance.specs.declared.plan.Plan.{Plan}
 use Rattle.set_catalog.specs.declared.plan.Gone.{Gone}
 use Rattle.set_catalog.proofs.Deciding.{decides_no, decides_open, decides_short, decides_had}
-use Rattle.set_catalog.proofs.EndPlans.{add_planned, del_planned, put_planned, freed_gone}
+use Rattle.set_catalog.proofs.EndPlans.{del_planned, put_planned, freed_gone}
 use Rattle.set_catalog.proofs.Lone.{has_entry-value, has_entry-missing}
-use Rattle.set_catalog.specs.Plans.{DelPlan}
+use Rattle.set_catalog.specs.Plans.{DelPlan, AddsWithin}
+use Rattle.set_catalog.specs.Steps.{most_locks_of}
 use Rattle.set_catalog.proofs.MoveFacts.{enough_left, move_room}
 use Rattle.set_catalog.proofs.SetCalls.{taken_some}
-use Rattle.set_catalog.proofs.Planned.{planned_alone, planned_add, planned_put, planned_del, planned_move}
+use Rattle.set_catalog.proofs.Planned.{planned_alone, planned_count, planned_add, planned_put, planned_del, planned_move}
 
 -- a pair is answered by whether each of its sets has the key
 pub pair_found : (s : State) (first second k : ℕ) (a b : Bool) → a ≡ has_key k (map_of first (catalogue_of s))
@@ -41,51 +42,48 @@ kept_unless_0 : (x i f : ℕ) → x ≡ (if i == 0 then f else i) → i ≢ 0 �
 kept_unless_0 x i f is some = is ∙ ap (λ (b : Bool). if b then f else i) (ne_eqb i 0 some)
 
 -- what was found in a state that is the same
-pub found_same : (s t : State) (command : Command) (finding : Finding) → t ≡ s → IsFound command t finding → IsFound command s finding
-found_same s t command finding e f = subst (λ (u : State). IsFound command u finding) e f
+pub found_same : (most : ℕ) (s t : State) (command : Command) (finding : Finding) → t ≡ s → IsFoundWithin most command t finding
+    → IsFoundWithin most command s finding
+found_same most s t command finding e f = subst (λ (u : State). IsFoundWithin most command u finding) e f
 
 -- An add or a put of a key that is not there.
-module _ (s : State) (end : End) (k v : ℕ) (l : IsLawful s) (fit : k < 2 ^ 32) (lv : v < 2 ^ 64) (command : Command)
-    (n : IsNew s end k v command) where
-  in_range : ((command ≡ Add n.name k) × (v ≡ 0)) ⊎ (command ≡ Put n.name k v) → IsInRange command
-  in_range (inl (is, z)) = subst IsInRange (sym is) (n.name_in, fit)
-  in_range (inr is) = subst IsInRange (sym is) (n.name_in, fit, lv)
+module _ (s : State) (name k v : ℕ) (l : IsLawful s) (name_in : name < 30) (fit : k < 2 ^ 32) (lv : v < 2 ^ 64)
+    (absent : has_key k (map_of name (catalogue_of s)) ≡ false) (command : Command) (n : IsNew name k v command) where
+  in_range : IsNew name k v command → IsInRange command
+  in_range (inl (is, z)) = subst IsInRange (sym is) (name_in, fit)
+  in_range (inr is) = subst IsInRange (sym is) (name_in, fit, lv)
 
-  may : ((command ≡ Add n.name k) × (v ≡ 0)) ⊎ (command ≡ Put n.name k v) → may_change command ≡ true
+  may : IsNew name k v command → may_change command ≡ true
   may (inl (is, z)) = ap may_change is
   may (inr is) = ap may_change is
 
-  does : ((command ≡ Add n.name k) × (v ≡ 0)) ⊎ (command ≡ Put n.name k v) → applies command (catalogue_of s) ≡ true
-  does (inl (is, z)) = ap (λ (x : Command). applies x (catalogue_of s)) is ∙ ap not n.absent
+  does : IsNew name k v command → applies command (catalogue_of s) ≡ true
+  does (inl (is, z)) = ap (λ (x : Command). applies x (catalogue_of s)) is ∙ ap not absent
   does (inr is) =
-      ap (λ (x : Command). applies x (catalogue_of s)) is ∙ ap not (has_entry-missing k v (map_of n.name (catalogue_of s)) n.absent)
+      ap (λ (x : Command). applies x (catalogue_of s)) is ∙ ap not (has_entry-missing k v (map_of name (catalogue_of s)) absent)
 
-  wants : ((command ≡ Add n.name k) × (v ≡ 0)) ⊎ (command ≡ Put n.name k v) → wanted command (catalogue_of s) ≡ taken n.name (map_of n.name (catalogue_of s))
+  wants : IsNew name k v command → wanted command (catalogue_of s) ≡ taken name (map_of name (catalogue_of s))
   wants (inl (is, z)) = ap (λ (x : Command). wanted x (catalogue_of s)) is
   wants (inr is) =
-      ap (λ (x : Command). wanted x (catalogue_of s)) is ∙ ap (λ (b : Bool). if b then 0 else taken n.name (map_of n.name (catalogue_of s))) n.absent
+      ap (λ (x : Command). wanted x (catalogue_of s)) is ∙ ap (λ (b : Bool). if b then 0 else taken name (map_of name (catalogue_of s))) absent
 
-  pub new_short : (want : ℕ) → want ≡ taken n.name (map_of n.name (catalogue_of s)) → vacant_nodes s < want → IsFound command s (Settled Full)
-  new_short want w short = decides_short command s l (in_range n.adds) (may n.adds) (does n.adds) want (w ∙ sym (wants n.adds)) short
+  pub new_short : (most want : ℕ) → want ≡ taken name (map_of name (catalogue_of s)) → vacant_nodes s < want → IsFoundWithin most command s (Settled Full)
+  new_short most want w short = decides_short command s l (in_range n) (may n) (does n) want (w ∙ sym (wants n)) short
 
-  pub new_open : (want first second : ℕ) (old plan : Plan) (gone : Gone) → want ≡ taken n.name (map_of n.name (catalogue_of s))
-      → want ≤ vacant_nodes s → AreEnough s want first second → old.count ≡ 0 → plan.count ≤ 5
-      → writes_in plan ≡ merged (writes_in old) (adds_at s k v first second end)
-      → (gone.node ≡ 0) × (gone.inner ≡ 0) → IsFound command s (Open plan gone)
-  new_open want first second old plan gone w there had none few e nothing =
-      let enough : AreEnough s (taken n.name (map_of n.name (catalogue_of s))) first second = subst (λ (x : ℕ). AreEnough s x first second) w had in
-      let add = add_planned s n.name k l n.name_in fit end v first second n.ends n.absent enough in
-      let planned = planned_add s l n.name k n.name_in fit v first second (adds_at s k v first second end) gone command lv add n.adds nothing in
-      let is : writes_in plan ≡ adds_at s k v first second end = planned_alone old plan (adds_at s k v first second end) none planned.distinct e in (
-        decides_had command s l (in_range n.adds) (may n.adds) (does n.adds) want (w ∙ sym (wants n.adds)) there,
-        few,
-        subst (λ (ws : Writes). IsPlanned command s ws gone) (sym is) planned,
+  pub new_open : (most want first second : ℕ) (plan : Plan) (gone : Gone) → want ≡ taken name (map_of name (catalogue_of s))
+      → want ≤ vacant_nodes s → AddsWithin most s name k v first second (writes_in plan) → (gone.node ≡ 0) × (gone.inner ≡ 0)
+      → IsFoundWithin most command s (Open plan gone)
+  new_open most want first second plan gone w there adds nothing =
+      let planned = planned_add s l name k name_in fit most v first second (writes_in plan) gone command lv adds n nothing in (
+        decides_had command s l (in_range n) (may n) (does n) want (w ∙ sym (wants n)) there,
+        planned_count plan (most_locks_of most command) planned.few,
+        planned,
       )
 
 module _ (s : State) (name k : ℕ) (l : IsLawful s) (lt : name < 30) (fit : k < 2 ^ 32) where
   -- An add of a key that is there.
-  pub add_no : has_key k (map_of name (catalogue_of s)) ≡ true → IsFound (Add name k) s (Settled No)
-  add_no there = decides_no (Add name k) s refl (ap not there)
+  pub add_no : (most : ℕ) → has_key k (map_of name (catalogue_of s)) ≡ true → IsFoundWithin most (Add name k) s (Settled No)
+  add_no most there = decides_no (Add name k) s refl (ap not there)
 
   -- A put of a key that is there.
   module _ (v old : ℕ) (lv : v < 2 ^ 64) (has : Some old ≡ value_of k (map_of name (catalogue_of s))) where
@@ -98,21 +96,21 @@ module _ (s : State) (name k : ℕ) (l : IsLawful s) (lt : name < 30) (fit : k <
     none_wanted : wanted (Put name k v) (catalogue_of s) ≡ 0
     none_wanted = ap (λ (b : Bool). if b then 0 else taken name (map_of name (catalogue_of s))) there
 
-    pub put_no : old ≡ v → IsFound (Put name k v) s (Settled No)
-    put_no e = decides_no (Put name k v) s refl (ap not (entry ∙ eq-eqb old v e))
+    pub put_no : (most : ℕ) → old ≡ v → IsFoundWithin most (Put name k v) s (Settled No)
+    put_no most e = decides_no (Put name k v) s refl (ap not (entry ∙ eq-eqb old v e))
 
     lacks : old ≢ v → has_entry k v (map_of name (catalogue_of s)) ≡ false
     lacks n = entry ∙ ne_eqb old v n
 
-    pub put_open : (end : End) (none plan : Plan) (gone : Gone) → EndsAt s name k end → old ≢ v → none.count ≡ 0 → plan.count ≤ 5
+    pub put_open : (most : ℕ) (end : End) (none plan : Plan) (gone : Gone) → EndsAt s name k end → old ≢ v → none.count ≡ 0
         → writes_in plan ≡ merged (writes_in none) (puts_at s v end) → (gone.node ≡ 0) × (gone.inner ≡ 0)
-        → IsFound (Put name k v) s (Open plan gone)
-    put_open end none plan gone ends n z few e nothing =
-        let planned = planned_put s l name k lt fit v (puts_at s v end) gone lv (lacks n) (put_planned s name k l lt fit end v ends there) nothing in
+        → IsFoundWithin most (Put name k v) s (Open plan gone)
+    put_open most end none plan gone ends n z e nothing =
+        let planned = planned_put s l name k lt fit most v (puts_at s v end) gone lv (lacks n) (put_planned s name k l lt fit end v ends there) nothing in
         let is : writes_in plan ≡ puts_at s v end = planned_alone none plan (puts_at s v end) z planned.distinct e in (
           decides_open (Put name k v) s l (lt, fit, lv) refl (ap not (lacks n)) (omega (arith, none_wanted)),
-          few,
-          subst (λ (ws : Writes). IsPlanned (Put name k v) s ws gone) (sym is) planned,
+          planned_count plan (most_locks_of most (Put name k v)) (subst (λ (ws : Writes). length ws ≤ most_locks_of most (Put name k v)) (sym is) planned.few),
+          subst (λ (ws : Writes). IsPlannedWithin most (Put name k v) s ws gone) (sym is) planned,
         )
 
   -- A del.
@@ -120,22 +118,25 @@ module _ (s : State) (name k : ℕ) (l : IsLawful s) (lt : name < 30) (fit : k <
   del_no missed = decides_no (Del name k) s refl missed
 
   pub del_open : (end : End) (none plan : Plan) (gone : Gone) → EndsAt s name k end → has_key k (map_of name (catalogue_of s)) ≡ true
-      → none.count ≡ 0 → plan.count ≤ 5 → writes_in plan ≡ merged (writes_in none) (dels_at s end) → gone.node ≡ node_gone end → gone.inner ≡ inner_gone end
+      → none.count ≡ 0 → writes_in plan ≡ merged (writes_in none) (dels_at s end) → gone.node ≡ node_gone end → gone.inner ≡ inner_gone end
       → IsFound (Del name k) s (Open plan gone)
-  del_open end none plan gone ends there z few e n i =
+  del_open end none plan gone ends there z e n i =
       let planned = planned_del s l name k lt fit (node_gone end) (inner_gone end) (dels_at s end) gone n i (del_planned s name k l lt fit end ends there) in
       let is : writes_in plan ≡ dels_at s end = planned_alone none plan (dels_at s end) z planned.distinct e in (
         decides_open (Del name k) s l (lt, fit) refl there (omega arith),
-        few,
+        planned_count plan 5 (subst (λ (ws : Writes). length ws ≤ 5) (sym is) planned.few),
         subst (λ (ws : Writes). IsPlanned (Del name k) s ws gone) (sym is) planned,
       )
 
 -- and what was found of a key that is not there
-pub new_found : (s t : State) (end : End) (k v : ℕ) (finding : Finding) → t ≡ s
-    → ((command : Command) → IsNew t end k v command → IsFound command t finding) → (command : Command) → IsNew s end k v command
-    → IsFound command s finding
-new_found s t end k v finding e f command n =
-    found_same s t command finding e (f command (subst (λ (u : State). IsNew u end k v command) (sym e) n))
+pub new_found : (most : ℕ) (s t : State) (name k v : ℕ) (finding : Finding) → t ≡ s
+    → ((command : Command) → IsNew name k v command → IsFoundWithin most command t finding) → (command : Command) → IsNew name k v command
+    → IsFoundWithin most command s finding
+new_found most s t name k v finding e f command n = found_same most s t command finding e (f command n)
+
+pub absent_same : (s t : State) (name k : ℕ) → t ≡ s → has_key k (map_of name (catalogue_of s)) ≡ false
+    → has_key k (map_of name (catalogue_of t)) ≡ false
+absent_same s t name k e f = ap (λ (u : State). has_key k (map_of name (catalogue_of u))) e ∙ f
 
 pub ends_same : (s t : State) (name k : ℕ) (end : End) → t ≡ s → EndsAt t name k end → EndsAt s name k end
 ends_same s t name k end e f = subst (λ (u : State). EndsAt u name k end) e f
@@ -145,6 +146,16 @@ short_same s t want e f = subst (λ (u : State). vacant_nodes u < want) e f
 
 pub there_same : (s t : State) (want : ℕ) → t ≡ s → want ≤ vacant_nodes t → want ≤ vacant_nodes s
 there_same s t want e f = subst (λ (u : State). want ≤ vacant_nodes u) e f
+
+pub enough_there : (s t : State) (name want first second : ℕ) → t ≡ s → want ≡ taken name (map_of name (catalogue_of s))
+    → AreEnough s want first second → AreEnough t (taken name (map_of name (catalogue_of t))) first second
+enough_there s t name want first second e w f =
+    subst (λ (u : State). AreEnough u (taken name (map_of name (catalogue_of u))) first second) (sym e)
+    (subst (λ (x : ℕ). AreEnough s x first second) w f)
+
+pub adds_same : (most : ℕ) (s t : State) (name k v first second : ℕ) (ws : Writes) → t ≡ s → AddsWithin most t name k v first second ws
+    → AddsWithin most s name k v first second ws
+adds_same most s t name k v first second ws e f = subst (λ (u : State). AddsWithin most u name k v first second ws) e f
 
 pub enough_same : (s t : State) (want first second : ℕ) → t ≡ s → AreEnough t want first second → AreEnough s want first second
 enough_same s t want first second e f = subst (λ (u : State). AreEnough u want first second) e f
@@ -219,10 +230,10 @@ module _ (s : State) (source target k : ℕ) (l : IsLawful s) (ls : source < 30)
       pub move_open : (none mid plan : Plan) (gone : Gone) (want takes left first other node second : ℕ) (to : End) → EndsAt s target k to
           → takes ≡ taken target (map_of target (catalogue_of s)) → left ≡ inner_gone from → want ≡ takes - (if left == 0 then 1 else 2)
           → want ≤ vacant_nodes s → AreEnough s want first other → node ≡ node_gone from → second ≡ (if left == 0 then first else left) → none.count ≡ 0
-          → writes_in mid ≡ merged (writes_in none) (dels_at s from) → plan.count ≤ 5
+          → writes_in mid ≡ merged (writes_in none) (dels_at s from)
           → writes_in plan ≡ merged (writes_in mid) (adds_at s k v node second to) → (gone.node ≡ 0) × (gone.inner ≡ 0)
           → IsFound (Move source target k) s (Open plan gone)
-      move_open none mid plan gone want takes left first other node second to ends t g w there had n o z e few f nothing =
+      move_open none mid plan gone want takes left first other node second to ends t g w there had n o z e f nothing =
           let wanted_is = move_wants want takes left t g w in
           let q : second ≡ (if inner_gone from == 0 then first else inner_gone from) = o ∙ ap (λ (x : ℕ). if x == 0 then first else x) g in
           let picked : AreEnough s (wanted (Move source target k) (catalogue_of s)) first other =
@@ -232,10 +243,13 @@ module _ (s : State) (source target k : ℕ) (l : IsLawful s) (ls : source < 30)
           subst (λ (x : ℕ). AreEnough (written s (dels_at s from)) (taken target (map_of target (catalogue_of s))) x second) (sym n)
           (subst (λ (x : ℕ). AreEnough (written s (dels_at s from)) (taken target (map_of target (catalogue_of s))) (node_gone from) x) (sym q) left_over) in
           let is : writes_in plan ≡ merged (dels_at s from) (adds_at s k v node second to) =
-          f ∙ ap (λ (w : Writes). merged w (adds_at s k v node second to)) (dels_planned none mid z e) in (
+          f ∙ ap (λ (w : Writes). merged w (adds_at s k v node second to)) (dels_planned none mid z e) in
+          let room = subst (λ (w : Writes). length w + count_unheld w (objects_added node second to) ≤ 5) (dels_planned none mid z e)
+          (move_has_room none mid first node second left to z e g n o) in
+          let planned : IsPlanned (Move source target k) s (merged (dels_at s from) (adds_at s k v node second to)) gone =
+          (planned_move s l source target k ls lt apart fit to v (node_gone from) (inner_gone from) node second (dels_at s from) gone ends missed
+          (sym has) del enough n (kept_unless_0 second (inner_gone from) first q) room nothing) in (
             decides_had (Move source target k) s l (ls, lt, fit) refl move_applies want wanted_is there,
-            few,
-            subst (λ (ws : Writes). IsPlanned (Move source target k) s ws gone) (sym is)
-                (planned_move s l source target k ls lt apart fit to v (node_gone from) (inner_gone from) node second (dels_at s from) gone ends missed
-                (sym has) del enough n (kept_unless_0 second (inner_gone from) first q) nothing),
+            planned_count plan 5 (subst (λ (ws : Writes). length ws ≤ 5) (sym is) planned.few),
+            subst (λ (ws : Writes). IsPlanned (Move source target k) s ws gone) (sym is) planned,
           )

@@ -13,6 +13,7 @@ pub mod MoveFacts
 pub mod Lone
 pub mod Deciding
 pub mod Planned
+pub mod Turned
 pub mod Decided
 pub mod LawfulTimes
 pub mod Knowing

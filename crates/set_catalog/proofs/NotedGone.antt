@@ -14,6 +14,7 @@ use Rattle.set_catalog.specs.Attempts.{WasVacant, KeepsHints, NotesGone, HintsAf
 use Rattle.set_catalog.specs.CommandMeaning.{command_meaning}
 use Rattle.set_catalog.specs.Hinted.{Hinted, gone_noted, TakesHints}
 use Rattle.set_catalog.specs.Remembering.{TakesFor, hints_at}
+use Rattle.set_catalog.specs.Steps.{most_beside}
 use Rattle.set_catalog.specs.declared.answer.Attempt.TheVariants.{Done}
 use Rattle.set_catalog.specs.declared.command_work.Answer.{Answer}
 use Rattle.set_catalog.specs.declared.memo.Memo.{Memo}
@@ -58,7 +59,7 @@ none_noted old hints node inner z e = rw (z.0, z.1) at e
 
 -- The objects that a commit left vacant were noted.
 done_noted : (k : Causes) (old new : Seat) (command : Command) (answer : Answer) (time : ℕ) (before between : Memo) (after : Hinted)
-    → IsDoneAt k (command_meaning command) old new answer time → Noted (Looks command) old new before between
+    → IsDoneAt k (command_meaning (most_beside old.write_max) command) old new answer time → Noted (Looks command) old new before between
     → after ≡ gone_noted between.hints answer.gone.node answer.gone.inner → NotesGone command before.hints after old new time
 done_noted k old new command answer time before between after d n e = go command d n
   where
@@ -68,7 +69,7 @@ done_noted k old new command answer time before between after d n e = go command
         (subst (λ (h : Hinted). TakesHints before.hints h) (sym (none_noted between.hints after answer.gone.node answer.gone.inner z e))
         (noted_takes c old new before between n))
 
-    go : (c : Command) → IsDoneAt k (command_meaning c) old new answer time → Noted (Looks c) old new before between
+    go : (c : Command) → IsDoneAt k (command_meaning (most_beside old.write_max) c) old new answer time → Noted (Looks c) old new before between
         → NotesGone c before.hints after old new time
     go (Del name key) d n = (
       d.done.commit,
@@ -89,7 +90,7 @@ done_noted k old new command answer time before between after d n e = go command
 
 -- What an attempt leaves of the hints that was done here.
 pub hints_then : (k : Causes) (old new : Seat) (command : Command) (answer : Answer) (place : Place) (before between : Memo) (after : Hinted)
-    → Attempted k (command_meaning command) old new (WorkDone answer place) → Noted (Looks command) old new before between
+    → Attempted k (command_meaning (most_beside old.write_max) command) old new (WorkDone answer place) → Noted (Looks command) old new before between
     → after ≡ hints_at place between.hints answer.gone → HintsAfter command before.hints after old new (Done answer.reply place)
 hints_then k old new command answer (AtCommit time) before between after d n e = done_noted k old new command answer time before between after d n e
 hints_then k old new command answer (Read time) before between after r n e =

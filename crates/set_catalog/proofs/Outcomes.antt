@@ -1,6 +1,5 @@
 -- What an attempt of a command leaves, from what it leaves as a work.
-use Rattle.std.proofs.Common.{ℕ, ◌≡◌, ◌+◌, ◌<◌, ◌≤◌, length, min, refl, sym, ap, subst, ◌∙◌, arith}
-use Rattle.std.proofs.lemmas.List.{length-take}
+use Rattle.std.proofs.Common.{ℕ, ◌≡◌, ◌+◌, ◌<◌, length, refl, sym, ap, subst, ◌∙◌, arith}
 use Rattle.mv_history.specs.State.{State}
 use Rattle.mv_history.specs.Meaning.{Seat, IsSeat}
 use Rattle.section_work.specs.Attempts.{IsDoneAt, IsReadAt, Attempted as WorkAttempted}
@@ -16,37 +15,36 @@ use Rattle.set_script.specs.Tags.{tag_of, command_of}
 use Rattle.set_script.specs.declared.commands.Command.{Command}
 use Rattle.set_script.specs.declared.commands.Reply.TheVariants.{Yes}
 use Rattle.set_catalog.specs.Attempts.{IsDoneBy, IsRead, Attempted}
-use Rattle.set_catalog.specs.CommandLaws.{tag_stands}
+use Rattle.set_catalog.specs.CommandLaws.{tag_stands_within}
 use Rattle.set_catalog.specs.CommandMeaning.{command_meaning}
-use Rattle.set_catalog.specs.Findings.{IsPlanned}
+use Rattle.set_catalog.specs.Findings.{IsPlannedWithin}
 use Rattle.set_catalog.specs.Merges.{writes_in}
 use Rattle.set_catalog.specs.Remembering.{IsAfterTheFirst, known_at}
 use Rattle.set_catalog.specs.Shortages.{IsKnown}
 use Rattle.set_catalog.specs.declared.answer.Attempt.TheVariants.{Done}
 use Rattle.set_catalog.specs.declared.command_work.Answer.{Answer}
-use Rattle.set_catalog.specs.declared.plan.Plan.{Plan}
+use Rattle.set_catalog.specs.Steps.{most_beside}
+use Rattle.tree_balance.specs.declared.plan.Plan.{Plan}
 use Rattle.set_catalog.specs.declared.shortage.Shortage.{Shortage}
 use Rattle.set_catalog.proofs.Knowing.{known_followed}
 
 -- what was planned for a command is planned for it as a work
-pub planned_as : (command : Command) (s : State) (plan : Plan) (answer : Answer) → answer.reply ≡ Yes → IsPlanned command s (writes_in plan) answer.gone
-    → IsWorkPlanned IsSetCommit (command_meaning command) s (tag_of command) (writes_in plan) answer
-planned_as command s plan answer said p =
-    let long : length (writes_in plan) ≡ min plan.count (length plan.writes) = length-take plan.count plan.writes in
-    let count : plan.count ≤ 5 = plan.few in
-    let few : length (writes_in plan) ≤ 5 = omega arith in
-    record {
-      plan = record { tagged = refl; plan = p.plan; few = few; fit = p.fit; goes = p.goes; said = said };
-      some = p.some;
-      few = few;
-      distinct = p.distinct;
-      within = p.within;
-      fit = p.fit;
-    }
+pub planned_as : (most : ℕ) (command : Command) (s : State) (plan : Plan) (answer : Answer) → answer.reply ≡ Yes
+    → IsPlannedWithin most command s (writes_in plan) answer.gone
+    → IsWorkPlanned IsSetCommit (command_meaning most command) s (tag_of command) (writes_in plan) answer
+planned_as most command s plan answer said p = record {
+  plan = record { tagged = refl; plan = p.plan; few = p.few; fit = p.fit; goes = p.goes; said = said };
+  some = p.some;
+  few = p.few;
+  distinct = p.distinct;
+  within = p.within;
+  fit = p.fit;
+}
 
 module _ (k : Causes) (old new : Seat) (command : Command) where
   -- a command that a commit made
-  done_as : (answer : Answer) (time : ℕ) → IsDoneAt k (command_meaning command) old new answer time → IsDoneBy old new command answer.reply time
+  done_as : (answer : Answer) (time : ℕ) → IsDoneAt k (command_meaning (most_beside old.write_max) command) old new answer time
+      → IsDoneBy old new command answer.reply time
   done_as answer time d = record {
     continues = d.done.continues;
     commit = d.done.commit;
@@ -61,7 +59,8 @@ module _ (k : Causes) (old new : Seat) (command : Command) where
   }
 
   -- a command that changes nothing
-  read_as : (answer : Answer) (time : ℕ) → IsReadAt k (command_meaning command) old new answer time → IsRead k old new command answer.reply time
+  read_as : (answer : Answer) (time : ℕ) → IsReadAt k (command_meaning (most_beside old.write_max) command) old new answer time
+      → IsRead k old new command answer.reply time
   read_as answer time r = record {
     mine = r.mine;
     before = r.enters.before;
@@ -73,28 +72,32 @@ module _ (k : Causes) (old new : Seat) (command : Command) where
     unchanging = r.settles.unchanging;
   }
 
--- What an attempt leaves, by what it answers.
-pub left_by : (k : Causes) (old new : Seat) (command : Command) (a b : Attempt Answer) → a ≡ b
-    → WorkAttempted k (command_meaning command) old new a → WorkAttempted k (command_meaning command) old new b
-left_by k old new command a b e h = subst (λ (x : Attempt Answer). WorkAttempted k (command_meaning command) old new x) e h
+-- What an attempt leaves, by what it answers, where as many objects are allowed beside an add as the seat may lock.
+pub left_by : (k : Causes) (old new : Seat) (most : ℕ) (command : Command) (a b : Attempt Answer) → most ≡ most_beside old.write_max → a ≡ b
+    → WorkAttempted k (command_meaning most command) old new a → WorkAttempted k (command_meaning (most_beside old.write_max) command) old new b
+left_by k old new most command a b m e h =
+    subst (λ (x : Attempt Answer). WorkAttempted k (command_meaning (most_beside old.write_max) command) old new x) e
+    (subst (λ (n : ℕ). WorkAttempted k (command_meaning n command) old new a) m h)
 
 -- its clauses where it was done, by where that is
 pub answered_as : (k : Causes) (old new : Seat) (command : Command) (answer : Answer) (place : Place)
-    → WorkAttempted k (command_meaning command) old new (WorkDone answer place) → Attempted k old new command (Done answer.reply place)
+    → WorkAttempted k (command_meaning (most_beside old.write_max) command) old new (WorkDone answer place)
+    → Attempted k old new command (Done answer.reply place)
 answered_as k old new command answer (AtCommit time) d = done_as k old new command answer time d
 answered_as k old new command answer (Read time) r = read_as k old new command answer time r
 
 -- no commit is at the first time
 pub after_the_first : (k : Causes) (old new : Seat) (command : Command) (answer : Answer) (place : Place)
-    → WorkAttempted k (command_meaning command) old new (WorkDone answer place) → IsAfterTheFirst place
+    → WorkAttempted k (command_meaning (most_beside old.write_max) command) old new (WorkDone answer place) → IsAfterTheFirst place
 after_the_first k old new command answer (AtCommit time) d = let later : old.base + length old.seen < time = d.done.later in omega arith
 after_the_first k old new command answer (Read time) r = tt
 
 -- what is known then
 pub known_then : (k : Causes) (old new : Seat) (command : Command) (answer : Answer) (place : Place) (known after : Shortage) → IsSeat IsOpening IsSetCommit new
-    → WorkAttempted k (command_meaning command) old new (WorkDone answer place) → IsKnown new known → after ≡ known_at place known command → IsKnown new after
+    → WorkAttempted k (command_meaning (most_beside old.write_max) command) old new (WorkDone answer place)
+    → IsKnown new known → after ≡ known_at place known command → IsKnown new after
 known_then k old new command answer (AtCommit time) known after law d h e =
     subst (λ (x : Shortage). IsKnown new x) (sym e)
     (known_followed new known time d.done.commit command law d.done.entry
-    (ap command_of d.done.plan.tagged ∙ tag_stands command _ _ d.done.plan.plan) h)
+    (ap command_of d.done.plan.tagged ∙ tag_stands_within (most_beside old.write_max) command _ _ d.done.plan.plan) h)
 known_then k old new command answer (Read time) known after law r h e = subst (λ (x : Shortage). IsKnown new x) (sym e) h

@@ -23,12 +23,13 @@ use Rattle.set_script.specs.declared.commands.Command.TheVariants.{Del}
 use Rattle.set_catalog.specs.Hinted.{Hinted, gone_noted}
 use Rattle.set_catalog.specs.Picks.{IsVacant}
 use Rattle.set_catalog.specs.CommandMeaning.{command_meaning}
-use Rattle.set_catalog.specs.Plans.{PlanOf, DelPlan}
-use Rattle.set_catalog.specs.Steps.{most_locks}
+use Rattle.set_catalog.specs.Plans.{PlanWithin, DelPlan}
+use Rattle.set_catalog.specs.Steps.{most_beside, most_locks_of}
 use Rattle.section_work.specs.Sections.{IsEntered}
 
 -- The command is the seat's last commit, at this printed time. Its reply is that of the state just before, which is not
--- at the last time. It wrote what it must lock in its snapshot, and nothing else: five objects at most. It is allowed on its snapshot, and on each
+-- at the last time. It wrote what it must lock in its snapshot, and nothing else: five objects at most, and of an add to a tree its own four
+-- and those of the steps after it, for which a section has room. It is allowed on its snapshot, and on each
 -- state to which others could have led meanwhile.
 pub record IsDoneBy (old new : Seat) (command : Command) (answer : Reply) (time : ℕ) : Type 0 where
   pub continues : Continues old new
@@ -37,8 +38,8 @@ pub record IsDoneBy (old new : Seat) (command : Command) (answer : Reply) (time 
   pub later : old.base + length old.seen < time
   pub mine : new.mine ≡ old.mine ++ commit ∷ []
   pub tagged : commit.tag ≡ tag_of command
-  pub plan : PlanOf command (state_at new.start new.seen commit.snapshot) commit.writes
-  pub few : length commit.writes ≤ most_locks
+  pub plan : PlanWithin (most_beside old.write_max) command (state_at new.start new.seen commit.snapshot) commit.writes
+  pub few : length commit.writes ≤ most_locks_of (most_beside old.write_max) command
   pub fit : IsFit IsSetCommit (state_at new.start new.seen commit.snapshot) commit.tag commit.writes
   pub answers : answer ≡ reply_in command (state_of_time new (time - 1)) false
 
@@ -58,7 +59,7 @@ pub record IsRead (k : Causes) (old new : Seat) (command : Command) (answer : Re
 abbrev pub Attempted : Causes → Seat → Seat → Command → Attempt → Type 0
 Attempted k old new command (Done answer (AtCommit time)) = IsDoneBy old new command answer time
 Attempted k old new command (Done answer (Read time)) = IsRead k old new command answer time
-Attempted k old new command (Again cause) = GivesUp k (command_meaning command) old new cause
+Attempted k old new command (Again cause) = GivesUp k (command_meaning (most_beside old.write_max) command) old new cause
 
 -- the object is vacant in the state of a time that came in the call
 abbrev pub WasVacant : Seat → Seat → ℕ → Type 0

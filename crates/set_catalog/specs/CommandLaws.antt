@@ -11,7 +11,7 @@ use Rattle.set_script.specs.declared.commands.Command.{Command}
 use Rattle.set_script.specs.declared.commands.Command.TheVariants.{Add, Put, Del, Has, Get, Move, Pair, Size, Next}
 use Rattle.set_catalog.specs.declared.shortage.Shortage.{Shortage}
 use Rattle.set_catalog.specs.Picks.{vacant_nodes}
-use Rattle.set_catalog.specs.Plans.{PlanOf}
+use Rattle.set_catalog.specs.Plans.{PlanWithin, PlanOf}
 use Rattle.set_catalog.specs.Replies.{reply_in}
 use Rattle.set_catalog.specs.Shortages.{IsKnown}
 use Rattle.set_catalog.specs.CommandMeaning.{PlansCommand}
@@ -28,20 +28,23 @@ known_later {a} {b} k p h =
     }
 
 -- the tag of a command that changes something stands for it
+pub tag_stands_within : (most : ℕ) (command : Command) (s : State) (ws : Writes) → PlanWithin most command s ws → command_of (tag_of command) ≡ Some command
+tag_stands_within most (Add name key) s ws p = refl
+tag_stands_within most (Put name key value) s ws p = refl
+tag_stands_within most (Del name key) s ws p = refl
+tag_stands_within most (Has name key) s ws p = absurd p
+tag_stands_within most (Get name key) s ws p = absurd p
+tag_stands_within most (Move source target key) s ws p = refl
+tag_stands_within most (Pair first second key) s ws p = absurd p
+tag_stands_within most (Size name) s ws p = absurd p
+tag_stands_within most (Next name key) s ws p = absurd p
+
 pub tag_stands : (command : Command) (s : State) (ws : Writes) → PlanOf command s ws → command_of (tag_of command) ≡ Some command
-tag_stands (Add name key) s ws p = refl
-tag_stands (Put name key value) s ws p = refl
-tag_stands (Del name key) s ws p = refl
-tag_stands (Has name key) s ws p = absurd p
-tag_stands (Get name key) s ws p = absurd p
-tag_stands (Move source target key) s ws p = refl
-tag_stands (Pair first second key) s ws p = absurd p
-tag_stands (Size name) s ws p = absurd p
-tag_stands (Next name key) s ws p = absurd p
+tag_stands command s ws p = tag_stands_within 0 command s ws p
 
 -- A commit of a command has the reply of the state just before it.
-pub makes_command : (command : Command) (s before : State) (tag : List ℕ) (ws : Writes) (answer : Answer) → PlansCommand command s tag ws answer
+pub makes_command : (most : ℕ) (command : Command) (s before : State) (tag : List ℕ) (ws : Writes) (answer : Answer) → PlansCommand most command s tag ws answer
     → IsSetCommit tag before ws → answer.reply ≡ reply_in command before false
-makes_command command s before tag ws answer p a =
-    let m = subst (λ u. MakesSome u before (written before ws)) (ap command_of p.tagged ∙ tag_stands command s ws p.plan) a.makes in
+makes_command most command s before tag ws answer p a =
+    let m = subst (λ u. MakesSome u before (written before ws)) (ap command_of p.tagged ∙ tag_stands_within most command s ws p.plan) a.makes in
     p.said ∙ sym m.answer

@@ -7,17 +7,17 @@ use Rattle.set_script.specs.Tags.{tag_of}
 use Rattle.set_script.specs.declared.commands.Command.{Command}
 use Rattle.set_script.specs.declared.commands.Reply.TheVariants.{Yes}
 use Rattle.section_work.specs.Works.{Meaning}
-use Rattle.set_catalog.specs.Plans.{PlanOf, GoneBy}
+use Rattle.set_catalog.specs.Plans.{PlanWithin, GoneBy}
 use Rattle.set_catalog.specs.Replies.{reply_in, changes_in}
-use Rattle.set_catalog.specs.Steps.{most_locks}
+use Rattle.set_catalog.specs.Steps.{most_locks_of}
 use Rattle.set_catalog.specs.declared.command_work.Answer.{Answer}
 
--- What is planned for it: the change that the command makes, with its tag, fit to be committed, and yes once it is made; a del leaves these
--- objects vacant.
-pub record PlansCommand (command : Command) (s : State) (tag : List ℕ) (ws : Writes) (answer : Answer) : Type 0 where
+-- What is planned for it, where an add to a tree may lock so many objects beside its own four: the change that the command makes, with its
+-- tag, fit to be committed, and yes once it is made; a del leaves these objects vacant.
+pub record PlansCommand (most : ℕ) (command : Command) (s : State) (tag : List ℕ) (ws : Writes) (answer : Answer) : Type 0 where
   pub tagged : tag ≡ tag_of command
-  pub plan : PlanOf command s ws
-  pub few : length ws ≤ most_locks
+  pub plan : PlanWithin most command s ws
+  pub few : length ws ≤ most_locks_of most command
   pub fit : IsFit IsSetCommit s tag ws
   pub goes : GoneBy command s ws answer.gone.node answer.gone.inner
   pub said : answer.reply ≡ Yes
@@ -27,12 +27,12 @@ pub record SettlesCommand (command : Command) (s : State) (last : Bool) (answer 
   pub answers : answer.reply ≡ reply_in command s last
   pub unchanging : changes_in command s last ≡ false
 
--- What a command means.
-abbrev pub command_meaning : Command → Meaning Answer
-command_meaning command = record {
-  most = most_locks;
+-- What a command means, where an add to a tree may lock so many objects beside its own four.
+abbrev pub command_meaning : ℕ → Command → Meaning Answer
+command_meaning most command = record {
+  most = most_locks_of most command;
   changes = λ s. changes_in command s false ≡ true;
-  plans = PlansCommand command;
+  plans = PlansCommand most command;
   settles = SettlesCommand command;
   makes = λ before after answer. answer.reply ≡ reply_in command before false;
 }

@@ -1,5 +1,5 @@
 -- What a command locks and writes in a state: the objects, in the order of locking, with their new words.
-use Rattle.std.specs.Prelude.{ℕ, ◌≡◌, ◌≢◌, ◌+◌, ◌-◌, ◌*◌, ◌%◌, ◌<◌, ◌≤◌, ◌⊎◌, nat_lt, if◌then◌else◌}
+use Rattle.std.specs.Prelude.{ℕ, zero, suc, ◌≡◌, ◌≢◌, ◌+◌, ◌-◌, ◌*◌, ◌%◌, ◌<◌, ◌≤◌, ◌⊎◌, nat_lt, if◌then◌else◌}
 use Rattle.mv_history.specs.State.{State, Writes, written}
 use Rattle.set_script.specs.declared.commands.Command.{Command}
 use Rattle.set_script.specs.declared.commands.Command.TheVariants.{Add, Put, Del, Move}
@@ -7,6 +7,7 @@ use Rattle.set_script.specs.Objects.{link, value}
 use Rattle.section_work.specs.OwnWrites.{with_locks, with_writes, objects_of}
 use Rattle.list_set.specs.Places.{IsAddPlace, add_writes, IsDelPlace, del_writes, IsPutPlace, put_writes}
 use Rattle.tree_set.specs.Places.{IsLeaf, plant_writes, IsGrowPlace, grow_writes, IsBarePlace, bare_writes, IsCutPlace, cut_writes}
+use Rattle.tree_balance.specs.Drafts.{IsAddOnWay}
 use Rattle.set_catalog.specs.Needs.{first_tree}
 use Rattle.set_catalog.specs.Picks.{IsVacant}
 
@@ -33,6 +34,23 @@ pub data AddPlan (s : State) (name key v first second : ℕ) : Writes → Type 0
       → IsVacant s second → second ≢ first
       → AddPlan s name key v first second (grow_writes s (head_of name key) key v parent leaf first second)
 
+-- an add of the key to a tree that is not empty, and steps after it by which the tree stays short: at most so many objects beside the
+-- add's own four
+pub record TurnedPlan (most : ℕ) (s : State) (name key v first second : ℕ) (ws : Writes) : Type 0 where
+  pub parent : ℕ
+  pub leaf : ℕ
+  pub of_tree : first_tree ≤ name
+  pub place : IsGrowPlace s (head_of name key) key parent leaf
+  pub first_vacant : IsVacant s first
+  pub second_vacant : IsVacant s second
+  pub other : second ≢ first
+  pub adds : IsAddOnWay s (head_of name key) key v parent leaf first second most ws
+
+-- an add, with steps after it or not; where it may lock nothing beside its own objects it has none
+abbrev pub AddsWithin : ℕ → State → ℕ → ℕ → ℕ → ℕ → ℕ → Writes → Type 0
+AddsWithin zero s name key v first second ws = AddPlan s name key v first second ws
+AddsWithin (suc n) s name key v first second ws = AddPlan s name key v first second ws ⊎ TurnedPlan (suc n) s name key v first second ws
+
 -- another value for a key that is there
 pub data PutPlan (s : State) (name key v : ℕ) : Writes → Type 0 where
   in_list : (node : ℕ) → name < first_tree → IsPutPlace s (head_of name key) key node → PutPlan s name key v (put_writes s node v)
@@ -53,13 +71,17 @@ pub record MovePlan (s : State) (source target key : ℕ) (ws : Writes) : Type 0
   pub takes_inner : inner ≢ 0 → second ≡ inner
   pub both : ws ≡ with_writes (with_locks (written s dels) dels (objects_of adds)) adds
 
--- What a command that changes something locks, and how it writes that.
+-- What a command that changes something locks, and how it writes that, where an add to a tree may lock so many objects beside its own four.
+abbrev pub PlanWithin : ℕ → Command → State → Writes → Type 0
+PlanWithin most (Add name key) s ws = (first : ℕ) × (second : ℕ) × AddsWithin most s name key 0 first second ws
+PlanWithin most (Put name key v) s ws = PutPlan s name key v ws ⊎ ((first : ℕ) × (second : ℕ) × AddsWithin most s name key v first second ws)
+PlanWithin most (Del name key) s ws = (node : ℕ) × (inner : ℕ) × DelPlan s name key node inner ws
+PlanWithin most (Move source target key) s ws = MovePlan s source target key ws
+PlanWithin most command s ws = ⊥
+
+-- and where no step follows an add
 abbrev pub PlanOf : Command → State → Writes → Type 0
-PlanOf (Add name key) s ws = (first : ℕ) × (second : ℕ) × AddPlan s name key 0 first second ws
-PlanOf (Put name key v) s ws = PutPlan s name key v ws ⊎ ((first : ℕ) × (second : ℕ) × AddPlan s name key v first second ws)
-PlanOf (Del name key) s ws = (node : ℕ) × (inner : ℕ) × DelPlan s name key node inner ws
-PlanOf (Move source target key) s ws = MovePlan s source target key ws
-PlanOf command s ws = ⊥
+PlanOf command s ws = PlanWithin 0 command s ws
 
 -- a del left these objects vacant, the second of them 0 where there is but one; of another command none is told
 abbrev pub GoneBy : Command → State → Writes → ℕ → ℕ → Type 0

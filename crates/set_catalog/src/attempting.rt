@@ -4,7 +4,7 @@ ghost use Rattle.section_work.specs.Causes.{causes};
 ghost use Rattle.section_work.specs.Sections.{TriesOne};
 ghost use Rattle.section_work.specs.Steps.{IsStepped};
 ghost use Rattle.set_catalog.specs.Shortages.{IsKnown};
-ghost use Rattle.set_catalog.specs.Steps.{most_locks};
+ghost use Rattle.set_catalog.specs.Steps.{most_locks, most_beside};
 ghost use Rattle.set_catalog.specs.Attempts.{Attempted, HintsAfter, as_work};
 
 use crate::answer::Attempt;
@@ -32,12 +32,16 @@ pub fn attempt<S: Store<Rules = SetRules>>(store: S, command: &Command) -> (S, A
 
 /// Attempts a command in one section of the store, and gives the store back.
 ///
-/// It needs a `write_max` of at least 5. Vacant objects are looked for among the hints first; the
-/// objects that a del left vacant are noted once it is done, and no hint is added that wasn't
-/// vacant in this call. It never waits or tries again by itself, and takes no memory. It searches
-/// each set of the command once for its key; beside these walks it reads objects to find vacant
-/// ones. It enters one section, and a second one only where its commit found no time left; a command
-/// that changes nothing locks nothing.
+/// It needs a `write_max` of at least 5: a command locks 5 objects at most. Only an add of a new key to a tree
+/// that has keys, or a put of one, locks its own 4 and those of the steps after it by which the tree stays
+/// short: `write_max` at most, and 16.
+///
+/// Vacant objects are looked for among the hints first; the objects that a del left vacant are noted once it
+/// is done, and no hint is added that wasn't vacant in this call. It never waits or tries again by itself, and
+/// takes no memory. It searches each set of the command once for its key; beside these walks it reads objects to
+/// find vacant ones, and of an add to a tree the way of its search again, with what stands beside it. It enters
+/// one section, and a second one only where its commit found no time left; a command that changes nothing
+/// locks nothing.
 ///
 /// - `Done` at a `Place::Commit`: the command changed the catalogue, by one commit of that printed
 ///   time, and the reply is that of the catalogue just before it.
@@ -92,7 +96,11 @@ pub(crate) fn attempt_knowing<S: Store<Rules = SetRules>>(
     ensures at_most_one { TriesOne (S.seat_of store) (S.seat_of result.0) }
     ensures known { IsKnown (S.seat_of result.0) memo.new.known }
 {
-    let work = CommandWork { command: *command };
+    let most = most_beside(store.write_max());
+    let work = CommandWork {
+        command: *command,
+        most,
+    };
     let (store, tried) = attempt_work(store, &work, memo);
     match tried {
         Tried::Done {
@@ -105,4 +113,12 @@ pub(crate) fn attempt_knowing<S: Store<Rules = SetRules>>(
         }
         Tried::Again(cause) => (store, Attempt::Again(cause)),
     }
+}
+
+// How many objects an add to a tree may lock beside its own four, where a section may hold so many.
+fn most_beside(write_max: u32) -> u32
+    ensures { result ≡ most_beside write_max }
+{
+    let all = if write_max < 16 { write_max } else { 16 };
+    all.saturating_sub(4)
 }

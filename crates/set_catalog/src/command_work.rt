@@ -4,16 +4,18 @@ ghost use Rattle.set_script.specs.Tags.{tag_of as command_tag};
 
 use crate::finding::{Finding, answer, find_change};
 use crate::memo::Memo;
-use crate::plan::{Gone, Plan};
+use crate::plan::Gone;
 use crate::shortage::Shortage;
 use mv_history::{Tag, View, Words};
 use section_work::{Decision, Work};
 use set_script::{Command, Reply, SetRules};
+use tree_balance::Plan;
 
-// A command that is to be one section.
+// A command that is to be one section, where an add to a tree may lock so many objects beside its own four, 1 to 12.
 #[derive(Drop)]
 pub struct CommandWork {
     pub command: Command,
+    pub most: u32,
 }
 
 // What it answers: the command's reply, and the objects that its commit leaves vacant.
@@ -24,7 +26,7 @@ pub struct Answer {
 }
 
 impl Work for CommandWork {
-    ghost use Rattle.std.specs.Prelude.{⊤};
+    ghost use Rattle.std.specs.Prelude.{◌≤◌};
     ghost use Rattle.set_script.specs.Tags.{tag_of as command_tag};
     ghost use Rattle.set_catalog.specs.Merges.{writes_in};
     ghost use Rattle.set_catalog.specs.Shortages.{IsKnown};
@@ -40,9 +42,9 @@ impl Work for CommandWork {
 
     type Memo = Memo;
 
-    ghost accepts = { λ w. ⊤ };
+    ghost accepts = { λ w. w.most ≤ 12 };
 
-    ghost means = { λ w. command_meaning w.command };
+    ghost means = { λ w. command_meaning w.most w.command };
 
     ghost tag_of = { λ w plan. command_tag w.command };
 
@@ -66,6 +68,7 @@ impl Work for CommandWork {
             &mut memo.fingers,
             &mut few,
             &self.command,
+            self.most,
         );
         memo.known = Shortage { time, few };
         match found {
@@ -94,7 +97,7 @@ impl Work for CommandWork {
 
     ghost knows_on = { λ memo s t on known. known_later memo.known on known };
 
-    ghost makes = { λ w s before tag ws answer accepts plan drifts allowed. makes_command w.command s before tag ws answer plan allowed };
+    ghost makes = { λ w s before tag ws answer accepts plan drifts allowed. makes_command w.most w.command s before tag ws answer plan allowed };
 }
 
 impl Answer {

@@ -1,19 +1,21 @@
 // Where the search for a key in a set ended.
-ghost use Rattle.std.specs.Prelude.{◌≡◌, ◌+◌, ◌<◌, ◌≤◌, ℕ, length};
+ghost use Rattle.std.specs.Prelude.{◌≡◌, ◌+◌, ◌<◌, ◌≤◌, ℕ, false, [], length};
 ghost use Rattle.set_script.specs.Catalogue.{map_of, has_key, value_of};
 ghost use Rattle.set_script.specs.CatalogueOf.{catalogue_of};
 ghost use Rattle.set_script.specs.Lawful.{IsLawful};
 ghost use Rattle.section_work.specs.Held.{count_unheld};
 ghost use Rattle.set_catalog.specs.Ends.{EndsAt, HasHead, Wherever, Present, adds_at, objects_added, dels_at, node_gone, inner_gone, puts_at};
-ghost use Rattle.set_catalog.specs.Merges.{writes_in, PlansMore};
-ghost use Rattle.set_catalog.specs.Needs.{taken};
+ghost use Rattle.set_catalog.specs.Merges.{writes_in, merged, PlansMore};
+ghost use Rattle.set_catalog.specs.Needs.{AreEnough, taken};
+ghost use Rattle.set_catalog.specs.Plans.{AddsWithin};
 
 use crate::names::{Set, set_of};
 use crate::picks::Picked;
-use crate::plan::{Gone, Plan};
+use crate::plan::Gone;
 use list_set::{Fingers, Spot};
 use mv_history::View;
 use set_script::Name;
+use tree_balance::{Plan, find_way, plan_add};
 use tree_set::{Fork, plant_writes};
 
 /// Where the search for a key ended: all that a command needs to know of its set.
@@ -106,7 +108,7 @@ impl End {
     // Plans an add of the key, which is not there, with this value, in these vacant nodes.
     pub(crate) fn add(&self, plan: &mut Plan, key: u32, value: u64, picked: Picked)
         requires head { HasHead self.now }
-        requires room { length (writes_in plan.old) + count_unheld (writes_in plan.old) (objects_added picked.first picked.second self.now) ≤ 5 }
+        requires room { length (writes_in plan.old) + count_unheld (writes_in plan.old) (objects_added picked.first picked.second self.now) ≤ 16 }
         ensures writes { Wherever self.now key (λ s name. PlansMore plan.old plan.new (adds_at s key value picked.first picked.second self.now)) }
     {
         let Picked { first, second } = picked;
@@ -116,6 +118,60 @@ impl End {
             End::Grown { root, fork } => {
                 plan.write(&fork.grow_writes(*root, key, value, first, second))
             }
+        }
+    }
+
+    // The plan of an add of the key, which is not there, with this value, in these vacant nodes, with no step after it.
+    fn plan_alone(&self, key: u32, value: u64, picked: Picked) -> Plan
+        requires head { HasHead self.now }
+        ensures writes { Wherever self.now key (λ s name. writes_in result ≡ merged [] (adds_at s key value picked.first picked.second self.now)) }
+    {
+        let mut plan = Plan::nothing();
+        self.add(&mut plan, key, value, picked);
+        plan
+    }
+
+    // The plan of an add of the key to the set of this name, where it is not, with this value, in these vacant nodes. In a
+    // tree that has keys steps follow by which it stays short, within `most` objects beside the add's own, if that isn't 0.
+    pub(crate) fn plan_new<V: View>(
+        &self,
+        view: &mut V,
+        name: Name,
+        key: u32,
+        value: u64,
+        picked: Picked,
+        most: u32,
+    ) -> Plan
+        requires lawful { IsLawful (V.state view.old) }
+        requires head { HasHead self.now }
+        requires name_in { name < 30 }
+        requires ends { EndsAt (V.state view.old) name key self.now }
+        requires absent { has_key key (map_of name (catalogue_of (V.state view.old))) ≡ false }
+        requires enough { AreEnough (V.state view.old) (taken name (map_of name (catalogue_of (V.state view.old)))) picked.first picked.second }
+        requires most { most ≤ 12 }
+        ensures plan { AddsWithin most (V.state view.old) name key value picked.first picked.second (writes_in result) }
+        ensures as_before { V.as_before view.old view.new }
+    {
+        if most == 0 {
+            return self.plan_alone(key, value, picked);
+        }
+        match self {
+            End::Grown { root, fork } => {
+                let Picked { first, second } = picked;
+                let way = find_way(view, *root, key);
+                plan_add(
+                    view,
+                    *root,
+                    key,
+                    value,
+                    fork,
+                    way.objects(),
+                    first,
+                    second,
+                    most as usize,
+                )
+            }
+            _ => self.plan_alone(key, value, picked),
         }
     }
 

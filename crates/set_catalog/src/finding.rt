@@ -1,5 +1,5 @@
 // What a command comes to in a state, before anything is locked.
-ghost use Rattle.std.specs.Prelude.{◌≡◌, ◌<◌, ◌≤◌, ℕ, true, if◌then◌else◌, IfSome, MatchOption};
+ghost use Rattle.std.specs.Prelude.{◌≡◌, ◌<◌, ◌≤◌, ℕ, true, false, if◌then◌else◌, IfSome, MatchOption};
 ghost use Rattle.set_script.specs.Catalogue.{map_of, has_key};
 ghost use Rattle.set_script.specs.CatalogueOf.{catalogue_of};
 ghost use Rattle.set_script.specs.Lawful.{IsLawful};
@@ -10,17 +10,18 @@ ghost use Rattle.set_catalog.specs.Hinted.{TakesHints};
 ghost use Rattle.set_catalog.specs.Ends.{EndsAt, HasHead};
 ghost use Rattle.set_catalog.specs.Picks.{vacant_nodes};
 ghost use Rattle.set_catalog.specs.Needs.{AreEnough, may_change, wanted};
-ghost use Rattle.set_catalog.specs.Findings.{IsFound, IsNew, reply_at_last};
+ghost use Rattle.set_catalog.specs.Findings.{IsFound, IsFoundWithin, IsNew, reply_at_last};
 ghost use Rattle.set_catalog.specs.declared.finding.Finding.TheVariants.{Settled};
 
 use crate::ends::{End, search_near};
 use crate::hints::Hints;
 use crate::picks::{Picked, pick};
-use crate::plan::{Gone, Plan};
+use crate::plan::Gone;
 use crate::sets::{has, next, size, value};
 use list_set::Fingers;
 use mv_history::View;
 use set_script::{Command, Name, Reply};
+use tree_balance::Plan;
 
 /// What a command comes to.
 #[derive(Drop)]
@@ -82,7 +83,7 @@ pub fn find_plan_near<V: View>(
 {
     match answer(view, fingers, command) {
         Some(reply) => Finding::Settled(reply),
-        None => find_change(view, hints, fingers, few, command),
+        None => find_change(view, hints, fingers, few, command, 0),
     }
 }
 
@@ -111,7 +112,8 @@ pub(crate) fn answer<V: View>(
 }
 
 // Finds what a command comes to that may change something, as `find_plan` does, by searches that begin at
-// fingers.
+// fingers. After an add to a tree steps keep it short, within `most` objects beside the add's own, if that
+// isn't 0.
 #[inline(never)]
 pub(crate) fn find_change<V: View>(
     view: &mut V,
@@ -119,20 +121,22 @@ pub(crate) fn find_change<V: View>(
     fingers: &mut Fingers,
     few: &mut u32,
     command: &Command,
+    most: u32,
 ) -> Finding
     requires changes { may_change command.now ≡ true }
     requires lawful { IsLawful (V.state view.old) }
     requires few { vacant_nodes (V.state view.old) < few.old }
-    ensures found { IsFound command.now (V.state view.old) result }
+    requires most { most ≤ 12 }
+    ensures found { IsFoundWithin most command.now (V.state view.old) result }
     ensures few { vacant_nodes (V.state view.old) < few.new }
     ensures hints { TakesHints hints.old hints.new }
     ensures untouched { wanted command.now (catalogue_of (V.state view.old)) ≡ 0 → hints.new ≡ hints.old }
     ensures as_before { V.as_before view.old view.new }
 {
     match *command {
-        Command::Add { name, key } => find_add(view, hints, fingers, few, name, key),
+        Command::Add { name, key } => find_add(view, hints, fingers, few, name, key, most),
         Command::Put { name, key, value } => {
-            find_put(view, hints, fingers, few, name, key, value)
+            find_put(view, hints, fingers, few, name, key, value, most)
         }
         Command::Del { name, key } => find_del(view, fingers, name, key),
         Command::Move {
@@ -214,10 +218,12 @@ fn find_add<V: View>(
     few: &mut u32,
     name: Name,
     key: u32,
+    most: u32,
 ) -> Finding
     requires lawful { IsLawful (V.state view.old) }
     requires few { vacant_nodes (V.state view.old) < few.old }
-    ensures found { IsFound (Add name key) (V.state view.old) result }
+    requires most { most ≤ 12 }
+    ensures found { IsFoundWithin most (Add name key) (V.state view.old) result }
     ensures few { vacant_nodes (V.state view.old) < few.new }
     ensures hints { TakesHints hints.old hints.new }
     ensures untouched { wanted (Add name key) (catalogue_of (V.state view.old)) ≡ 0 → hints.new ≡ hints.old }
@@ -227,7 +233,7 @@ fn find_add<V: View>(
     if end.has(key) {
         return Finding::Settled(Reply::No);
     }
-    find_new(view, hints, few, &end, key, 0)
+    find_new(view, hints, few, &end, name, key, 0, most)
 }
 
 fn find_put<V: View>(
@@ -238,10 +244,12 @@ fn find_put<V: View>(
     name: Name,
     key: u32,
     value: u64,
+    most: u32,
 ) -> Finding
     requires lawful { IsLawful (V.state view.old) }
     requires few { vacant_nodes (V.state view.old) < few.old }
-    ensures found { IsFound (Put name key value) (V.state view.old) result }
+    requires most { most ≤ 12 }
+    ensures found { IsFoundWithin most (Put name key value) (V.state view.old) result }
     ensures few { vacant_nodes (V.state view.old) < few.new }
     ensures hints { TakesHints hints.old hints.new }
     ensures untouched { wanted (Put name key value) (catalogue_of (V.state view.old)) ≡ 0 → hints.new ≡ hints.old }
@@ -249,7 +257,7 @@ fn find_put<V: View>(
 {
     let end = search_near(view, fingers, name, key);
     match end.value(key) {
-        None => find_new(view, hints, few, &end, key, value),
+        None => find_new(view, hints, few, &end, name, key, value, most),
         Some(old) if old == value => Finding::Settled(Reply::No),
         Some(_) => {
             let mut plan = Plan::nothing();
@@ -266,13 +274,19 @@ fn find_new<V: View>(
     hints: &mut Hints,
     few: &mut u32,
     end: &End,
+    name: Name,
     key: u32,
     value: u64,
+    most: u32,
 ) -> Finding
     requires lawful { IsLawful (V.state view.old) }
     requires few { vacant_nodes (V.state view.old) < few.old }
     requires head { HasHead end.now }
-    ensures found { (command : Command) → IsNew (V.state view.old) end.now key value command → IsFound command (V.state view.old) result }
+    requires name_in { name < 30 }
+    requires ends { EndsAt (V.state view.old) name key end.now }
+    requires absent { has_key key (map_of name (catalogue_of (V.state view.old))) ≡ false }
+    requires most { most ≤ 12 }
+    ensures found { (command : Command) → IsNew name key value command → IsFoundWithin most command (V.state view.old) result }
     ensures few { vacant_nodes (V.state view.old) < few.new }
     ensures hints { TakesHints hints.old hints.new }
     ensures as_before { V.as_before view.old view.new }
@@ -280,8 +294,7 @@ fn find_new<V: View>(
     match vacant_for(view, hints, few, end.takes()) {
         None => Finding::Settled(Reply::Full),
         Some(picked) => {
-            let mut plan = Plan::nothing();
-            end.add(&mut plan, key, value, picked);
+            let plan = end.plan_new(view, name, key, value, picked, most);
             let gone = Gone::nothing();
             Finding::Open { plan, gone }
         }

@@ -14,12 +14,17 @@
 //! del writes nothing that the search in the target read. An object that the del removes and the add
 //! takes stands in the plan once.
 //!
+//! An add to a tree that has keys goes down the way of its search once more, and plans the steps by which
+//! the tree stays short after it (`tree_balance`), as far as the store's `write_max` leaves room. The
+//! add of a move, and commands of a block, make no steps.
+//!
 //! # The contract
 //!
 //! - `Done` at `Commit(t)`: the entry of time t is the seat's last commit, with the command's tag.
-//!   It writes exactly what the command locks in its snapshot (`specs/Plans.antt`), five objects at
-//!   most, and is fit. The reply is that of the catalogue just before t, at a place that is not the
-//!   last time.
+//!   It writes exactly what the command locks in its snapshot (`specs/Plans.antt`), and is fit: five
+//!   objects at most, and of an add to a tree its own four and those of its steps, 16 at most and no
+//!   more than `write_max` (`specs/Steps.antt`). The reply is that of the catalogue just before t, at a
+//!   place that is not the last time.
 //! - `Done` at `Read(t)`: no commit was made. Time t is that of a section that this call entered, the
 //!   reply is that of the catalogue there, and the command changes nothing there. `Full`, `Worn` and
 //!   `No` come exactly so.
@@ -54,7 +59,8 @@
 //!
 //! # Its place
 //!
-//! It stands on the three crates of sets, whose calls it makes by a command's names, on `set_script`,
+//! It stands on the three crates of sets, whose calls it makes by a command's names, on `tree_balance`,
+//! whose plans are its own, on `set_script`,
 //! on `section_work`, by which each attempt is made, and on the traits of `mv_history`. It knows no
 //! store, and nothing of logs, chains or marks. The program runs a script by one attempt after another.
 #![tactic(auto)]
@@ -82,6 +88,7 @@ pub use hinted_store::HintedStore;
 pub use hints::Hints;
 pub use memo::Memo;
 pub use picks::{Picked, pick};
-pub use plan::{Gone, Plan};
+pub use plan::Gone;
 pub use reading::read_all;
 pub use shortage::Shortage;
+pub use tree_balance::Plan;

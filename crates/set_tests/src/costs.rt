@@ -16,7 +16,7 @@ use std::process::Abort;
 use std::test::*;
 
 // A store of so many objects of zeros, with room for so many commits.
-fn open(alloc: Global, count: u32, room: u32) -> Result<PlainStore<SetRules>, AllocError>
+pub(crate) fn open(alloc: Global, count: u32, room: u32) -> Result<PlainStore<SetRules>, AllocError>
     requires some { 180 < count }
     requires few { count ≤ 65535 }
 {
@@ -25,7 +25,7 @@ fn open(alloc: Global, count: u32, room: u32) -> Result<PlainStore<SetRules>, Al
 }
 
 // Adds a key to the set of this index.
-fn add<S: Store<Rules = SetRules>>(
+pub(crate) fn add<S: Store<Rules = SetRules>>(
     rt: &impl Abort,
     store: S,
     hints: &mut Hints,
@@ -91,12 +91,24 @@ fn a_list_and_a_table_are_read_once(rt: HostRuntime) -> Result<(), Fail> {
 // The root and 259 nodes, and one node twice where more than 64 links are pending.
 static TREES: [(u32, u32); 3] = [(20, 260), (21, 261), (22, 260)];
 
-// Adds 130 keys to each of three trees: a chain to the right, a chain to the left, and a tree without long branches.
+// Adds a key to the list `l0`, and moves it to the tree of this index: a move turns nothing.
+fn move_in<S: Store<Rules = SetRules>>(
+    rt: &impl Abort,
+    store: S,
+    hints: &mut Hints,
+    index: u32,
+    key: u32,
+) -> S {
+    let store = add(rt, store, hints, 0, key);
+    attempt_hinting(rt, store, hints, &command(rt, Move(0, index, key))).0
+}
+
+// Moves 130 keys into each of three trees: a chain to the right, a chain to the left, and a tree without long branches.
 fn fill_trees<S: Store<Rules = SetRules>>(rt: &impl Abort, mut store: S, hints: &mut Hints) -> S {
     for i in 0..130 {
-        store = add(rt, store, hints, 20, i);
-        store = add(rt, store, hints, 21, 130 - i);
-        store = add(rt, store, hints, 22, i * 81 % 131);
+        store = move_in(rt, store, hints, 20, i);
+        store = move_in(rt, store, hints, 21, 130 - i);
+        store = move_in(rt, store, hints, 22, i * 81 % 131);
     }
     store
 }
@@ -105,7 +117,7 @@ fn fill_trees<S: Store<Rules = SetRules>>(rt: &impl Abort, mut store: S, hints: 
 fn a_tree_is_read_once_whatever_its_form(rt: HostRuntime) -> Result<(), Fail> {
     let mut hints = Hints::new(rt.alloc(), 1)?;
     let store = fill_trees(&rt, open(rt.alloc(), 1000, 1000)?, &mut hints);
-    let _store = expect_sizes(&rt, store, &mut hints, &TREES, 130, 390);
+    let _store = expect_sizes(&rt, store, &mut hints, &TREES, 130, 780);
     Ok(())
 }
 

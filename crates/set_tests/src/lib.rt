@@ -26,6 +26,8 @@ mod costs;
 #[cfg(test)]
 mod counted;
 #[cfg(test)]
+mod depths;
+#[cfg(test)]
 mod grown;
 #[cfg(test)]
 mod lists;

@@ -1,7 +1,7 @@
 -- Drafts of an add and of steps after it.
 use Rattle.std.proofs.Common.{◌≡◌, ℕ, zero, suc, ◌+◌, ◌<◌, ◌≤◌, Bool, true, false, cond, ◌||◌, eqb}
 use Rattle.std.proofs.Common.{inr, List, [], ◌∷◌, ◌++◌, length, take, get_or, refl, sym, ap, ◌∙◌, subst, arith}
-use Rattle.std.proofs.Common.{length-append}
+use Rattle.std.proofs.Common.{length-append, length-take}
 use Rattle.mv_history.specs.State.{State, Writes, written, touches, rewritten}
 use Rattle.mv_history.specs.Legal.{are_distinct}
 use Rattle.mv_history.specs.Meaning.{words_at}
@@ -14,7 +14,8 @@ use Rattle.tree_set.specs.Places.{redirect}
 use Rattle.tree_balance.specs.declared.steps.Step.{Step}
 use Rattle.tree_balance.specs.declared.steps.Step.TheVariants.{Rank, Rotate}
 use Rattle.tree_balance.specs.Steps.{step_writes, IsStep, stepped, after_steps, AreSteps, names, lowered, raised}
-use Rattle.tree_balance.specs.Drafts.{IsPlaceOf, merged_one, merged, IsDraft, Extends}
+use Rattle.tree_balance.specs.declared.plan.Plan.{Plan}
+use Rattle.tree_balance.specs.Drafts.{writes_in, IsPlaceOf, merged_one, merged, IsDraft, Extends}
 use Rattle.tree_balance.proofs.Merging.{merged-is, merged-none, merged-distinct, touches-merged, count-less, touches-merged_one}
 
 -- merged writes change the state as they do one after another
@@ -144,3 +145,7 @@ room_none xs n z ws le =
 
 pub merged_first : (xs : Writes) (n : ℕ) → n ≡ 0 → (ws : Writes) → are_distinct ws ≡ true → merged (take n xs) ws ≡ ws
 merged_first xs n z ws d = ap (λ (m : ℕ). merged (take m xs) ws) z ∙ merged-none ws d
+
+-- a plan has as many writes as it counts
+pub count_is : (plan : Plan) → length (writes_in plan) ≡ plan.count
+count_is plan = let few : plan.count ≤ 16 = plan.few in omega (arith, length-take plan.count plan.writes, few, plan.whole)

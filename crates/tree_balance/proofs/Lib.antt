@@ -8,3 +8,5 @@ pub mod Merging
 pub mod Drafting
 pub mod Making
 pub mod Planning
+pub mod Drifting
+pub mod Fitting

@@ -6,12 +6,12 @@ use Rattle.set_script.specs.Catalogue.{with_key}
 use Rattle.set_script.specs.CatalogueOf.{name_of, catalogue_of}
 use Rattle.set_script.specs.Lawful.{IsLawful}
 use Rattle.tree_set.specs.Places.{grow_writes}
-use Rattle.tree_balance.specs.declared.plan.AddOnWay.{AddOnWay}
+use Rattle.tree_balance.specs.declared.plan.Plan.{Plan}
 use Rattle.tree_balance.specs.declared.steps.Step.{Step}
 use Rattle.tree_balance.specs.Steps.{after_steps, AreSteps, names}
 
 -- the writes, in the order of locking
-abbrev pub writes_in : AddOnWay → Writes
+abbrev pub writes_in : Plan → Writes
 writes_in plan = take plan.count plan.writes
 
 -- the first of the writes of this object is here

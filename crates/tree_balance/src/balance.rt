@@ -7,7 +7,7 @@ ghost use Rattle.tree_set.specs.Forks.{EndsHere};
 ghost use Rattle.tree_set.specs.Places.{grow_writes};
 ghost use Rattle.tree_balance.specs.Drafts.{writes_in, Extends, IsAddOnWay};
 
-use crate::plan::AddOnWay;
+use crate::plan::Plan;
 use crate::steps::Step;
 use mv_history::{View, Words};
 use tree_set::Fork;
@@ -47,7 +47,7 @@ fn child_inside(parent: Words, child: u32, words: Words) -> u64 {
     }
 }
 
-impl AddOnWay {
+impl Plan {
     // The object of this number, with its words once they are written, if there is such an object.
     fn look<V: View>(&self, view: &mut V, object: u64) -> Option<(u32, Words)>
         requires distinct { are_distinct (writes_in self.now) ≡ true }
@@ -240,7 +240,7 @@ pub fn plan_add<V: View>(
     leaf: u32,
     inner: u32,
     most: usize,
-) -> AddOnWay
+) -> Plan
     requires root_from { 170 ≤ root }
     requires root_in { root < 180 }
     requires lawful { IsLawful (V.state view.old) }
@@ -255,7 +255,7 @@ pub fn plan_add<V: View>(
     ensures as_before { V.as_before view.old view.new }
 {
     let writes = fork.grow_writes(root, key, value, leaf, inner);
-    let mut plan = AddOnWay::of(&writes);
+    let mut plan = Plan::of(&writes);
     plan.rebalance(view, root, way, inner, most + 4);
     plan
 }

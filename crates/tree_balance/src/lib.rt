@@ -26,7 +26,9 @@
 //! as it is: there the writes are those of the add.
 //!
 //! [`steps_keep_the_tree`] says that steps keep all that a tree stands for, and [`steps_after_an_add`]
-//! that an add and steps after it, in one commit, keep what a commit of the sets must keep.
+//! that an add and steps after it, in one commit, keep what a commit of the sets must keep. Such a commit
+//! is fit ([`adds_with_steps_are_fit`]): it stays allowed whatever others commit that write none of its
+//! objects.
 //!
 //! No clause says how deep a tree is.
 //!
@@ -51,7 +53,7 @@ mod steps;
 mod way;
 
 pub use balance::{SHORT, plan_add};
-pub use laws::{steps_after_an_add, steps_keep_the_tree};
-pub use plan::AddOnWay;
+pub use laws::{adds_with_steps_are_fit, steps_after_an_add, steps_keep_the_tree};
+pub use plan::Plan;
 pub use steps::Step;
 pub use way::{MOST_REMEMBERED, Way, find_way};

@@ -9,32 +9,35 @@ ghost use Rattle.section_work.specs.Held.{count_unheld};
 use crate::steps::{Step, is_child, is_inner, is_parent, lowered, raised, redirected};
 use mv_history::{View, Words};
 
-/// The objects to lock, in this order, each with the words to write: at most 16.
+/// The objects to lock, in this order, each with the words to write: at most 16. No change of the sets writes more of them:
+/// a move writes 5, and an add to a tree as many more than its own 4 as [`plan_add`](crate::plan_add) is told.
 #[derive(Drop)]
-pub struct AddOnWay {
+pub struct Plan {
     writes: [(u32, Words); 16],
     count: usize,
     ghost few: { count ≤ 16 },
+    ghost whole: { length writes ≡ 16 },
 }
 
-impl AddOnWay {
+impl Plan {
     ghost use Rattle.tree_balance.specs.Drafts.{writes_in, IsPlaceOf, merged_one, merged, Extends};
 
     /// These writes, of at most four objects.
-    pub fn of(writes: &[(u32, Words)]) -> AddOnWay
+    pub fn of(writes: &[(u32, Words)]) -> Plan
         requires few { length writes.now ≤ 4 }
         requires distinct { are_distinct writes.now ≡ true }
         ensures writes { writes_in result ≡ writes.now }
     {
-        let mut plan = AddOnWay::nothing();
+        let mut plan = Plan::nothing();
         plan.write(writes);
         plan
     }
 
-    fn nothing() -> AddOnWay
+    /// No writes.
+    pub fn nothing() -> Plan
         ensures count { result.count ≡ 0 }
     {
-        AddOnWay {
+        Plan {
             writes: [(0, [0; 6]); 16],
             count: 0,
         }
@@ -54,9 +57,9 @@ impl AddOnWay {
         self.writes().len()
     }
 
-    // Takes these writes too. An object that is among its own keeps its place in the order, and gets the
-    // new words.
-    pub(crate) fn write(&mut self, changes: &[(u32, Words)])
+    /// Takes these writes too. An object that is among its own keeps its place in the order, and gets the
+    /// new words.
+    pub fn write(&mut self, changes: &[(u32, Words)])
         requires room { length (writes_in self.old) + count_unheld (writes_in self.old) (objects_of changes.now) ≤ 16 }
         ensures writes { writes_in self.new ≡ merged (writes_in self.old) changes.now }
     {

@@ -54,11 +54,11 @@ add-requires-clause-room g c =
     let there = has_key-some c.args.key c.in-Some.value (map_of c.args.source (catalogue_of (g.V.View.state c.args.view.now))) (sym has) in
     let dels = c.del-gone.ensures.writes c.args.key _ c.args.source c.requires.lawful c.search_near-from.ensures.name_in
     (omega (arith, c.ranges.key.fits)) c.search_near-from.ensures.ends there in
-    move_has_room (g.V.View.state c.args.view.now) c.args.source c.args.target c.args.key
+    let room = move_has_room (g.V.View.state c.args.view.now) c.args.source c.args.target c.args.key
     c.requires.lawful c.search_near-from.ensures.name_in c.search_near-to.ensures.name_in (omega (arith, c.ranges.key.fits)) c.in-Some.value has missed
     c.search_near-from.result c.search_near-from.ensures.ends
     c.nothing-plan.result c.del-gone.new.plan c.in-Some-vacant_for.picked.first _ _ _ c.search_near-to.result c.nothing-plan.ensures.count dels
-    c.del-gone.ensures.inner (c.before-picked.ensures.first ∙ c.del-gone.ensures.node) c.before-picked.ensures.second
+    c.del-gone.ensures.inner (c.before-picked.ensures.first ∙ c.del-gone.ensures.node) c.before-picked.ensures.second in omega (arith, room)
 
 pub returns-clause-found : goal.returns-clause-found
 returns-clause-found g c =
@@ -79,7 +79,7 @@ returns-clause-found g c =
     (g.met.V.View.as_long_before _ _ _ c.search_near-from.ensures.as_before c.search_near-to.ensures.as_before)) c.in-Some-vacant_for.ensures.none)
     (enough_same _ _ _ _ _ (g.met.V.View.same_state _ _
     (g.met.V.View.as_long_before _ _ _ c.search_near-from.ensures.as_before c.search_near-to.ensures.as_before)) c.in-Some-vacant_for.ensures.enough)
-    (c.before-picked.ensures.first ∙ c.del-gone.ensures.node) c.before-picked.ensures.second c.nothing-plan.ensures.count dels c.add.new.plan.few
+    (c.before-picked.ensures.first ∙ c.del-gone.ensures.node) c.before-picked.ensures.second c.nothing-plan.ensures.count dels
     (c.add.ensures.writes _ c.args.target c.requires.lawful c.search_near-to.ensures.name_in (omega (arith, c.ranges.key.fits)) to)
     (c.nothing-gone.ensures.node, c.nothing-gone.ensures.inner)
 

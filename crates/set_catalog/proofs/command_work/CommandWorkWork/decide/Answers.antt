@@ -40,4 +40,4 @@ returns-in-Settled-clause-found g c = λ last.
 pub returns-in-Open-clause-found : goal.returns-in-Open-clause-found
 returns-in-Open-clause-found g c =
     let found = rw (g.met.V.View.same_state _ _ c.answer.ensures.as_before) at c.in-Open.ensures.found in
-    (found.0, planned_as c.args.self.now.command (g.V.View.state c.args.view) c.in-Open.plan _ refl found.2)
+    (found.0, planned_as c.args.self.now.most c.args.self.now.command (g.V.View.state c.args.view) c.in-Open.plan _ refl found.2)

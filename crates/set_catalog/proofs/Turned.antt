@@ -1,0 +1,73 @@
+-- The plan of an add with steps after it, from where the search ended.
+use Rattle.std.proofs.Common.{◌≡◌, ◌≢◌, ℕ, zero, suc, ◌^◌, ◌<◌, ◌≤◌, length, inr, false, [], refl, sym, ◌∙◌, subst, arith}
+use Rattle.mv_history.specs.State.{State, Writes}
+use Rattle.set_script.specs.Catalogue.{map_of, has_key}
+use Rattle.set_script.specs.CatalogueOf.{catalogue_of}
+use Rattle.set_script.specs.Lawful.{IsLawful}
+use Rattle.set_script.specs.Objects.{owner}
+use Rattle.set_script.proofs.ObjectWords.{word}
+use Rattle.tree_set.specs.declared.search.Fork.{Fork}
+use Rattle.tree_set.proofs.Planning.{key_not}
+use Rattle.tree_balance.specs.declared.plan.Plan.{Plan}
+use Rattle.tree_balance.specs.Drafts.{IsAddOnWay}
+use Rattle.set_catalog.specs.Ends.{EndsAt, adds_at}
+use Rattle.set_catalog.specs.Merges.{writes_in, merged}
+use Rattle.set_catalog.specs.Needs.{taken, AreEnough}
+use Rattle.set_catalog.specs.Picks.{IsVacant}
+use Rattle.set_catalog.specs.Plans.{head_of, AddPlan, AddsWithin}
+use Rattle.set_catalog.specs.declared.ends.End.{End}
+use Rattle.set_catalog.specs.declared.ends.End.TheVariants.{Grown}
+use Rattle.set_catalog.proofs.EndFacts.{grown_has, grown_takes}
+use Rattle.set_catalog.proofs.EndPlans.{add_planned, grown_place}
+use Rattle.set_catalog.proofs.HeadNames.{head_below}
+use Rattle.set_catalog.proofs.Merging.{merged-none}
+use Rattle.set_catalog.proofs.PlanWays.{added_by, by_distinct}
+use Rattle.set_catalog.proofs.Planned.{adds_alone}
+
+module _ (s : State) (name k : ℕ) (l : IsLawful s) (lt : name < 30) (fit : k < 2 ^ 32) (missed : has_key k (map_of name (catalogue_of s)) ≡ false)
+    (v first second : ℕ) (enough : AreEnough s (taken name (map_of name (catalogue_of s))) first second) where
+  -- an add with no steps
+  pub planned_none : (most : ℕ) (end : End) (plan : Plan) → EndsAt s name k end → writes_in plan ≡ merged [] (adds_at s k v first second end)
+      → AddsWithin most s name k v first second (writes_in plan)
+  planned_none most end plan e is =
+      let add = add_planned s name k l lt fit end v first second e missed enough in
+      let d = added_by s name k lt fit v first second (adds_at s k v first second end) add in
+      let one = merged-none (adds_at s k v first second end) (by_distinct s (head_of name k) (head_below name k lt) l (adds_at s k v first second end) d) in
+      adds_alone most s name k v first second (writes_in plan)
+      (subst (λ (ws : Writes). AddPlan s name k v first second ws) (sym (is ∙ one)) add)
+
+  -- one in a tree that has keys
+  module _ (root : ℕ) (fork : Fork) (e : EndsAt s name k (Grown root fork)) where
+    pub fork_lacks : word 2 fork.words ≢ k
+    fork_lacks = key_not k (word 2 fork.words) (has_key k (map_of name (catalogue_of s))) (grown_has s name k root l lt e.1 fork e.0 e.2) missed
+
+    wants_two : 2 ≡ taken name (map_of name (catalogue_of s))
+    wants_two = grown_takes s name k root l lt e.1 fork e.0 e.2
+
+    pub fork_first : IsVacant s first
+    fork_first = let two = wants_two in enough.one (omega arith)
+
+    pub fork_second : IsVacant s second × (second ≢ first)
+    fork_second = let two = wants_two in enough.two (omega arith)
+
+    pub planned_turned : (most : ℕ) (ws : Writes) → most ≢ 0 → IsAddOnWay s root k v fork.parent fork.leaf first second most ws
+        → AddsWithin most s name k v first second ws
+    planned_turned zero ws some a = absurd (some refl)
+    planned_turned (suc n) ws some a = inr (record {
+      parent = fork.parent;
+      leaf = fork.leaf;
+      of_tree = e.0;
+      place = grown_place s name k l lt fit root fork e.0 e.1 e.2 missed;
+      first_vacant = fork_first;
+      second_vacant = fork_second.0;
+      other = fork_second.1;
+      adds = subst (λ (h : ℕ). IsAddOnWay s h k v fork.parent fork.leaf first second (suc n) ws) e.1 a;
+    })
+
+-- what holds in a state that is the same
+pub way_same : (s t : State) (root k v p n m w most : ℕ) (ws : Writes) → t ≡ s → IsAddOnWay t root k v p n m w most ws
+    → IsAddOnWay s root k v p n m w most ws
+way_same s t root k v p n m w most ws e a = subst (λ (u : State). IsAddOnWay u root k v p n m w most ws) e a
+
+pub vacant_same : (s t : State) (o : ℕ) → t ≡ s → IsVacant s o → (180 ≤ o) × (o < length t) × (owner t o ≡ 0)
+vacant_same s t o e v = subst (λ (u : State). (180 ≤ o) × (o < length u) × (owner u o ≡ 0)) (sym e) (v.node, v.in_range, v.free)

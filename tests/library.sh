@@ -36,6 +36,7 @@ moves='moves 100000 beside pairs 100000, none wrong'
 walks='walks 30000, each of one state'
 bank='transfers 100000, each sum 64000'
 list='changes 40000, each walk 64 keys'
+closing='closed 1061 domains, each with its last time'
 grace='replaced 20000, freed 20000, read none that was freed'
 under=()
 run=0
@@ -45,10 +46,11 @@ for compiler in gcc clang; do
     expect "bank by $compiler" "$bank" "$compiler" "${strict[@]}" -O2 examples/c/bank.c
     expect "list by $compiler" "$list" "$compiler" "${strict[@]}" -O2 examples/c/list.c
     expect "grace by $compiler" "$grace" "$compiler" "${strict[@]}" -O2 tests/library/grace.c
+    expect "closing by $compiler" "$closing" "$compiler" "${strict[@]}" -O2 tests/library/closing.c
     expect "calls on sets by $compiler" "$sets" "$compiler" "${strict[@]}" -O2 tests/library/sets_calls.c
     expect "moves by $compiler" "$moves" "$compiler" "${strict[@]}" -O2 tests/library/sets_moves.c
     expect "walks by $compiler" "$walks" "$compiler" "${strict[@]}" -O2 tests/library/sets_walks.c
-    run=$((run + 7))
+    run=$((run + 8))
 done
 if gcc "${strict[@]}" -O2 -pthread tests/library/single_steps.c -o "$room/single" 2>/dev/null && "$room/single"; then
     expect "calls in the middle of a call" "steps: " gcc "${strict[@]}" -O2 tests/library/sets_steps.c
@@ -64,7 +66,8 @@ if carries -fsanitize=address,undefined; then
     expect "calls under the address sanitizer" "$calls" gcc "${strict[@]}" -g -fsanitize=address,undefined tests/library/calls.c
     expect "calls on sets under the address sanitizer" "$sets" gcc "${strict[@]}" -g -fsanitize=address,undefined tests/library/sets_calls.c
     expect "grace under the address sanitizer" "$grace" gcc "${strict[@]}" -g -fsanitize=address,undefined tests/library/grace.c
-    run=$((run + 3))
+    expect "closing under the address sanitizer" "$closing" gcc "${strict[@]}" -g -fsanitize=address,undefined tests/library/closing.c
+    run=$((run + 4))
 fi
 if carries -fsanitize=thread; then
     sanitized=("${strict[@]}" -g -O1 -fsanitize=thread)
@@ -74,13 +77,15 @@ if carries -fsanitize=thread; then
     expect "random histories of sets under the thread sanitizer" "histories of sets 300: " gcc "${sanitized[@]}" -DHISTORIES=300 \
         tests/library/sets_histories.c
     expect "walks under the thread sanitizer" "walks 3000, " gcc "${sanitized[@]}" -DROUNDS=500 tests/library/sets_walks.c
-    run=$((run + 5))
+    expect "closing under the thread sanitizer" "closed 161 domains" gcc "${sanitized[@]}" -DROUNDS=100 tests/library/closing.c
+    run=$((run + 6))
 fi
 if command -v valgrind >/dev/null; then
     under=(valgrind -q --error-exitcode=9 --leak-check=full)
     expect "calls under valgrind" "$calls" gcc "${strict[@]}" -g tests/library/calls.c
     expect "calls on sets under valgrind" "$sets" gcc "${strict[@]}" -g tests/library/sets_calls.c
-    run=$((run + 2))
+    expect "closing under valgrind" "closed 81 domains" gcc "${strict[@]}" -g -DROUNDS=20 tests/library/closing.c
+    run=$((run + 3))
 else
     echo "library: valgrind isn't there, not run"
 fi

@@ -101,18 +101,31 @@ void seats_move_and_close() {
     WANT_THROWN(mvrlu::seat().tidy(), mvrlu::errc::closed);
     WANT_THROWN(mvrlu::seat().grace(), mvrlu::errc::closed);
     WANT_THROWN(mvrlu::seat().count(), mvrlu::errc::closed);
-    seats[0].close();
+    WANT(!seats[0].close());
     other = std::move(seats[1]);
     WANT(other.is_open() && get(other, 1) == 5);
     mvrlu::section section = other.enter();
     mvrlu::seat last = std::move(other);
     WANT(section.read(1)[0] == 5);
     mvrlu::section moved = std::move(section);
-    last.close();
-    last.close();
+    WANT(last.close() == mvrlu::time{1}); /* the other one was closed when it was assigned to */
+    WANT(!last.close());
     WANT(!last.is_open() && moved.is_over());
     WANT_THROWN(moved.read(1), mvrlu::errc::outside);
     WANT_THROWN(last.enter(), mvrlu::errc::closed);
+}
+
+void the_last_seat_tells_the_last_time() {
+    mvrlu::options options;
+    options.opening_time = MVRLU_TIME_MAX - 1;
+    mvrlu::seats seats = mvrlu::open(options, 3);
+    WANT(put(seats[1], 1, 5) == MVRLU_TIME_MAX);
+    WANT(!seats[1].close());
+    seats.pop_back();
+    WANT(seats[0].close() == mvrlu::time{MVRLU_TIME_MAX});
+    options.opening_time++;
+    options.opening_time++;
+    WANT_THROWN(mvrlu::open(options, 1), mvrlu::errc::bad_number);
 }
 
 void a_section_may_outlive_its_seat() {
@@ -241,6 +254,7 @@ int main() {
     vacant_objects();
     grace_is_held_back();
     seats_move_and_close();
+    the_last_seat_tells_the_last_time();
     a_section_may_outlive_its_seat();
     sections_end_by_themselves();
     misuse_is_thrown();

@@ -48,11 +48,11 @@ void seats_move_and_close() {
     WANT(other.get(t2, 5) == 50u && other.last().at == 1 && !other.last().committed);
     WANT_THROWN(seats[0].has(t2, 5), mvrlu::errc::closed);
     WANT_THROWN(mvrlu::sets().add(t2, 5), mvrlu::errc::closed);
-    seats[0].close();
+    WANT(!seats[0].close());
     other = std::move(seats[1]);
     WANT(other.is_open() && other.get(t2, 5) == 50u);
-    other.close();
-    other.close();
+    WANT(other.close() == mvrlu::time{1});
+    WANT(!other.close());
     WANT(!other.is_open());
     WANT_THROWN(mvrlu::open_sets({180, 64}, 1), mvrlu::errc::bad_number);
     WANT_THROWN(mvrlu::open_sets({}, 0), mvrlu::errc::bad_number);

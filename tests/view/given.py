@@ -1,9 +1,8 @@
-"""What the tests of the viewer share: the stored plans and texts, and how a fault is told."""
+"""What the tests of the viewer share: the plans and texts, and how a fault is told."""
 import collections
 import contextlib
 import io
 import pathlib
-import re
 import sys
 
 from view.command import main
@@ -28,11 +27,10 @@ def samples(top):
         yield path.stem, read_plan(path.name, path.read_text()), path.with_suffix(".text").read_text()
 
 
-def plans(top):
-    """Each plan of tests/plans with its stored answers."""
-    for path in sorted((pathlib.Path(top) / "tests/plans").glob("*/*.plan")):
-        answers = path.parent / (re.sub(r"-\d\d$", "", path.stem) + ".answers")
-        yield path, read_plan(path.name, path.read_text()), answers.read_text().splitlines()
+def plans(scratch):
+    """Each plan that tests/plans/write has written there, with its answers."""
+    for path in sorted((pathlib.Path(scratch) / "plans").glob("*/*.plan")):
+        yield path, read_plan(path.name, path.read_text()), path.with_suffix(".answers").read_text().splitlines()
 
 
 def run_of(plan):

@@ -1,4 +1,4 @@
-"""The model's runs against what is stored: the texts of samples/replay, and the answers of tests/plans."""
+"""The model's runs against the texts of samples/replay, and against the answers of the schedules of runtime_tests."""
 import collections
 import sys
 
@@ -7,7 +7,7 @@ from view.kinds import KINDS
 from view.replay_model import replay_model
 from view.replay_text import read_text
 
-top = sys.argv[1]
+top, scratch = sys.argv[1:3]
 wrong, kinds, steps, count = [], collections.Counter(), 0, 0
 for name, plan, text in samples(top):
     _, events = run_of(plan)
@@ -19,16 +19,16 @@ for name, plan, text in samples(top):
     if len(model["steps"]) + len(answers) != text.count("\n") or [step.line for step in model["steps"]] != [
             line for line in text.splitlines() if line.split()[1].isdigit() and not line.startswith("end")]:
         wrong.append(f"{name}: the page has other steps")
-for path, plan, answers in plans(top):
+for path, plan, answers in plans(scratch):
     _, events = run_of(plan)
     said = [event.line for event in events if event.sort != "step"]
     if not answers[-1].startswith("end "):
         said.pop()
     if said != answers:
-        wrong.append(f"{path.name}: other answers than the stored ones")
+        wrong.append(f"{path.name}: other answers than those of the table")
     model = replay_model(path.stem, plan)
     wrong += [f"{path.name}: {fault['said']}" for fault in model["faults"]]
     kinds.update(event.made.kind for event in events if event.sort == "step")
     steps, count = steps + len(model["steps"]), count + 1
 wrong += [f"no plan makes the step {kind.name}" for name, kind in KINDS.items() if not kinds[name]]
-finish(wrong, f"{count} plans have the stored answers, with {steps} steps of {len(kinds)} kinds")
+finish(wrong, f"{count} plans have the answers of their tables, with {steps} steps of {len(kinds)} kinds")

@@ -109,8 +109,8 @@ def put(place, name, body):
     return before
 
 
-top = sys.argv[1]
-given = [plan for _, plan, _ in samples(top)] + [plan for path, plan, _ in plans(top)][::6]
+top, scratch = sys.argv[1:3]
+given = [plan for _, plan, _ in samples(top)] + [plan for path, plan, _ in plans(scratch)][::6]
 wrong, found = [], set()
 if broken_by(given):
     wrong.append("the right calls break a fact")

@@ -1,14 +1,8 @@
 -- What a transfer plans in a section that holds nothing.
-use Rattle.std.proofs.Common.{◌≡◌, ◌≢◌, ℕ, ◌+◌, ◌-◌, ◌<◌, ◌≤◌, true, List, [], ◌∷◌, length, refl, arith}
-use Rattle.std.proofs.lemmas.Bool.Decides.{nat_tests}
-use Rattle.mv_history.specs.State.{State}
-use Rattle.mv_history.specs.Legal.{are_distinct, AreWithin}
-use Rattle.accounts.specs.Layout.{words_of, account_of}
-use Rattle.accounts.specs.Rules.{balance, IsTransfer}
-use Rattle.accounts.proofs.Fits.{transfer-fit}
 use Rattle.section_work.specs.Works.{IsPlanned}
-use Rattle.accounts.specs.Transfers.{transfer_tag, transfer_meaning}
-use Rattle.accounts.specs.declared.transfer_work.Found.TheVariants.{Enough}
+use Rattle.std.proofs.Common.{◌≡◌, ◌≢◌, ◌+◌, ◌-◌, ◌<◌, ◌≤◌, ◌∷◌, ℕ, true, List, [], length, refl, arith}
+use Rattle.accounts.proofs.Terms.{nat_tests, State, are_distinct, AreWithin, words_of, account_of, balance, IsTransfer, transfer_tag, transfer_meaning, Enough}
+use Rattle.accounts.proofs.Fits.{transfer-fit}
 
 two_distinct : (a b : ℕ) (x y : List ℕ) → a ≢ b → are_distinct ((a, x) ∷ (b, y) ∷ []) ≡ true
 two_distinct a b x y n = grind (arith, nat_tests)

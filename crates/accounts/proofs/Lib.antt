@@ -1,3 +1,4 @@
+pub mod Terms
 pub mod Totals
 pub mod Fits
 pub mod Sections

@@ -1,21 +1,14 @@
 -- What an attempt of a transfer leaves, from what it leaves as a work.
-use Rattle.std.proofs.Common.{◌≡◌, ℕ, ◌+◌, ◌-◌, ◌==◌, true, List, refl, ap, ◌∙◌, subst, arith}
-use Rattle.std.proofs.lemmas.Bool.Decides.{nat_tests}
-use Rattle.mv_history.specs.State.{state_at}
-use Rattle.mv_history.specs.Meaning.{Seat, IsSeat, IsWorn}
-use Rattle.mv_history.proofs.Steps.{length-seen}
 use Rattle.mv_history.proofs.Committed.{allowed_there}
 use Rattle.section_work.specs.declared.place.Place.{Place}
 use Rattle.section_work.specs.declared.place.Place.TheVariants.{Commit as AtCommit, Read}
-use Rattle.section_work.specs.declared.causes.Cause.{Cause}
 use Rattle.section_work.specs.Causes.{Causes}
-use Rattle.section_work.specs.Attempts.{IsDoneAt, IsReadAt, GivesUp, Attempted}
-use Rattle.section_work.specs.declared.attempting.Attempt.{Attempt}
-use Rattle.section_work.specs.declared.attempting.Attempt.TheVariants.{Done, Again}
+use Rattle.section_work.specs.Attempts.{IsDoneAt, IsReadAt, Attempted}
+use Rattle.section_work.specs.declared.attempting.Attempt.TheVariants.{Done}
+use Rattle.std.proofs.Common.{◌≡◌, ◌+◌, ◌-◌, ◌==◌}
+use Rattle.accounts.proofs.Terms.{ℕ, true, List, refl, ap, ◌∙◌, subst, arith, nat_tests, state_at, Seat, IsSeat, IsWorn, length-seen, Enough, Short, Late}
+use Rattle.accounts.proofs.Terms.{balance, from_of, IsOpening, IsTransfer, transfer_meaning}
 use Rattle.accounts.specs.declared.transfer_work.Found.{Found}
-use Rattle.accounts.specs.declared.transfer_work.Found.TheVariants.{Enough, Short, Late}
-use Rattle.accounts.specs.Rules.{balance, from_of, IsOpening, IsTransfer}
-use Rattle.accounts.specs.Transfers.{transfer_meaning}
 use Rattle.accounts.specs.Attempts.{attempt_of, IsDone, IsShort, Answers}
 
 module _ (k : Causes) (old new : Seat) (law : IsSeat IsOpening IsTransfer new) (tag : List ℕ) where
@@ -61,17 +54,10 @@ module _ (k : Causes) (old new : Seat) (law : IsSeat IsOpening IsTransfer new) (
       let e = r.enters.enters in
       (r.mine, omega (arith, at_end time new.last r.settles.1, r.time_is, e.continues.base, e.at, length-seen e.continues, law.time))
 
-  -- What an attempt answers, by what it leaves as a work.
-  pub answered_is : (a : Attempt Found) (found : Found) (place : Place) → a ≡ Done found place → Attempted k (transfer_meaning tag) old new a
+  -- What an attempt answers that is done, by what it leaves as a work.
+  pub answered_is : (found : Found) (place : Place) → Attempted k (transfer_meaning tag) old new (Done found place)
       → Answers k old new tag (attempt_of found place)
-  answered_is a found place e h = go found place (subst (λ (x : Attempt Found). Attempted k (transfer_meaning tag) old new x) e h)
-    where
-      go : (f : Found) (p : Place) → Attempted k (transfer_meaning tag) old new (Done f p) → Answers k old new tag (attempt_of f p)
-      go f (AtCommit time) h = done_is f time h
-      go Enough (Read time) h = absurd h.settles
-      go (Short had) (Read time) h = short_is had time h
-      go Late (Read time) h = worn_is time h
-
-  pub refused_is : (a : Attempt Found) (cause : Cause) → a ≡ Again cause → Attempted k (transfer_meaning tag) old new a
-      → GivesUp k (transfer_meaning tag) old new cause
-  refused_is a cause e h = subst (λ (x : Attempt Found). Attempted k (transfer_meaning tag) old new x) e h
+  answered_is found (AtCommit time) h = done_is found time h
+  answered_is Enough (Read time) h = absurd h.settles
+  answered_is (Short had) (Read time) h = short_is had time h
+  answered_is Late (Read time) h = worn_is time h

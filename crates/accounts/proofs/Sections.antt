@@ -1,11 +1,8 @@
 -- What a section of the accounts reads.
-use Rattle.std.proofs.Common.{◌≡◌, ◌≢◌, ℕ, ◌+◌, ◌^◌, ◌<◌, ◌≤◌, [], length, ap, ◌∙◌, arith}
-use Rattle.accounts.specs.declared.rules.TheConstants.{ACCOUNTS}
-use Rattle.mv_history.specs.State.{State}
-use Rattle.mv_history.specs.Meaning.{InSection, IsSection, state_of}
 use Rattle.mv_history.proofs.Snapshots.{length-state_of}
-use Rattle.section_work.proofs.Entering.{reads_snapshot}
-use Rattle.accounts.specs.Rules.{balance, total, IsOpening, IsTransfer}
+use Rattle.std.proofs.Common.{◌≡◌, ◌≢◌, ◌+◌, ◌^◌, ◌<◌, ◌≤◌}
+use Rattle.accounts.proofs.Terms.{ℕ, [], length, ap, ◌∙◌, arith, State, InSection, IsSection, state_of, reads_snapshot, balance, total, IsOpening, IsTransfer}
+use Rattle.accounts.specs.declared.rules.TheConstants.{ACCOUNTS}
 use Rattle.accounts.proofs.Totals.{total-state_at, balances-le}
 
 abbrev pub IsLawful : InSection → Type 0

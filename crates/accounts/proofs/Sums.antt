@@ -1,13 +1,8 @@
 -- Sums, one after another.
-use Rattle.std.proofs.Common.{◌≡◌, ◌+◌, List, [], ◌∷◌, ◌++◌, refl, sym, ap, subst, ◌∙◌, arith}
-use Rattle.mv_history.specs.State.{State}
-use Rattle.mv_history.specs.Meaning.{Seat, InSection, state_of}
-use Rattle.mv_history.specs.Calls.{Continues, Enters, IsAsBefore, Leaves}
-use Rattle.mv_history.proofs.Steps.{Continues-Continues, length-seen, state_at-later}
+use Rattle.std.proofs.Common.{◌≡◌, ◌+◌, ◌∷◌, ◌++◌}
+use Rattle.accounts.proofs.Terms.{List, [], refl, sym, ap, subst, ◌∙◌, arith, State, Seat, InSection, state_of, Continues, Enters, IsAsBefore, Leaves}
+use Rattle.accounts.proofs.Terms.{Continues-Continues, length-seen, state_at-later, total, IsSum, ReadsEach, reads_snapshot}
 use Rattle.accounts.specs.declared.reading.SumAt.{SumAt}
-use Rattle.accounts.specs.Rules.{total}
-use Rattle.accounts.specs.Repeats.{IsSum, ReadsEach}
-use Rattle.section_work.proofs.Entering.{reads_snapshot}
 use Rattle.accounts.proofs.Sections.{IsLawful}
 
 -- a sum that a section read which then left

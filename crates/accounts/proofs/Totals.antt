@@ -1,14 +1,10 @@
 -- Transfers keep the total.
-use Rattle.std.proofs.Common.{◌≡◌, ◌≢◌, ℕ, ◌+◌, ◌-◌, ◌<◌, ◌≤◌, List, [], length, set, refl, sym, ap, ◌∙◌, arith}
-use Rattle.std.proofs.Common.{length-set, get_or-set_other}
 use Rattle.std.proofs.lemmas.List.Sums.{sum_by-set, get_or-le-sum_by}
 use Rattle.mv_history.specs.declared.history.Entry.{Entry}
-use Rattle.mv_history.specs.State.{State, Writes, written, state_after, state_at}
-use Rattle.mv_history.specs.Legal.{IsAllowed}
-use Rattle.mv_history.specs.Meaning.{Seat, IsSeat}
 use Rattle.mv_client.proofs.Invariants.{keeps_after, keeps_at}
-use Rattle.accounts.specs.Layout.{words_of, account_of}
-use Rattle.accounts.specs.Rules.{balance_of, balance, total, IsOpening, from_of, to_of, amount_of, IsTransfer}
+use Rattle.std.proofs.Common.{◌≡◌, ◌≢◌, ◌+◌, ◌-◌, ◌<◌, ◌≤◌, ℕ, List, [], length, set, refl, sym, ap, ◌∙◌, arith, length-set, get_or-set_other}
+use Rattle.accounts.proofs.Terms.{State, Writes, written, state_after, state_at, IsAllowed, Seat, IsSeat, words_of, account_of, balance_of, balance, total}
+use Rattle.accounts.proofs.Terms.{IsOpening, from_of, to_of, amount_of, IsTransfer}
 
 -- an account that gets another balance changes the total by the difference
 total-set : (s : State) (a b : ℕ) → a < length s → total (set s a (words_of (account_of b))) + balance s a ≡ total s + b

@@ -1,19 +1,15 @@
 -- What an attempt of a transfer leaves, by its answer.
-use Rattle.std.specs.Prelude.{◌≡◌, ℕ, ◌+◌, ◌-◌, ◌<◌, ◌≤◌, List, [], ◌∷◌, ◌++◌, length}
 use Rattle.mv_history.specs.declared.history.Commit.{Commit}
 use Rattle.mv_history.specs.declared.history.Entry.TheVariants.{Change}
-use Rattle.mv_history.specs.State.{state_at}
-use Rattle.mv_history.specs.Meaning.{Seat, InSection, IsWorn}
-use Rattle.mv_history.specs.Calls.{Continues, IsEntryAt}
 use Rattle.section_work.specs.declared.place.Place.{Place}
 use Rattle.section_work.specs.declared.place.Place.TheVariants.{Commit as AtCommit, Read}
 use Rattle.section_work.specs.Causes.{Causes}
 use Rattle.section_work.specs.Sections.{TriesOne}
 use Rattle.section_work.specs.Attempts.{Enters, GivesUp}
+use Rattle.std.specs.Prelude.{◌≡◌, ◌+◌, ◌-◌, ◌<◌, ◌≤◌, ◌∷◌, ◌++◌}
+use Rattle.accounts.specs.Terms.{ℕ, List, [], length, state_at, Seat, InSection, IsWorn, Continues, IsEntryAt, Found, Enough, TooLittle, Late}
 use Rattle.accounts.specs.declared.attempt.Attempt.{Attempt}
 use Rattle.accounts.specs.declared.attempt.Attempt.TheVariants.{Done, Short, Refused, End}
-use Rattle.accounts.specs.declared.transfer_work.Found.{Found}
-use Rattle.accounts.specs.declared.transfer_work.Found.TheVariants.{Enough, Short as TooLittle, Late}
 use Rattle.accounts.specs.Rules.{balance, from_of, amount_of, IsTransfer}
 use Rattle.accounts.specs.Transfers.{transfer_meaning}
 

@@ -1,5 +1,5 @@
 -- What the words of an account say.
-use Rattle.std.specs.Prelude.{ℕ, List, [], ◌∷◌, slice_index}
+use Rattle.std.specs.Prelude.{◌∷◌, ℕ, List, [], slice_index}
 use Rattle.accounts.specs.declared.layout.Account.{Account}
 use Rattle.accounts.specs.declared.layout.TheConstants.{BALANCE}
 

@@ -1,8 +1,7 @@
 -- What repeated transfers and sums leave.
-use Rattle.std.specs.Prelude.{◌≡◌, ℕ, ◌+◌, ◌<◌, ◌≤◌, List, [], ◌∷◌, length, All}
-use Rattle.mv_history.specs.State.{state_at}
-use Rattle.mv_history.specs.Meaning.{Seat, InSection, IsWorn}
-use Rattle.mv_history.specs.Calls.{Continues, Enters}
+use Rattle.mv_history.specs.Calls.{Enters}
+use Rattle.std.specs.Prelude.{◌≡◌, ◌+◌, ◌<◌, ◌≤◌, ◌∷◌}
+use Rattle.accounts.specs.Terms.{ℕ, List, [], length, All, state_at, Seat, InSection, IsWorn, Continues}
 use Rattle.accounts.specs.declared.reading.SumAt.{SumAt}
 use Rattle.accounts.specs.Rules.{total}
 

@@ -1,9 +1,7 @@
 -- Which states the accounts open with, and which commits are transfers.
-use Rattle.std.specs.Prelude.{◌≡◌, ◌≢◌, ℕ, ◌+◌, ◌-◌, ◌^◌, ◌<◌, ◌≤◌, List, [], ◌∷◌, length, slice_index, sum_by}
-use Rattle.accounts.specs.declared.rules.TheConstants.{ACCOUNTS}
+use Rattle.std.specs.Prelude.{◌≡◌, ◌≢◌, ◌+◌, ◌-◌, ◌^◌, ◌<◌, ◌≤◌, ◌∷◌}
+use Rattle.accounts.specs.Terms.{ℕ, List, [], length, slice_index, sum_by, ACCOUNTS, State, Writes, words_at}
 use Rattle.accounts.specs.Layout.{words_of, account_in, account_of}
-use Rattle.mv_history.specs.State.{State, Writes}
-use Rattle.mv_history.specs.Meaning.{words_at}
 
 -- the balance that the words of an account say
 abbrev pub balance_of : List ℕ → ℕ

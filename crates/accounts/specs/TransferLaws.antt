@@ -1,7 +1,6 @@
 -- That a commit of a transfer makes it.
-use Rattle.std.specs.Prelude.{ℕ, List, refl}
 use Rattle.std.proofs.Common.{subst}
-use Rattle.mv_history.specs.State.{State, Writes, written}
+use Rattle.accounts.specs.Terms.{ℕ, List, refl, State, Writes, written}
 use Rattle.accounts.specs.Rules.{IsTransfer}
 use Rattle.accounts.specs.Transfers.{PlansTransfer, MakesTransfer}
 

@@ -1,10 +1,8 @@
 -- What a transfer means, as a unit of work.
-use Rattle.std.specs.Prelude.{ℕ, ◌≡◌, ◌≢◌, ◌<◌, ◌≤◌, true, Bool, List, [], ◌∷◌}
-use Rattle.mv_history.specs.State.{State, Writes, written}
 use Rattle.section_work.specs.Works.{Meaning}
-use Rattle.accounts.specs.declared.rules.TheConstants.{ACCOUNTS}
-use Rattle.accounts.specs.declared.transfer_work.Found.{Found}
-use Rattle.accounts.specs.declared.transfer_work.Found.TheVariants.{Enough, Short, Late}
+use Rattle.std.specs.Prelude.{◌≡◌, ◌≢◌, ◌<◌, ◌≤◌, ◌∷◌}
+use Rattle.accounts.specs.Terms.{ℕ, true, Bool, List, [], State, Writes, written, ACCOUNTS, Found, Enough, Late}
+use Rattle.accounts.specs.declared.transfer_work.Found.TheVariants.{Short}
 use Rattle.accounts.specs.Rules.{balance, from_of, amount_of, IsTransfer}
 
 -- some amount, between two different accounts

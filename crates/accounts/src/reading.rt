@@ -1,8 +1,7 @@
 // The sum of all accounts, and the law that it never changes.
-ghost use Rattle.std.specs.Prelude.{◌≡◌, ℕ, ◌^◌, ◌<◌, length};
+ghost use Rattle.std.specs.Prelude.{◌≡◌, ◌^◌, ◌<◌};
+ghost use Rattle.accounts.specs.Terms.{ℕ, length, state_at, Continues};
 ghost use Rattle.accounts.specs.declared.rules.TheConstants.{ACCOUNTS as how_many};
-ghost use Rattle.mv_history.specs.State.{state_at};
-ghost use Rattle.mv_history.specs.Calls.{Continues};
 ghost use Rattle.accounts.specs.Repeats.{IsSum};
 ghost use Rattle.accounts.specs.Rules.{total as total_of};
 

@@ -12,6 +12,7 @@ use Rattle.mv_core.specs.HistoryFacts.{BeginsWith}
 use Rattle.mv_layout.specs.declared.Config.{Config}
 use Rattle.accounts.specs.declared.reading.SumAt.{SumAt}
 use Rattle.accounts.specs.Rules.{total, IsTransfer}
+use Rattle.accounts.specs.declared.rules.TheConstants.{ACCOUNTS}
 use Rattle.accounts.specs.Repeats.{IsSum, ReadsEach}
 use Rattle.accounts.proofs.Totals.{total-history}
 use Rattle.accounts_run.specs.declared.teller.Teller.{Teller}
@@ -19,6 +20,7 @@ use Rattle.accounts_run.specs.Runs.{Served, IsServed, IsSumOf, IsRunOf}
 use Rattle.mvrlu.specs.Causes.{Took}
 use Rattle.mvrlu.specs.Opened.{new_seat}
 use Rattle.mvrlu.specs.Whole.{Whole, last_state}
+use Rattle.domain_run.specs.Numbers.{numbers_for}
 use Rattle.domain_run.specs.Runs.{RanOn, IsRun}
 use Rattle.domain_loan.proofs.Rows.{place_below, at_below}
 
@@ -58,7 +60,7 @@ module _ (w : Whole) (opening : ℕ) (met : Seat) (begins : BeginsWith w.history
 
 module _ (home : List ℕ) (c : Config) (start : State) (olds news : List Teller) (met : List Seat) (w : Whole) (opening : ℕ) (is : total start ≡ opening)
     (ran : IsRun (Served Took) IsTransfer home c start olds news met w) where
-  served : (k : ℕ) (o n : Teller) (s : Seat) → RanOn (Served Took) (new_seat home c start k) s w o n → IsServed opening w k o n
+  served : (k : ℕ) (o n : Teller) (s : Seat) → RanOn (Served Took) (new_seat home c start k) s w o n → IsServed home opening w k o n
   served k o n s on =
       let d = on.did in
       let moves = d.moves in
@@ -67,10 +69,10 @@ module _ (home : List ℕ) (c : Config) (start : State) (olds news : List Teller
       let few = ap length begins.1 ∙ length-append s.seen begins.0 in
       let long = length-seen reads.continues in
       record {
-        first = new_seat home c start k;
         met = s;
-        fresh = (refl, refl, refl);
-        served = d;
+        named = on.named;
+        seen = on.seen;
+        served = subst (λ f. Served Took f s o n) (sym (λ i. new_seat home (ran.config i) (ran.opening i) k)) d;
         made = omega (arith, moves.mine, ap length on.mine, ap length reads.mine);
         most = moves.most;
         all = λ less.
@@ -81,11 +83,14 @@ module _ (home : List ℕ) (c : Config) (start : State) (olds news : List Teller
             (λ sum e. e ∙ ap total moves.continues.start ∙ is) n.read.items reads.same);
       }
 
-  pub run_of : length olds ≡ c.seats → IsRunOf opening olds news w
-  run_of many = record {
+  pub run_of : c ≡ numbers_for (length olds) ACCOUNTS 2 → IsRunOf opening olds news w
+  run_of numbers = record {
+    config = ran.config ∙ numbers;
+    numbered = ran.numbered;
+    home = home;
     allowed = ran.allowed;
     opens = ap total ran.opening ∙ is;
-    makers = subst (λ (n : ℕ). All (λ e. maker_of e < n) w.history) (sym many) ran.makers;
+    makers = subst (λ (n : ℕ). All (λ e. maker_of e < n) w.history) (ap (λ (n : Config). n.seats) numbers) ran.makers;
     many = ran.many;
     each = λ k n e.
         let below = place_below news k n e in

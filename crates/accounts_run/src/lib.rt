@@ -12,7 +12,8 @@
 //! - each commit of the history is a transfer, and each transfer that a teller counts is one of the commits of its number;
 //!   there are no others. A teller made fewer than it was asked for only where the last time was reached;
 //! - each sum that a teller read is that of the state of the history at the time that is told, and each was read in a
-//!   section of its own, entered behind the one before;
+//!   section of its own, entered behind the one before, between the new seat of the teller's number and the one that
+//!   met. The closing tells of that seat with its steps, so no sum is told that wasn't read;
 //! - each of these sums, and that of the last state, is the opening sum.
 //!
 //! Which transfers are made isn't said, only that each follows the rules: a clause on turns would repeat the

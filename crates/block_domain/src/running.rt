@@ -9,7 +9,7 @@ ghost use Rattle.block_workers.specs.BlockRuns.{AllRanBlocks};
 ghost use Rattle.block_workers.specs.Workers.{blocks_of, count_of};
 ghost use Rattle.block_workers.specs.BlockLinks.{AllLinkedBlocks};
 ghost use Rattle.set_blocks.specs.BlockRules.{IsBlockCommit};
-ghost use Rattle.domain_loan.specs.Met.{AreTablesOf, MetAlong};
+ghost use Rattle.domain_loan.specs.Met.{MetAlong};
 ghost use Rattle.domain_loan.specs.New.{AreNewFrom};
 ghost use Rattle.domain_loan.specs.Shown.{handle_causes};
 ghost use Rattle.domain_lines.specs.Joined.{past_of_whole};
@@ -17,7 +17,6 @@ ghost use Rattle.block_domain.specs.Whole.{BlocksRunOf};
 
 use block_workers::run_blocks;
 use domain_loan::{lend_all, meet_all, take_back};
-use mv_history::LogTable;
 use mvrlu::{Closing, Domain, Seat};
 use run_outside::Gate;
 use run_report::Line;
@@ -33,8 +32,8 @@ use std::thread::Threads;
 /// is as many objects as a block locks or holds at most. `gate` is called around each block, with the number of its first
 /// command.
 ///
-/// It answers the closing of the domain, the lines, whose order is left open (`order` of `run_report` orders them), and
-/// the tables of the logs by seat. They are those of one run in the closing's history: the replies of a block are those
+/// It answers the closing of the domain, which has the tables of the logs by seat, and the lines, whose order is left open
+/// (`order` of `run_report` orders them). They are those of one run in the closing's history: the replies of a block are those
 /// that the sequential catalogue gives at the block's printed place, and each commit of the history has exactly one block.
 ///
 /// Each seat went along the chain of its lines, from the one that `open` gave to one that met (`MetAlong`), and the
@@ -50,7 +49,7 @@ pub fn run_block_domain<R: Threads + Wait + Sync, G: Gate>(
     scripts: &[Vec<Block>],
     gate: &G,
 ) -> Result<
-    (Closing<BlockRules>, Vec<Line>, Vec<LogTable>),
+    (Closing<BlockRules>, Vec<Line>),
     (Domain<BlockRules>, Vec<Seat<BlockRules>>, AllocError),
 >
     requires new { AreNewFrom domain 0 (map seat_of seats.items) }
@@ -61,27 +60,24 @@ pub fn run_block_domain<R: Threads + Wait + Sync, G: Gate>(
     requires most { 40 ≤ (numbers_of domain).write_max }
     ensures ran { IfOk result (λ done.
         BlocksRunOf (past_of_whole (whole_of done.0)) (map blocks_of scripts.now) done.1.items (catalogue_of (last_state (whole_of done.0)))
-        done.2.items) }
+        (whole_of done.0).tables) }
     ensures linked { IfOk result (λ done. MetAlong
         (λ firsts met. AllLinkedBlocks (handle_causes IsOpening IsBlockCommit) firsts met (map blocks_of scripts.now) done.1.items)
-        IsBlockCommit (numbers_of domain) (opening_of domain) (map seat_of seats.items) done.2.items (whole_of done.0)) }
+        IsBlockCommit (numbers_of domain) (opening_of domain) (map seat_of seats.items) (whole_of done.0)) }
     ensures opening { IfOk result (λ done.
         ((whole_of done.0).start ≡ opening_of domain) × ((whole_of done.0).base ≡ (numbers_of domain).base)) }
     ensures err { IfErr result (λ refused. (refused.0 ≡ domain) × (map seat_of refused.1.items ≡ map seat_of seats.items)) }
 {
     match run_seats(rt, alloc, &domain, seats, scripts, gate) {
-        Ok((seats, lines, tables)) => Ok((meet_all(domain, seats), lines, tables)),
+        Ok((seats, lines)) => Ok((meet_all(domain, seats), lines)),
         Err((seats, error)) => Err((domain, seats, error)),
     }
 }
 
-// What a run of the seats leaves: the seats, the lines and the tables; or the seats as they were.
-type FromSeats = Result<
-    (Vec<Seat<BlockRules>>, Vec<Line>, Vec<LogTable>),
-    (Vec<Seat<BlockRules>>, AllocError),
->;
+// What a run of the seats leaves: the seats and the lines; or the seats as they were.
+type FromSeats = Result<(Vec<Seat<BlockRules>>, Vec<Line>), (Vec<Seat<BlockRules>>, AllocError)>;
 
-// Runs a script of blocks on each seat, and takes the tables of their logs.
+// Runs a script of blocks on each seat.
 fn run_seats<R: Threads + Wait + Sync, G: Gate>(
     rt: &R,
     alloc: Global,
@@ -97,15 +93,11 @@ fn run_seats<R: Threads + Wait + Sync, G: Gate>(
     ensures ran { IfOk result (λ done. AllRanBlocks (map seat_of seats.items) (map seat_of done.0.items) (map blocks_of scripts.now) done.1.items) }
     ensures linked { IfOk result (λ done. AllLinkedBlocks (handle_causes IsOpening IsBlockCommit) (map seat_of seats.items) (map seat_of done.0.items)
         (map blocks_of scripts.now) done.1.items) }
-    ensures tables { IfOk result (λ done. AreTablesOf (map seat_of done.0.items) done.2.items) }
     ensures err { IfErr result (λ refused. map seat_of refused.0.items ≡ map seat_of seats.items) }
 {
     let (handles, left) = lend_all(alloc, domain, seats)?;
     match run_blocks(rt, alloc, handles, scripts, gate) {
-        Ok((handles, lines)) => {
-            let (seats, tables) = take_back(handles, left);
-            Ok((seats, lines, tables))
-        }
-        Err((handles, error)) => Err((take_back(handles, left).0, error)),
+        Ok((handles, lines)) => Ok((take_back(handles, left), lines)),
+        Err((handles, error)) => Err((take_back(handles, left), error)),
     }
 }

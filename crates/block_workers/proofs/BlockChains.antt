@@ -1,15 +1,10 @@
 -- A chain of blocks is a run.
-use Rattle.std.proofs.Common.{◌≡◌, ℕ, ◌+◌, ◌≤◌, List, [], ◌∷◌, ◌++◌, length, map, refl, sym, ap, ◌∙◌, subst, arith, append_assoc}
-use Rattle.std.specs.List.{flat_map}
-use Rattle.std.proofs.lemmas.List.{append-nil}
 use Rattle.mv_history.proofs.Steps.{Continues-Continues}
-use Rattle.script_workers.proofs.Terms.{Commit, Seat, Continues, Continues-itself, Causes, Place, Command, Reply, time_of, past_of, Answer, Chain, DidAll}
-use Rattle.script_workers.proofs.Terms.{HaveNumbers, answered}
-use Rattle.script_workers.proofs.Places.{follows_earlier}
-use Rattle.block_workers.specs.BlockLinks.{LinkedDone}
-use Rattle.block_workers.specs.BlockLines.{DoneBlock, done_of, lines_of, row_in}
-use Rattle.block_workers.specs.BlockRuns.{BlockPlaceOf, BlocksOf, RanBlocks}
-use Rattle.block_workers.proofs.BlockPlaces.{linked_ran, block_later, block_seen}
+use Rattle.std.proofs.Common.{◌≡◌, ◌+◌, ◌≤◌, ◌∷◌, ◌++◌}
+use Rattle.block_workers.proofs.Terms.{ℕ, List, [], length, map, refl, sym, ap, ◌∙◌, subst, arith, append_assoc, flat_map, append-nil, Commit, Seat, Continues}
+use Rattle.block_workers.proofs.Terms.{Continues-itself, Causes, Place, Command, Reply, time_of, past_of, Answer, Chain, DidAll, HaveNumbers, answered}
+use Rattle.block_workers.proofs.Terms.{follows_earlier, LinkedDone, DoneBlock, done_of, lines_of, row_in, BlockPlaceOf, BlocksOf, RanBlocks, placed_later}
+use Rattle.block_workers.proofs.BlockPlaces.{linked_ran, block_longer}
 
 -- From a seat on these blocks were done, the first of this number and following this time.
 record RanFrom (s t : Seat) (number before : ℕ) (blocks : List (List Command)) (done : List DoneBlock) : Type 0 where
@@ -32,7 +27,7 @@ ran_from k s u number before (i ∷ blocks) (d ∷ ds) le c n =
     let place : Place = d.done.0 in
     let ran = linked_ran k s t i place d.done.1 c.1 in
     let same : t.number ≡ s.number = ran.continues.number in
-    let rest = ran_from k t u (number + length i) (time_of place) blocks ds (block_seen t t.number i place d.done.1 ran.commits ran.placed) c.2
+    let rest = ran_from k t u (number + length i) (time_of place) blocks ds ran.seen c.2
     (subst (λ (m : ℕ). HaveNumbers length m (number + length i) blocks ds) (sym same) n.2) in
     record {
       continues = Continues-Continues ran.continues rest.continues;
@@ -47,8 +42,8 @@ ran_from k s u number before (i ∷ blocks) (d ∷ ds) le c n =
           by = n.0 ∙ sym (rest.continues.number ∙ same);
           numbered = n.1;
           follows = follows_earlier before (s.base + length s.seen) place le ran.follows;
-          place = subst (λ (m : ℕ). BlockPlaceOf (past_of u) m i place d.done.1 ran.commits) (sym rest.continues.number)
-              (block_later t u t.number i place d.done.1 ran.commits rest.continues ran.placed);
+          place = placed_later (λ p seat commits. BlockPlaceOf p seat i place d.done.1 commits) t u ran.commits rest.continues
+              (λ p more seat h. block_longer p more seat i place d.done.1 ran.commits h) ran.placed;
         },
         rest.each,
       );

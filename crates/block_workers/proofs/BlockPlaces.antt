@@ -1,17 +1,15 @@
 -- The place of a block: what its attempt says of it, and that it stays as more of the history is seen.
-use Rattle.std.proofs.Common.{◌≡◌, ℕ, ◌+◌, ◌-◌, ◌≤◌, ◌==◌, false, List, length, drop, refl, sym, ap, ◌∙◌, subst, arith, length-append}
-use Rattle.std.proofs.lemmas.Option.{slice_get_within}
 use Rattle.set_blocks.specs.BlockReplies.{block_replies, block_changes, block_next}
 use Rattle.set_blocks.proofs.SingleBlocks.{length-block_replies}
 use Rattle.run_report.proofs.history.Grown.{longer, there_longer, state_longer}
 use Rattle.set_blocks.specs.declared.attempt.BlockAttempt.TheVariants.{Done}
 use Rattle.set_blocks.specs.BlockAttempts.{BlockAttempted}
 use Rattle.set_blocks.specs.BlockRules.{IsBlockCommit}
-use Rattle.script_workers.proofs.Terms.{Commit, Entry, Change, State, Seat, IsSeat, Continues, catalogue_of, IsOpening, capacity, Command, Place, AtCommit}
-use Rattle.script_workers.proofs.Terms.{Read, Reply, Causes, time_of, Past, past_of, state_of_time}
-use Rattle.script_workers.proofs.Places.{same_room, ran_commit, ran_read, past_later, ran_after}
-use Rattle.block_workers.specs.BlockLinks.{LinkedBlock}
-use Rattle.block_workers.specs.BlockRuns.{BlockPlaceOf, RanBlock}
+use Rattle.mv_history.specs.declared.history.Entry.{Entry}
+use Rattle.std.proofs.Common.{◌≡◌, ◌+◌, ◌-◌, ◌==◌}
+use Rattle.block_workers.proofs.Terms.{ℕ, false, List, length, refl, sym, ap, ◌∙◌, arith, length-append, slice_get_within, Commit, Change, State, Seat, IsSeat}
+use Rattle.block_workers.proofs.Terms.{catalogue_of, IsOpening, capacity, Command, Place, AtCommit, Read, Reply, Causes, Past, past_of, state_of_time}
+use Rattle.block_workers.proofs.Terms.{same_room, ran_commit, ran_read, ran_after, LinkedBlock, BlockPlaceOf, RanBlock}
 
 -- an attempt that is done
 done_at : (k : Causes) (s t : Seat) (block : List Command) (place : Place) (answers : List Reply) → IsSeat IsOpening IsBlockCommit t
@@ -19,7 +17,7 @@ done_at : (k : Causes) (s t : Seat) (block : List Command) (place : Place) (answ
 done_at k s t block (AtCommit time) answers lawful done =
     let before : State = state_of_time (past_of t) (time - 1) in
     let room = same_room t (time - 1) in
-    ran_commit _ s t done.commit time lawful.mine done.continues done.later done.mine
+    ran_commit _ s t done.commit time lawful.mine done.continues done.entry done.later done.mine
     (λ by. (
       done.commit,
       refl,
@@ -97,17 +95,3 @@ block_longer p more seat block (Read time) answers commits placed =
         unchanging = (λ i. block_changes block (catalogue_of (same i)) (capacity p.start) (time == p.last)) ∙ read.unchanging;
       },
     )
-
--- so it stays as more is seen
-pub block_later : (s t : Seat) (seat : ℕ) (block : List Command) (place : Place) (answers : List Reply) (commits : List Commit) → Continues s t
-    → BlockPlaceOf (past_of s) seat block place answers commits → BlockPlaceOf (past_of t) seat block place answers commits
-block_later s t seat block place answers commits c h =
-    subst (λ (p : Past). BlockPlaceOf p seat block place answers commits) (sym (past_later s t c))
-    (block_longer (past_of s) (drop (length s.seen) t.seen) seat block place answers commits h)
-
--- the time of a place was seen
-pub block_seen : (s : Seat) (seat : ℕ) (block : List Command) (place : Place) (answers : List Reply) (commits : List Commit)
-    → BlockPlaceOf (past_of s) seat block place answers commits → time_of place ≤ s.base + length s.seen
-block_seen s seat block (AtCommit time) answers commits h =
-    let within = slice_get_within s.seen (time - (s.base + 1)) (Change h.0) h.2.there in omega (arith, within, h.2.later)
-block_seen s seat block (Read time) answers commits h = h.1.seen

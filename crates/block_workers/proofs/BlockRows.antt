@@ -1,11 +1,6 @@
 -- The lines of blocks, as one more is made.
-use Rattle.std.proofs.Common.{◌≡◌, ℕ, suc, ◌+◌, ◌<◌, ◌≤◌, List, [], ◌∷◌, ◌++◌, length, take, get_or, slice_get, Some, Vec, refl, sym, ap, ◌∙◌, arith}
-use Rattle.std.specs.List.{flat_map}
-use Rattle.std.proofs.lemmas.List.{flat_map_more, take_more, length-take-le}
-use Rattle.std.proofs.lemmas.List.Folds.{length-flat_map-take}
-use Rattle.std.proofs.lemmas.Option.{get_or_from_slice_get}
-use Rattle.script_workers.proofs.Terms.{Global, Place, Reply, Answer}
-use Rattle.block_workers.specs.BlockLines.{lines_at, lines_in, row_in, row_of}
+use Rattle.std.proofs.Common.{◌≡◌, ◌+◌, ◌<◌, ◌∷◌, ◌++◌, ℕ, suc, List, [], length, take, slice_get, Some, refl, ap, ◌∙◌, arith, length-take-le}
+use Rattle.block_workers.proofs.Terms.{take_more, get_or_from_slice_get, Place, Reply, lines_at}
 
 -- one more line of a block
 pub lines_push : (seat number : ℕ) (place : Place) (answers : List Reply) (answer : Reply)
@@ -36,32 +31,3 @@ lines_next seat first i place answers answer lt is =
 pub lines_count : (seat number : ℕ) (place : Place) (answers : List Reply) → length (lines_at seat number place answers) ≡ length answers
 lines_count seat number place [] = refl
 lines_count seat number place (answer ∷ answers) = ap (λ n. suc n) (lines_count seat (suc number) place answers)
-
--- the lines of one more answer
-pub row_more : (ds : List (Answer (Place × List Reply))) (i : ℕ) (d : Answer (Place × List Reply)) → i < length ds → d ≡ get_or ds i d
-    → row_in (take (i + 1) ds) ≡ row_in (take i ds) ++ lines_in d
-row_more ds i d lt is =
-    ap row_in (take_more ds i d lt)
-    ∙ sym (flat_map_more lines_in [] (take i ds) (get_or ds i d))
-    ∙ ap (λ (e : Answer (Place × List Reply)). row_in (take i ds) ++ lines_in e) (sym is)
-
--- there is room for the lines of one more answer
-pub answer_fits : (ds : List (Answer (Place × List Reply))) (i : ℕ) (d : Answer (Place × List Reply)) → i < length ds → d ≡ get_or ds i d
-    → length (row_in (take i ds)) + length d.done.1 ≤ length (row_in ds)
-answer_fits ds i d lt is =
-    omega (
-      arith,
-      length-flat_map-take lines_in ds i d lt,
-      ap (λ (e : Answer (Place × List Reply)). length (lines_in e)) is,
-      lines_count d.seat d.number d.done.0 d.done.1,
-    )
-
--- there is room for the lines of one more row
-pub row_fits : (rows : List (Vec (Answer (Place × List Reply)) Global)) (i : ℕ) (row : Vec (Answer (Place × List Reply)) Global) → i < length rows
-    → row ≡ get_or rows i row → length (flat_map row_of (take i rows)) + length (row_of row) ≤ length (flat_map row_of rows)
-row_fits rows i row lt is =
-    omega (
-      arith,
-      length-flat_map-take row_of rows i row lt,
-      ap (λ (v : Vec (Answer (Place × List Reply)) Global). length (row_of v)) is,
-    )

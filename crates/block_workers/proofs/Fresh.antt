@@ -1,8 +1,6 @@
 -- A block that changes nothing is of a section that its own attempt entered.
-use Rattle.std.proofs.Common.{ℕ, List}
 use Rattle.work_runner.proofs.Tries.{entered_fresh}
-use Rattle.script_workers.proofs.Terms.{Seat, Command, Read, Reply, Causes, IsEnteredBetween}
-use Rattle.block_workers.specs.BlockLinks.{LinkedBlock}
+use Rattle.block_workers.proofs.Terms.{ℕ, List, Seat, Command, Read, Reply, Causes, IsEnteredBetween, LinkedBlock}
 
 -- No such block is older than what its seat had seen when it began.
 pub linked_fresh : (k : Causes) (s t : Seat) (block : List Command) (time : ℕ) (answers : List Reply) → LinkedBlock k s t block (Read time) answers

@@ -1,3 +1,4 @@
+pub mod Terms
 pub mod BlockPlaces
 pub mod BlockChains
 pub mod BlockRows

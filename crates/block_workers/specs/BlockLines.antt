@@ -1,11 +1,6 @@
 -- The lines of a block: one for each of its commands, all at the block's one place.
 use Rattle.std.specs.Prelude.{ℕ, suc, ◌+◌, ◌<◌, ◌^◌, List, [], ◌∷◌, length, Vec, All}
-use Rattle.std.specs.declared.alloc.Global.{Global}
-use Rattle.std.specs.List.{flat_map}
-use Rattle.section_work.specs.declared.place.Place.{Place}
-use Rattle.set_script.specs.declared.commands.Reply.{Reply}
-use Rattle.run_report.specs.declared.line.Line.{Line}
-use Rattle.item_workers.specs.declared.runner.Answer.{Answer}
+use Rattle.script_workers.specs.Terms.{Global, flat_map, Place, Reply, Line, Answer}
 
 -- What became of a block: the seat that did it, the number of its first command in the seat's script, its place, and its replies.
 pub record DoneBlock : Type 0 where

@@ -1,18 +1,9 @@
 -- How a block was done from one seat to another.
 use Rattle.std.specs.Prelude.{◌≡◌, ◌≤◌, List, [], ◌∷◌, ◌++◌, length}
-use Rattle.std.specs.List.{flat_map}
-use Rattle.mv_history.specs.Meaning.{Seat, IsSeat}
-use Rattle.section_work.specs.Causes.{Causes}
-use Rattle.section_work.specs.declared.place.Place.{Place}
-use Rattle.set_script.specs.declared.commands.Command.{Command}
-use Rattle.set_script.specs.declared.commands.Reply.{Reply}
 use Rattle.set_blocks.specs.declared.attempt.BlockAttempt.TheVariants.{Done}
-use Rattle.set_script.specs.Lawful.{IsOpening}
 use Rattle.set_blocks.specs.BlockAttempts.{BlockAttempted}
 use Rattle.set_blocks.specs.BlockRules.{IsBlockCommit}
-use Rattle.run_report.specs.declared.line.Line.{Line}
-use Rattle.item_workers.specs.Chains.{Chain}
-use Rattle.work_runner.specs.Tries.{DoneBehind}
+use Rattle.script_workers.specs.Terms.{flat_map, Seat, IsSeat, Causes, Place, Command, Reply, IsOpening, Line, Chain, DoneBehind}
 use Rattle.block_workers.specs.BlockLines.{DoneBlock, lines_of}
 
 -- Behind attempts that made no commit there was one of this block that was done: by a commit later than all that was seen, or at the time of

@@ -1,24 +1,10 @@
 -- Where a block has its place in a history, and what a seat leaves that ran a script of blocks.
-use Rattle.std.specs.Prelude.{◌≡◌, ℕ, ◌+◌, ◌-◌, ◌<◌, ◌≤◌, ◌==◌, true, false, List, [], ◌∷◌, ◌++◌, length}
-use Rattle.std.specs.Prelude.{Some, slice_get}
-use Rattle.std.specs.List.{flat_map}
-use Rattle.mv_history.specs.declared.history.Commit.{Commit}
-use Rattle.mv_history.specs.declared.history.Entry.TheVariants.{Change}
-use Rattle.mv_history.specs.Meaning.{Seat}
-use Rattle.mv_history.specs.Calls.{Continues}
-use Rattle.set_script.specs.CatalogueOf.{catalogue_of}
-use Rattle.set_script.specs.Rules.{capacity}
-use Rattle.set_script.specs.declared.commands.Command.{Command}
-use Rattle.section_work.specs.declared.place.Place.{Place}
-use Rattle.section_work.specs.declared.place.Place.TheVariants.{Commit as AtCommit, Read}
-use Rattle.set_script.specs.declared.commands.Reply.{Reply}
+use Rattle.std.specs.Prelude.{◌≡◌, ℕ, ◌+◌, ◌-◌, ◌<◌, ◌≤◌, ◌==◌, true, false, List, [], ◌∷◌, ◌++◌, length, Some, slice_get}
 use Rattle.set_blocks.specs.BlockReplies.{block_replies, block_changes, block_next}
 use Rattle.set_blocks.specs.BlockRules.{block_tag}
-use Rattle.run_report.specs.declared.line.Line.{Line}
-use Rattle.run_report.specs.Order.{time_of}
-use Rattle.run_report.specs.Legal.{Follows}
-use Rattle.run_report.specs.Worked.{Past, past_of, state_of_time}
 use Rattle.script_workers.specs.Commands.{RanTo}
+use Rattle.script_workers.specs.Terms.{flat_map, Commit, Change, Seat, Continues, catalogue_of, capacity, Command, Place, AtCommit, Read, Reply, Line, time_of}
+use Rattle.script_workers.specs.Terms.{Follows, Past, past_of, state_of_time}
 use Rattle.block_workers.specs.BlockLines.{DoneBlock, lines_of}
 
 -- The commit is the entry of this printed time, by this seat and with the tag of a block of so many commands. In the state just
@@ -55,11 +41,10 @@ pub record DoneBlockOf (p : Past) (seat number before : ℕ) (block : List Comma
 -- What became of a seat's blocks in order, the first of this number and following this time, and the commits of them.
 abbrev pub BlocksOf : Past → ℕ → ℕ → ℕ → List (List Command) → List DoneBlock → List Commit → Type 0
 BlocksOf p seat number before [] [] commits = commits ≡ []
-BlocksOf p seat number before [] (d ∷ done) commits = ⊥
-BlocksOf p seat number before (block ∷ blocks) [] commits = ⊥
 BlocksOf p seat number before (block ∷ blocks) (d ∷ done) commits =
     (first : List Commit) × (others : List Commit) × (commits ≡ first ++ others) × DoneBlockOf p seat number before block d first
     × BlocksOf p seat (number + length block) (time_of d.place) blocks done others
+BlocksOf p seat number before _ _ commits = ⊥
 
 -- the block took place there, with these replies
 abbrev pub RanBlock : Seat → Seat → List Command → Place → List Reply → Type 0

@@ -1,7 +1,6 @@
 -- The scripts of a run of blocks.
 use Rattle.std.specs.Prelude.{ℕ, List, length, sum_by, Vec}
-use Rattle.std.specs.declared.alloc.Global.{Global}
-use Rattle.set_script.specs.declared.commands.Command.{Command}
+use Rattle.script_workers.specs.Terms.{Global, Command}
 
 -- how many objects a block locks or holds at most: five for each of its commands, of which there are at most eight
 abbrev pub most_in_blocks : ℕ

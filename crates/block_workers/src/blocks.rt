@@ -12,9 +12,7 @@ pub struct Blocks<S: Store<Rules = BlockRules>> {
 
 impl<S: Store<Rules = BlockRules>> Runner for Blocks<S> {
     ghost use Rattle.std.specs.Prelude.{⊤, ◌≤◌, length};
-    ghost use Rattle.mv_history.specs.Meaning.{Seat};
-    ghost use Rattle.section_work.specs.Causes.{causes};
-    ghost use Rattle.work_runner.specs.Tries.{IsUnder, none_begun};
+    ghost use Rattle.script_workers.specs.Terms.{Seat, causes, IsUnder, none_begun};
     ghost use Rattle.block_workers.specs.BlockLinks.{LinkedDone};
     ghost use Rattle.block_workers.specs.Workers.{most_in_blocks};
 

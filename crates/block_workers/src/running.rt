@@ -1,8 +1,7 @@
 // The run of the scripts of blocks, each by a worker of its own.
 ghost use Rattle.std.specs.Prelude.{◌≡◌, ◌≤◌, length, map, All, IfOk, IfErr};
-ghost use Rattle.set_script.specs.declared.script.TheConstants.{MOST_COMMANDS};
-ghost use Rattle.section_work.specs.Causes.{causes};
 ghost use Rattle.script_workers.specs.Numbers.{AreNumbered};
+ghost use Rattle.script_workers.specs.Terms.{MOST_COMMANDS, causes};
 ghost use Rattle.block_workers.specs.BlockLinks.{AllLinkedBlocks};
 ghost use Rattle.block_workers.specs.BlockRuns.{AllRanBlocks};
 ghost use Rattle.block_workers.specs.Workers.{blocks_of, count_of, most_in_blocks};

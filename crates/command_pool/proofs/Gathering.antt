@@ -1,14 +1,10 @@
 -- What all workers took, put together: each number of a command, once.
-use Rattle.std.proofs.Common.{◌≡◌, ◌≢◌, ℕ, zero, suc, ◌+◌, ◌<◌, ◌≤◌, ◌==◌, Bool, cond, leb, List, [], ◌∷◌, ◌++◌, length, map, All, inl, inr, refl, ap, ◌∙◌}
-use Rattle.std.proofs.Common.{arith, eq-eqb, ne_eqb}
 use Rattle.std.proofs.lemmas.Bool.{cases_lt}
 use Rattle.std.proofs.lemmas.Bool.Decides.{nat_tests}
-use Rattle.std.proofs.lemmas.List.{map-append, length-map}
-use Rattle.std.proofs.lemmas.List.Elements.{All-nil, All-cons, All-head, All-tail, All-weaker, All-append, All-map}
 use Rattle.std.proofs.lemmas.List.Sums.{sum_by-cons}
-use Rattle.script_workers.proofs.Terms.{Line}
-use Rattle.command_pool.specs.Pool.{times_of}
-use Rattle.command_pool.specs.Queue.{total, total_to}
+use Rattle.std.proofs.Common.{◌≡◌, ◌≢◌, ◌+◌, ◌<◌, ◌≤◌, ◌==◌, ◌∷◌, ◌++◌}
+use Rattle.command_pool.proofs.Terms.{get_or, ℕ, zero, suc, Bool, cond, leb, List, [], length, map, All, inl, inr, refl, ap, ◌∙◌, arith, eq-eqb, ne_eqb}
+use Rattle.command_pool.proofs.Terms.{map-append, length-map, All-nil, All-cons, All-append, All-map, Line, times_of, total, total_to}
 use Rattle.command_pool.proofs.Totals.{total-append}
 
 -- 1 at this number, and 0 at others
@@ -58,13 +54,11 @@ to_most most (suc done) le = elim (cases_lt most (suc done)) [
 
 total_zeros : (f : ℕ → ℕ) (xs : List ℕ) → All (λ x. f x ≡ 0) xs → total f xs ≡ 0
 total_zeros f [] all = refl
-total_zeros f (x ∷ xs) all =
-    omega (arith, All-head (λ x. f x ≡ 0) x xs all, total_zeros f xs (All-tail (λ x. f x ≡ 0) x xs all))
+total_zeros f (x ∷ xs) all = omega (arith, all 0 x (omega arith), total_zeros f xs (λ i d lt. all (suc i) d (omega (arith, lt))))
 
 total_ones : (f : ℕ → ℕ) (xs : List ℕ) → All (λ x. f x ≡ 1) xs → total f xs ≡ length xs
 total_ones f [] all = refl
-total_ones f (x ∷ xs) all =
-    omega (arith, All-head (λ x. f x ≡ 1) x xs all, total_ones f xs (All-tail (λ x. f x ≡ 1) x xs all))
+total_ones f (x ∷ xs) all = omega (arith, all 0 x (omega arith), total_ones f xs (λ i d lt. all (suc i) d (omega (arith, lt))))
 
 -- the number of a line's command
 abbrev pub number_of : Line → ℕ
@@ -115,10 +109,9 @@ gathered_more commands mine taken seats own lines mark is within beyond h = reco
 }
 
 -- one of the ends stands among them
-an_end : (commands : ℕ) (ends : List ℕ) → 1 ≤ length ends → All (λ e. commands < e) ends
-    → (e : ℕ) × (commands < e) × (1 ≤ total (is_at e) ends)
+an_end : (commands : ℕ) (ends : List ℕ) → 1 ≤ length ends → All (λ e. commands < e) ends → (e : ℕ) × (commands < e) × (1 ≤ total (is_at e) ends)
 an_end commands [] some beyond = absurd (omega (arith, some))
-an_end commands (e ∷ ends) some beyond = (e, All-head (λ e. commands < e) e ends beyond, omega (arith, at_same e e refl))
+an_end commands (e ∷ ends) some beyond = (e, beyond 0 e (omega arith), omega (arith, at_same e e refl))
 
 module _ (commands : ℕ) (taken : List ℕ) (seats : ℕ) (lines : List Line) (h : Gathered commands taken seats lines) (some : 1 ≤ seats)
     (done : ℕ) (once : (f : ℕ → ℕ) → total f taken ≡ total_to f done) where
@@ -134,8 +127,7 @@ module _ (commands : ℕ) (taken : List ℕ) (seats : ℕ) (lines : List Line) (
   pub each_once : (number : ℕ) → 1 ≤ number → number ≤ commands → times_of number lines ≡ 1
   each_once number positive le =
       let none = total_zeros (is_at number) h.ends
-      (All-weaker (λ e. commands < e) (λ e. is_at number e ≡ 0) (λ e lt. at_other number e (λ same. omega (arith, same, lt, le)))
-      h.ends h.beyond) in
+      (λ i d lt. at_other number (get_or h.ends i d) (λ same. omega (arith, same, h.beyond i d lt, le))) in
       omega (
         arith,
         times_is number lines,
@@ -148,12 +140,9 @@ module _ (commands : ℕ) (taken : List ℕ) (seats : ℕ) (lines : List Line) (
   -- there are as many lines as commands
   pub all_told : length lines ≡ commands
   all_told =
-      let none = total_zeros (is_low commands) h.ends
-      (All-weaker (λ e. commands < e) (λ e. is_low commands e ≡ 0) (λ e lt. at_high commands e lt) h.ends h.beyond) in
+      let none = total_zeros (is_low commands) h.ends (λ i d lt. at_high commands (get_or h.ends i d) (h.beyond i d lt)) in
       let ones = total_ones (is_low commands) (map number_of lines)
-      (All-map (λ k. is_low commands k ≡ 1) number_of lines
-      (All-weaker (λ (line : Line). line.number ≤ commands) (λ line. is_low commands line.number ≡ 1) (λ line le. at_low commands line.number le)
-      lines h.within)) in
+      (All-map (λ k. is_low commands k ≡ 1) number_of lines (λ i d lt. at_low commands (get_or lines i d).number (h.within i d lt))) in
       omega (
         arith,
         ones,

@@ -1,16 +1,8 @@
 -- What all workers of a pool did.
-use Rattle.std.proofs.Common.{◌≡◌, ℕ, suc, ◌<◌, ◌≤◌, List, [], ◌∷◌, ◌++◌, length, map, All, Vec, refl, ap, ◌∙◌, subst}
-use Rattle.std.specs.List.{flat_map}
-use Rattle.std.proofs.lemmas.List.Elements.{All-nil, All-cons, All-head, All-tail}
-use Rattle.item_workers.specs.Serving.{IsServedTo, EachServed}
-use Rattle.script_workers.proofs.Terms.{Global, Seat, Command, Place, Reply, Causes, Line, Answer}
-use Rattle.script_workers.specs.Lines.{line_of, row_of}
-use Rattle.script_workers.specs.Links.{LinkedDone}
-use Rattle.command_pool.specs.Queue.{total, total_to, last_of}
-use Rattle.command_pool.specs.Turns.{GaveTurn, HasEnded}
-use Rattle.command_pool.specs.Pool.{AreTaken, EachSeat, Took, TookLinked, PoolRan}
-use Rattle.command_pool.specs.Lending.{QueueOf, IsBegun, IsLent, taken_of}
-use Rattle.command_pool.proofs.Terms.{view, Hand, Turns}
+use Rattle.std.proofs.Common.{◌≡◌, ◌<◌, ◌≤◌, ◌∷◌, ◌++◌, ℕ, suc, List, [], length, map, All, Vec, refl, ap, ◌∙◌, subst, flat_map, Global}
+use Rattle.command_pool.proofs.Terms.{All-nil, All-cons, All-head, All-tail, IsServedTo, EachServed, Seat, Command, Place, Reply, Causes, Line, Answer, line_of}
+use Rattle.command_pool.proofs.Terms.{row_of, LinkedDone, total, total_to, last_of, GaveTurn, HasEnded, AreTaken, EachSeat, Took, TookLinked, PoolRan, QueueOf}
+use Rattle.command_pool.proofs.Terms.{IsBegun, IsLent, taken_of, view, Hand, Turns}
 use Rattle.command_pool.proofs.Gathering.{Gathered, gathered_none, gathered_more, each_once, all_told, number_of}
 use Rattle.command_pool.proofs.Runs.{took_of, taken_within}
 use Rattle.command_pool.proofs.Taking.{hand_is, turns_done}
@@ -56,26 +48,22 @@ module _ (k : Causes) {Q A : Type 0} (queue : QueueOf Q A) (commands : List Comm
     pub took : EachSeat (Took commands) olds news lines
     pub linked : EachSeat (TookLinked k commands) olds news lines
 
-  one_more : (s t : Seat) (b : Turns) (taken : List Line) (os ns : List Seat) (after : List Turns) (lines : List Line) → SeatDone s t b taken
-      → PoolDone os ns after lines → PoolDone (s ∷ os) (t ∷ ns) (b ∷ after) (taken ++ lines)
-  one_more s t b taken os ns after lines one others = record {
-    lent = All-cons (IsLent queue) b after one.lent others.lent;
-    many = ap suc others.many;
-    gathered = gathered_more (length commands) (taken_of b) (flat_map taken_of after) (length os) taken lines one.mark one.numbers one.within
-        one.beyond others.gathered;
-    took = (taken, lines, refl, one.took, others.took);
-    linked = (taken, lines, refl, one.linked, others.linked);
-  }
-
   pub pool_done : (os : List Seat) (begun : List Turns) (ns : List Seat) (after : List Turns) (rows : List (Vec (Answer (Place × Reply)) Global))
       → All (IsBegun queue commands) begun → EachServed (λ (u : Seat). u) (LinkedDone k) GaveTurn HasEnded os begun ns after rows
       → PoolDone os ns after (flat_map row_of rows)
   pool_done [] [] [] [] [] all h =
       record { lent = All-nil (IsLent queue); many = refl; gathered = gathered_none (length commands); took = refl; linked = refl }
   pool_done (o ∷ os) (a ∷ begun) (n ∷ ns) (b ∷ after) (r ∷ rows) all h =
-      one_more o n b (map line_of r.items) os ns after (flat_map row_of rows)
-      (seat_done o n a b r.items (All-head (IsBegun queue commands) a begun all) h.0)
-      (pool_done os begun ns after rows (All-tail (IsBegun queue commands) a begun all) h.1)
+      let one = seat_done o n a b r.items (All-head (IsBegun queue commands) a begun all) h.0 in
+      let others = pool_done os begun ns after rows (All-tail (IsBegun queue commands) a begun all) h.1 in
+      record {
+        lent = All-cons (IsLent queue) b after one.lent others.lent;
+        many = ap suc others.many;
+        gathered = gathered_more (length commands) (taken_of b) (flat_map taken_of after) (length os) (row_of r) (flat_map row_of rows) one.mark
+            one.numbers one.within one.beyond others.gathered;
+        took = (row_of r, flat_map row_of rows, refl, one.took, others.took);
+        linked = (row_of r, flat_map row_of rows, refl, one.linked, others.linked);
+      }
   pool_done _ _ _ _ _ all h = absurd h
 
   -- So the pool did each command once, where its passes took each number up to one.

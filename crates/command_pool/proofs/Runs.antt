@@ -1,12 +1,9 @@
 -- What a seat took is a run.
-use Rattle.std.proofs.Common.{◌≡◌, ℕ, zero, suc, ◌+◌, ◌≤◌, List, [], ◌∷◌, length, map, All, Some, refl, ap, subst, arith}
-use Rattle.std.proofs.lemmas.List.Elements.{All-nil, All-cons, All-head, All-tail}
 use Rattle.std.proofs.lemmas.Option.{slice_get_within}
-use Rattle.script_workers.proofs.Terms.{Seat, Command, Place, Reply, Causes, Line, command_at, Answer, Chain, HaveNumbers, answered}
-use Rattle.script_workers.specs.Lines.{line_of}
-use Rattle.script_workers.specs.Links.{LinkedDone}
 use Rattle.script_workers.proofs.Runs.{chain_ran, chain_lines}
-use Rattle.command_pool.specs.Pool.{AreTaken, lines_from, Took, TookLinked}
+use Rattle.std.proofs.Common.{◌≡◌, ◌+◌, ◌≤◌, ◌∷◌, ℕ, zero, suc, List, [], length, map, All, Some, refl, ap, subst, arith}
+use Rattle.command_pool.proofs.Terms.{All-nil, All-cons, All-head, All-tail, Seat, Command, Place, Reply, Causes, Line, command_at, Answer, Chain, HaveNumbers}
+use Rattle.command_pool.proofs.Terms.{answered, line_of, LinkedDone, AreTaken, lines_from, Took, TookLinked}
 
 -- these answers, numbered from this number on
 abbrev renumbered : ℕ → List (Answer (Place × Reply)) → List (Answer (Place × Reply))
@@ -15,10 +12,9 @@ renumbered number (d ∷ ds) = record { seat = d.seat; number = number; done = d
 
 module _ (k : Causes) where
   -- A chain whose answers are by one seat is that of a script, with its answers numbered on.
-  did_renumbered : (s t : Seat) (seat number : ℕ) (script : List Command) (ds : List (Answer (Place × Reply)))
-      → Chain (answered (LinkedDone k)) s t script ds → All (λ (line : Line). line.seat ≡ seat) (map line_of ds)
-      → Chain (answered (LinkedDone k)) s t script (renumbered number ds)
-      × HaveNumbers (λ (c : Command). 1) seat number script (renumbered number ds)
+  did_renumbered : (s t : Seat) (seat number : ℕ) (script : List Command) (ds : List (Answer (Place × Reply))) → Chain (answered (LinkedDone k)) s t script ds
+      → All (λ (line : Line). line.seat ≡ seat) (map line_of ds)
+      → Chain (answered (LinkedDone k)) s t script (renumbered number ds) × HaveNumbers (λ (c : Command). 1) seat number script (renumbered number ds)
   did_renumbered s t seat number [] [] c by = (c, tt)
   did_renumbered s t seat number (i ∷ script) (d ∷ ds) c by =
       let next : suc number ≡ number + 1 = omega arith in

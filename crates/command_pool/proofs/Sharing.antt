@@ -1,10 +1,7 @@
 -- Each use of the queue keeps its rule.
-use Rattle.std.proofs.Common.{◌≡◌, ℕ, suc, ◌+◌, ◌-◌, ◌<◌, ◌≤◌, List, [], ◌∷◌, ◌++◌, length, set, refl, sym, ap, ◌∙◌, subst, arith}
-use mathlib.Core.Option.{some}
-use lib.ListN.{get_elem?}
 use Rattle.crossbeam_queue.specs.Fifo.{Pushes, Pops, Forks, Merges, Learns}
-use Rattle.command_pool.specs.Queue.{hand, all_parts, total, total_to, numbers_from, IsRising, IsShared}
-use Rattle.command_pool.proofs.Terms.{Hand}
+use Rattle.std.proofs.Common.{◌≡◌, ◌+◌, ◌-◌, ◌<◌, ◌≤◌, ◌∷◌, ◌++◌, ℕ, suc, List, [], length, set, refl, sym, ap, ◌∙◌, subst, arith}
+use Rattle.command_pool.proofs.Terms.{some, get_elem?, hand, all_parts, total, total_to, numbers_from, IsRising, IsShared, Hand}
 use Rattle.command_pool.proofs.Totals.{total-append, total_set, total_whole, each_set, each_push, numbers_more, length-numbers_from, numbers_first}
 use Rattle.command_pool.proofs.Totals.{rising_higher, rising_more}
 
@@ -25,8 +22,7 @@ put_all : (items : List ℕ) (views : List Hand) (port : ℕ) (v : Hand) → IsS
     → v.parts ≡ all_parts → total put_of views ≡ v.put
 put_all items views port v h at all = total_whole parts_of put_of views port v at (h.whole ∙ sym all) (λ i u there none. (h.idle i u there none).0)
 
-pub puts : (n port : ℕ) (v : Hand) (x : ℕ) → v.parts ≡ all_parts → x ≡ suc v.put
-    → Pushes IsShared n port v x (λ w. w ≡ hand v.parts (suc v.put) v.taken)
+pub puts : (n port : ℕ) (v : Hand) (x : ℕ) → v.parts ≡ all_parts → x ≡ suc v.put → Pushes IsShared n port v x (λ w. w ≡ hand v.parts (suc v.put) v.taken)
 puts n port v x all is items views room h at =
     let w : Hand = hand v.parts (suc v.put) v.taken in
     let mine = put_all items views port v h at all in
@@ -127,8 +123,7 @@ merges port v other u some_part some_put items views h at two there =
     }
 
 -- the pass that has all parts took each number up to one once
-pub learns : (port : ℕ) (v : Hand) → v.parts ≡ all_parts
-    → Learns IsShared port v (λ items. (done : ℕ) × ((f : ℕ → ℕ) → total f v.taken ≡ total_to f done))
+pub learns : (port : ℕ) (v : Hand) → v.parts ≡ all_parts → Learns IsShared port v (λ items. (done : ℕ) × ((f : ℕ → ℕ) → total f v.taken ≡ total_to f done))
 learns port v all items views h at = (
   h.done,
   λ f.

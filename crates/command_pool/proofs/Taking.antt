@@ -1,15 +1,7 @@
 -- What a worker took, turn by turn.
-use Rattle.std.proofs.Common.{◌≡◌, ℕ, zero, suc, ◌-◌, ◌<◌, List, [], ◌∷◌, ◌++◌, length, map, All, Some, slice_get, refl, sym, ap, ◌∙◌, subst, arith}
-use Rattle.std.proofs.Common.{append_assoc}
-use Rattle.std.proofs.lemmas.List.Elements.{All-nil, All-cons}
-use Rattle.item_workers.specs.Serving.{Serves}
-use Rattle.script_workers.proofs.Terms.{Seat, Command, Place, Reply, Causes, Line, command_at, Answer, Chain, answered}
-use Rattle.script_workers.specs.Lines.{line_of}
-use Rattle.script_workers.specs.Links.{LinkedDone}
-use Rattle.command_pool.specs.Queue.{hand, last_of}
-use Rattle.command_pool.specs.Turns.{GaveTurn, HasEnded}
-use Rattle.command_pool.specs.Pool.{AreTaken}
-use Rattle.command_pool.proofs.Terms.{view, IsSamePass, Hand, Turns}
+use Rattle.std.proofs.Common.{◌≡◌, ◌-◌, ◌<◌, ◌∷◌, ◌++◌, ℕ, zero, suc, List, [], length, map, All, Some, slice_get, refl, sym, ap, ◌∙◌, subst, arith}
+use Rattle.command_pool.proofs.Terms.{append_assoc, All-nil, All-cons, Serves, Seat, Command, Place, Reply, Causes, Line, command_at, Answer, Chain, answered}
+use Rattle.command_pool.proofs.Terms.{line_of, LinkedDone, hand, last_of, GaveTurn, HasEnded, AreTaken, view, IsSamePass, Hand, Turns}
 use Rattle.command_pool.proofs.Totals.{last_push}
 use Rattle.command_pool.proofs.Gathering.{number_of}
 
@@ -42,21 +34,19 @@ pub record TurnsDone (k : Causes) (seat : ℕ) (s : Seat) (a : Turns) (t : Seat)
   pub chain : Chain (answered (LinkedDone k)) s t script ds
 
 module _ (k : Causes) (seat : ℕ) where
-  none_done : (s : Seat) (a : Turns) (t : Seat) (b : Turns) → t ≡ s → HasEnded a b → TurnsDone k seat s a t b []
-  none_done s a t b same ended = record {
-    pass = ended.took.pass;
-    mark = ended.mark;
-    beyond = ended.beyond;
-    view_is = ended.took.view_is;
-    script = [];
-    rising = tt;
-    by = All-nil (λ (line : Line). line.seat ≡ seat);
-    chain = same;
-  }
-
   pub turns_done : (s : Seat) (a : Turns) (t : Seat) (last b : Turns) (ds : List (Answer (Place × Reply)))
       → Serves (LinkedDone k) GaveTurn seat s a t last ds → HasEnded last b → TurnsDone k seat s a t b ds
-  turns_done s a t last b [] h ended = subst (λ (c : Turns). TurnsDone k seat s c t b []) h.1 (none_done s last t b h.0 ended)
+  turns_done s a t last b [] h ended =
+      let none : TurnsDone k seat s last t b [] = record {
+        pass = ended.took.pass;
+        mark = ended.mark;
+        beyond = ended.beyond;
+        view_is = ended.took.view_is;
+        script = [];
+        rising = tt;
+        by = All-nil (λ (line : Line). line.seat ≡ seat);
+        chain = h.0;
+      } in subst (λ (c : Turns). TurnsDone k seat s c t b []) h.1 none
   turns_done s a t last b (d ∷ ds) h ended =
       let c : Turns = h.1 in
       let gave = h.2.given in

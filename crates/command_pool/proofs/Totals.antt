@@ -1,10 +1,7 @@
 -- Totals over lists, and numbers that follow one another.
-use Rattle.std.proofs.Common.{◌≡◌, ◌≢◌, ℕ, zero, suc, ◌+◌, ◌<◌, ◌≤◌, List, [], ◌∷◌, ◌++◌, length, set, refl, sym, ap, ◌∙◌, subst, ⊎_elim, arith}
-use mathlib.Core.Option.{some, some-injective, some-ne-none}
-use lib.ListN.{get_elem?}
 use Rattle.crossbeam_queue.proofs.Lists.{at_set, at_snoc}
-use Rattle.command_pool.specs.Queue.{total, numbers_from, last_of, IsRising, EachView}
-use Rattle.command_pool.proofs.Terms.{Hand}
+use Rattle.std.proofs.Common.{◌≡◌, ◌≢◌, ◌+◌, ◌<◌, ◌≤◌, ◌∷◌, ◌++◌, ℕ, zero, suc, List, [], length, set, refl, sym, ap, ◌∙◌, subst, ⊎_elim, arith}
+use Rattle.command_pool.proofs.Terms.{some, some-injective, some-ne-none, get_elem?, total, numbers_from, last_of, IsRising, EachView, Hand}
 
 pub total-append : {A : Type 0} (f : A → ℕ) (xs ys : List A) → total f (xs ++ ys) ≡ total f xs + total f ys
 total-append f [] ys = omega arith

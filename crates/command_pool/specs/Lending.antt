@@ -1,9 +1,9 @@
 -- The parts of a queue's pass that its workers have.
 use Rattle.std.specs.Prelude.{◌≡◌, ℕ, List, [], Option}
-use Rattle.set_script.specs.declared.commands.Command.{Command}
 use Rattle.crossbeam_queue.specs.Passes.{view, IsPassOf}
 use Rattle.crossbeam_queue.specs.declared.array_queue.Doing.{Doing}
 use Rattle.crossbeam_queue.specs.declared.array_queue.Slotted.{Slotted}
+use Rattle.script_workers.specs.Terms.{Command}
 use Rattle.command_pool.specs.declared.queue.Hand.{Hand}
 use Rattle.command_pool.specs.declared.turns.Turns.{Turns}
 use Rattle.command_pool.specs.Queue.{hand}

@@ -1,21 +1,14 @@
 -- What a pool leaves: each command was taken once, and what a seat took is a run of those commands on it.
 use Rattle.std.specs.Prelude.{◌≡◌, ℕ, suc, ◌<◌, ◌≤◌, ◌==◌, List, [], ◌∷◌, ◌++◌, length, count_by, All, Some, ⊤}
-use Rattle.mv_history.specs.Meaning.{Seat}
-use Rattle.set_script.specs.declared.commands.Command.{Command}
-use Rattle.section_work.specs.Causes.{Causes}
-use Rattle.run_report.specs.declared.line.Line.{Line}
-use Rattle.run_report.specs.Legal.{command_at}
-use Rattle.run_report.specs.Worked.{Ran}
-use Rattle.item_workers.specs.Chains.{Chain}
 use Rattle.script_workers.specs.Lines.{LinkedLine}
+use Rattle.script_workers.specs.Terms.{Seat, Command, Causes, Line, command_at, Ran, Chain}
 
 -- The numbers rise from above this one, and this script has the commands of these numbers, in their order.
 abbrev pub AreTaken : List Command → ℕ → List Line → List Command → Type 0
 AreTaken commands before [] [] = ⊤
-AreTaken commands before [] (command ∷ script) = ⊥
-AreTaken commands before (line ∷ taken) [] = ⊥
 AreTaken commands before (line ∷ taken) (command ∷ script) =
     (before < line.number) × (command_at commands line.number ≡ Some command) × AreTaken commands line.number taken script
+AreTaken commands before _ _ = ⊥
 
 -- these lines, as those of a script whose commands are numbered from this number on
 abbrev pub lines_from : ℕ → List Line → List Line
@@ -41,9 +34,8 @@ pub record TookLinked (k : Causes) (commands : List Command) (old new : Seat) (t
 -- the lines stand by seat, in the order of the seats, and this holds of each seat and its own
 abbrev pub EachSeat : (Seat → Seat → List Line → Type 0) → List Seat → List Seat → List Line → Type 0
 EachSeat took [] [] lines = lines ≡ []
-EachSeat took [] (n ∷ ns) lines = ⊥
-EachSeat took (o ∷ os) [] lines = ⊥
 EachSeat took (o ∷ os) (n ∷ ns) lines = (taken others : List Line) × (lines ≡ taken ++ others) × took o n taken × EachSeat took os ns others
+EachSeat took _ _ lines = ⊥
 
 -- how many of these have the number
 abbrev pub times_of : ℕ → List Line → ℕ

@@ -1,8 +1,7 @@
 -- The turns of a worker, and what one of them is.
 use Rattle.std.specs.Prelude.{◌≡◌, ℕ, ◌<◌, [], ◌∷◌, ◌++◌, length, Some}
-use Rattle.set_script.specs.declared.commands.Command.{Command}
-use Rattle.run_report.specs.Legal.{command_at}
 use Rattle.crossbeam_queue.specs.Passes.{view, IsPassOf, IsSamePass}
+use Rattle.script_workers.specs.Terms.{Command, command_at}
 use Rattle.command_pool.specs.declared.turns.Turns.{Turns}
 use Rattle.command_pool.specs.Queue.{hand, last_of}
 

@@ -1,11 +1,8 @@
 // The run of a pool.
 ghost use Rattle.std.specs.Prelude.{◌≡◌, ◌≤◌, ◌+◌, [], length, map, All as Each, IfOk, IfErr, vec_capacity};
-ghost use Rattle.std.specs.List.{flat_map};
 ghost use Rattle.crossbeam_queue.specs.Passes.{view, IsPassOf, ruled_capacity};
-ghost use Rattle.set_script.specs.declared.script.TheConstants.{MOST_COMMANDS};
-ghost use Rattle.section_work.specs.Causes.{causes};
-ghost use Rattle.set_catalog.specs.Steps.{most_locks};
 ghost use Rattle.script_workers.specs.Lines.{row_of};
+ghost use Rattle.script_workers.specs.Terms.{flat_map, MOST_COMMANDS, causes, most_locks};
 ghost use Rattle.command_pool.specs.Pool.{PoolRan, PoolLinked};
 ghost use Rattle.command_pool.specs.Queue.{hand, all_parts};
 

@@ -11,7 +11,9 @@
 //!
 //! - each move that a clerk tells is one of the commits of its number, and there are no others; there are fewer than it was asked
 //!   for only where the last time was reached;
-//! - in the state of the time that a clerk tells, its user is on the shelf that it tells, with that id, and on no other shelf;
+//! - in the state of the time that a clerk tells, its user is on the shelf that it tells, with that id, and on no other shelf.
+//!   It saw that in a section which its seat entered behind its moves; the closing tells of that seat with its steps, so
+//!   nothing is told that wasn't looked up;
 //! - in the last state each user is on exactly one shelf.
 //!
 //! # Its place

@@ -8,14 +8,14 @@ use Rattle.mv_history.specs.declared.history.TheConstants.{LAST}
 use Rattle.mv_history.specs.Legal.{IsLegal, IsAllowed}
 use Rattle.mv_history.specs.Meaning.{Seat}
 use Rattle.mv_history.specs.State.{State, Writes, maker_of, commits_of}
-use Rattle.mvrlu.specs.Holding.{IsSeatTable}
+use Rattle.mvrlu.specs.Holding.{AreTablesOf, IsSeatTable}
 use Rattle.mvrlu.specs.Meant.{numbers_of, opening_of}
 use Rattle.mvrlu.specs.Whole.{Whole}
 use Rattle.mvrlu.specs.declared.domain.Domain.{Domain}
 use Rattle.run_report.specs.Worked.{Past}
 use Rattle.run_report.specs.Whole.{IsTableOf}
 use Rattle.run_report.proofs.history.Grown.{AreKnown}
-use Rattle.domain_loan.specs.Met.{AreTablesOf, HasMet, HaveMet}
+use Rattle.domain_loan.specs.Met.{HasMet, HaveMet}
 use Rattle.domain_loan.specs.New.{AreNewFrom}
 use Rattle.domain_lines.specs.Joined.{past_of_whole}
 
@@ -88,16 +88,16 @@ module _ {P : Type 0} (d : Domain P) (w : Whole) where
       counted (suc number) olds news tables new.1 met.1 are.1 k seat table (omega (arith, at)) is
 
   -- seats that went on from new ones and have met made one history
-  pub one_history : (starts : State → Type 0) (allows : List ℕ → State → Writes → Type 0) (count : ℕ) (olds news : List Seat) (tables : List LogTable)
-      → starts (opening_of d) → AreNewFrom d 0 olds → HaveMet allows (numbers_of d) (opening_of d) olds news w → AreTablesOf news tables
-      → length olds ≡ count → (numbers_of d).seats ≡ count → IsOneHistory starts allows (past_of_whole w) count olds news tables
-  one_history starts allows count olds news tables lawful new met are many seats = record {
+  pub one_history : (starts : State → Type 0) (allows : List ℕ → State → Writes → Type 0) (count : ℕ) (olds news : List Seat)
+      → starts (opening_of d) → AreNewFrom d 0 olds → HaveMet allows (numbers_of d) (opening_of d) olds news w
+      → length olds ≡ count → (numbers_of d).seats ≡ count → IsOneHistory starts allows (past_of_whole w) count olds news w.tables
+  one_history starts allows count olds news lawful new met many seats = record {
     opening = subst starts (sym met.opening) lawful;
     legal = met.legal;
     allowed = met.allowed;
     last = refl;
     makers = subst (λ (n : ℕ). All (λ e. maker_of e < n) w.history) seats met.makers;
     known = known met.opening met.base 0 olds news new met.each;
-    table_each = tables_each news tables are ∙ sym (length_all_zip (HasMet w) olds news met.each) ∙ many;
-    table_of = λ seat table is. counted 0 olds news tables new met.each are seat seat table (omega arith) is;
+    table_each = tables_each news w.tables met.tables ∙ sym (length_all_zip (HasMet w) olds news met.each) ∙ many;
+    table_of = λ seat table is. counted 0 olds news w.tables new met.each met.tables seat seat table (omega arith) is;
   }

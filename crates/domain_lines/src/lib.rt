@@ -7,8 +7,8 @@
 //!
 //! # What is shown
 //!
-//! - Seats that met made one history: what each had seen is a beginning of it, and the table of each counts what that seat did
-//!   in it (`one_history` in proofs/OneHistory.antt).
+//! - Seats that met made one history: what each had seen is a beginning of it, and the closing's table of each counts what that
+//!   seat did in it (`one_history` in proofs/OneHistory.antt).
 //! - A section that was entered on a seat's way has a time that isn't below any commit that the seat had seen
 //!   (`fresh_between` in proofs/Fresh.antt).
 //! - New seats are numbered in order (`new_numbered` in proofs/NewSeats.antt).

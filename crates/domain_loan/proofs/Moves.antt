@@ -1,12 +1,8 @@
 -- Rows: one element moves from the front of one to the end of another.
-use Rattle.std.proofs.Common.{◌≡◌, ℕ, ◌+◌, ◌<◌, List, [], ◌∷◌, ◌++◌, length, map, take, drop, get_or, sym, ap, ◌∙◌, subst, append_assoc, arith}
+use Rattle.std.proofs.Common.{◌≡◌, ◌<◌, List, [], ◌∷◌, ◌++◌, length, map, drop, get_or, sym, ap, ◌∙◌, subst, append_assoc, arith}
 use Rattle.std.specs.List.{All}
-use Rattle.std.proofs.lemmas.List.{map-append, take_more}
+use Rattle.std.proofs.lemmas.List.{map-append}
 use Rattle.std.proofs.lemmas.List.Elements.{All-head}
-use Rattle.mv_history.specs.declared.answers.LogTable.{LogTable}
-use Rattle.mv_history.specs.Meaning.{Seat}
-use Rattle.mvrlu.specs.Holding.{IsSeatTable}
-use Rattle.domain_loan.specs.Met.{AreTablesOf}
 
 -- the first of a row, and what is left of it
 pub first_of : {X : Type 0} (xs rest : List X) (x : X) → 0 < length xs → x ≡ get_or xs 0 x → rest ≡ drop 1 xs → xs ≡ x ∷ rest
@@ -28,24 +24,6 @@ moved f done left rest y is = ap (λ zs. zs ++ rest) (map-append f done (y ∷ [
 pub meant_first : {A B C : Type 0} (f : A → C) (g : B → C) (left rest : List B) (x : B) (y : A) → left ≡ x ∷ rest → f y ≡ g x
     → map g left ≡ f y ∷ map g rest
 meant_first f g left rest x y is same = ap (map g) is ∙ ap (λ z. z ∷ map g rest) (sym same)
-
-tables_push : (seats : List Seat) (tables : List LogTable) (s : Seat) (t : LogTable) → AreTablesOf seats tables → IsSeatTable s t
-    → AreTablesOf (seats ++ s ∷ []) (tables ++ t ∷ [])
-tables_push [] [] s t are is = (is, tt)
-tables_push [] (u ∷ tables) s t are is = absurd are
-tables_push (r ∷ seats) [] s t are is = absurd are
-tables_push (r ∷ seats) (u ∷ tables) s t are is = (are.0, tables_push seats tables s t are.1 is)
-
--- the table of one more seat of a row
-pub tables_more : {H : Type 0} (means : H → Seat) (hs : List H) (i : ℕ) (h : H) (tables : List LogTable) (t : LogTable) → i < length hs → h ≡ get_or hs i h
-    → AreTablesOf (map means (take i hs)) tables → IsSeatTable (means h) t
-    → AreTablesOf (map means (take (i + 1) hs)) (tables ++ t ∷ [])
-tables_more means hs i h tables t lt is are table =
-    let seats : map means (take (i + 1) hs) ≡ map means (take i hs) ++ means h ∷ [] =
-    ap (map means) (take_more hs i h lt)
-    ∙ map-append means (take i hs) (get_or hs i h ∷ [])
-    ∙ ap (λ z. map means (take i hs) ++ means z ∷ []) (sym is) in
-    subst (λ ss. AreTablesOf ss (tables ++ t ∷ [])) (sym seats) (tables_push (map means (take i hs)) tables (means h) t are table)
 
 -- what holds of each of a row holds of its first
 pub holds_first : {X : Type 0} (P : X → Type 0) (x : X) (xs ys : List X) → ys ≡ x ∷ xs → All P ys → P x

@@ -9,9 +9,10 @@ use Rattle.mv_history.specs.Meaning as history
 use Rattle.mv_core.specs.HistoryFacts.{BeginsWith}
 use Rattle.mvrlu.specs.declared.domain.Domain.{Domain}
 use Rattle.mvrlu.specs.declared.domain.Seat.{Seat}
+use Rattle.mvrlu.specs.Holding.{AreTablesOf}
 use Rattle.mvrlu.specs.Meant.{numbers_of, opening_of, seat_of}
 use Rattle.mvrlu.specs.Meeting.{LawOfTheWhole}
-use Rattle.mvrlu.specs.Whole.{Whole}
+use Rattle.mvrlu.specs.Whole.{Whole, IsMetSeat, AreApart}
 use Rattle.domain_loan.specs.Met.{AllContinue, HasMet, HaveMet}
 use Rattle.domain_loan.specs.New.{AreNewFrom}
 use Rattle.domain_loan.proofs.Seats.{all_below}
@@ -20,31 +21,34 @@ module _ {P : Type 0} {rules : _} (w : Whole) where
   each_met : (firsts : List history.Seat) (seats : List (Seat P rules)) → AllContinue firsts (map (λ s. seat_of s) seats)
       → All (λ s. (before : List Entry) → BeginsWith (seat_of s).seen before → BeginsWith w.history before) seats
       → All (λ s. (seat_of s).mine ≡ commits_of (seat_of s).number w.history) seats
-      → All (λ s. (seat_of s).rests ≡ rests_of (seat_of s).number w.history) seats
+      → All (λ s. (seat_of s).rests ≡ rests_of (seat_of s).number w.history) seats → All (λ s. IsMetSeat w (seat_of s)) seats
       → AllZip (HasMet w) firsts (map (λ s. seat_of s) seats)
-  each_met [] [] on seen mine rests = tt
-  each_met [] (s ∷ seats) on seen mine rests = absurd on
-  each_met (f ∷ firsts) [] on seen mine rests = absurd on
-  each_met (f ∷ firsts) (s ∷ seats) on seen mine rests = (
+  each_met [] [] on seen mine rests named = tt
+  each_met [] (s ∷ seats) on seen mine rests named = absurd on
+  each_met (f ∷ firsts) [] on seen mine rests named = absurd on
+  each_met (f ∷ firsts) (s ∷ seats) on seen mine rests named = (
     record {
       continues = on.0;
       seen = All-head (λ t. (before : List Entry) → BeginsWith (seat_of t).seen before → BeginsWith w.history before) s seats seen;
       mine = All-head (λ t. (seat_of t).mine ≡ commits_of (seat_of t).number w.history) s seats mine ∙ ap (λ n. commits_of n w.history) on.0.number;
       rests = All-head (λ t. (seat_of t).rests ≡ rests_of (seat_of t).number w.history) s seats rests ∙ ap (λ n. rests_of n w.history) on.0.number;
+      named = All-head (λ t. IsMetSeat w (seat_of t)) s seats named;
     },
     each_met firsts seats on.1
         (All-tail (λ t. (before : List Entry) → BeginsWith (seat_of t).seen before → BeginsWith w.history before) s seats seen)
         (All-tail (λ t. (seat_of t).mine ≡ commits_of (seat_of t).number w.history) s seats mine)
-        (All-tail (λ t. (seat_of t).rests ≡ rests_of (seat_of t).number w.history) s seats rests),
+        (All-tail (λ t. (seat_of t).rests ≡ rests_of (seat_of t).number w.history) s seats rests)
+        (All-tail (λ t. IsMetSeat w (seat_of t)) s seats named),
   )
 
 module _ {P : Type 0} {rules : _} (d : Domain P) (starts : State → Type 0) (allows : List ℕ → State → Writes → Type 0) where
   -- seats of a domain that went on from new ones have met
   pub have_met : (firsts : List history.Seat) (seats : List (Seat P rules)) (w : Whole) → AreNewFrom d 0 firsts
-      → AllContinue firsts (map (λ s. seat_of s) seats) → length seats ≡ (numbers_of d).seats → LawOfTheWhole starts allows seats w
+      → AllContinue firsts (map (λ s. seat_of s) seats) → length seats ≡ (numbers_of d).seats → LawOfTheWhole starts allows seats w → AreApart w
+      → AreTablesOf (map (λ s. seat_of s) seats) w.tables
       → w.config ≡ numbers_of d → w.start ≡ opening_of d → w.base ≡ (numbers_of d).base
       → HaveMet allows (numbers_of d) (opening_of d) firsts (map (λ s. seat_of s) seats) w
-  have_met firsts seats w new on many law config opening base = record {
+  have_met firsts seats w new on many law apart tables config opening base = record {
     config = config;
     opening = opening;
     base = base;
@@ -57,5 +61,7 @@ module _ {P : Type 0} {rules : _} (d : Domain P) (starts : State → Type 0) (al
         subst (λ k. k < length seats) maker.2
         (All-contains (λ s. (seat_of s).number < length seats) seats maker.0 (all_below d firsts seats new on) maker.1))
         w.history (All-contains_itself w.history));
-    each = each_met w firsts seats on law.seen law.mine law.rests;
+    each = each_met w firsts seats on law.seen law.mine law.rests law.named;
+    numbered = apart;
+    tables = tables;
   }

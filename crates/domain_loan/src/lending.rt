@@ -1,26 +1,24 @@
-// The loan of a domain to its seats, and back; the tables of their logs; and the meeting.
+// The loan of a domain to its seats, and back, and the meeting.
 ghost use Rattle.std.specs.Prelude.{◌≡◌, ◌≤◌, [], List, length, map, All, IfOk, IfErr, vec_capacity};
 ghost use Rattle.domain_loan.specs.Lending.{IsLeft};
-ghost use Rattle.domain_loan.specs.Met.{AllContinue, AreTablesOf, HaveMet};
+ghost use Rattle.domain_loan.specs.Met.{AllContinue, HaveMet};
 ghost use Rattle.domain_loan.specs.New.{AreNewFrom};
 ghost use Rattle.mv_history.specs.Meaning as history;
 ghost use Rattle.mvrlu.specs.Meant.{numbers_of, opening_of, seat_of, handled, whole_of, IsSeatOf};
 
-use mv_history::{LogTable, Protocol};
+use mv_history::Protocol;
 use mvrlu::{Closing, Domain, Handle, Seat};
 use std::alloc::{AllocError, Global};
 
-/// What is left of seats that were lent: the row that they stood in, and one for the tables of their logs.
+/// What is left of seats that were lent: the row that they stood in.
 pub struct Left<P: Protocol> {
     /// Room for the seats.
     pub seats: Vec<Seat<P>>,
-    /// Room for the tables.
-    pub tables: Vec<LogTable>,
 }
 
 /// Lends a domain to its seats, in their order.
 ///
-/// The error is want of memory for the handles or the tables, and hands back the seats.
+/// The error is want of memory for the handles, and hands back the seats.
 pub fn lend_all<'d, P: Protocol>(
     alloc: Global,
     domain: &'d Domain<P>,
@@ -31,37 +29,26 @@ pub fn lend_all<'d, P: Protocol>(
     ensures left { IfOk result (λ lent. IsLeft lent.1 (length lent.0.items)) }
     ensures err { IfErr result (λ refused. refused.0 ≡ seats) }
 {
-    let Ok(tables) = Vec::with_capacity(alloc, seats.len()) else {
-        return Err((seats, AllocError));
-    };
     // A row of handles can't be let go, so nothing is refused from here on.
     let Ok(mut handles) = Vec::with_capacity(alloc, seats.len()) else {
         return Err((seats, AllocError));
     };
     lend(domain, &mut seats, &mut handles);
-    Ok((handles, Left { seats, tables }))
+    Ok((handles, Left { seats }))
 }
 
-/// Takes back the seats, and the tables of their logs, in the order of the handles. It takes no memory.
-pub fn take_back<P: Protocol>(
-    handles: Vec<Handle<'_, P>>,
-    left: Left<P>,
-) -> (Vec<Seat<P>>, Vec<LogTable>)
+/// Takes back the seats, in the order of the handles. It takes no memory.
+pub fn take_back<P: Protocol>(handles: Vec<Handle<'_, P>>, left: Left<P>) -> Vec<Seat<P>>
     requires left { IsLeft left (length handles.items) }
-    ensures seats { map seat_of result.0.items ≡ map handled handles.entry.items }
-    ensures tables { AreTablesOf (map seat_of result.0.items) result.1.items }
+    ensures seats { map seat_of result.items ≡ map handled handles.entry.items }
 {
-    let Left {
-        mut seats,
-        mut tables,
-    } = left;
-    take_tables(&handles, &mut tables);
+    let Left { mut seats } = left;
     give_back(handles, &mut seats);
-    (seats, tables)
+    seats
 }
 
 /// Lets all seats of a domain meet, in order of number, each gone on from the one that `open` gave. There is one history of
-/// it all, and each seat stands in it (`HaveMet`). It never refuses and takes no memory.
+/// it all, each seat stands in it, and the closing has their tables (`HaveMet`). It never refuses and takes no memory.
 pub fn meet_all<P: Protocol>(domain: Domain<P>, seats: Vec<Seat<P>>) -> Closing<P>
     requires gone_on { (firsts : List history.Seat) × AreNewFrom domain 0 firsts × AllContinue firsts (map seat_of seats.items) }
     requires all { length seats.items ≡ (numbers_of domain).seats }
@@ -99,15 +86,4 @@ fn give_back<P: Protocol>(mut handles: Vec<Handle<'_, P>>, seats: &mut Vec<Seat<
         seats.push_reserved(handles.remove(0).into_seat());
     }
     handles.destroy_empty();
-}
-
-// Takes the table of each seat's log, in the order of the handles. There is room for the tables. It takes no memory.
-fn take_tables<P: Protocol>(handles: &[Handle<'_, P>], tables: &mut Vec<LogTable>)
-    requires none { tables.old.items ≡ [] }
-    requires room { length handles.now ≤ vec_capacity tables.old }
-    ensures tables { AreTablesOf (map handled handles.now) tables.new.items }
-{
-    for handle in handles {
-        tables.push_reserved(handle.table());
-    }
 }

@@ -3,16 +3,17 @@
 //! # Model
 //!
 //! A domain that is lent has a handle for each of its seats, in their order. What was run went from the
-//! seats before to the seats after; the tables of the logs are taken, and the seats given back. Once all
-//! have met, there is one history of it all (`HaveMet` in `specs/Met.antt`).
+//! seats before to the seats after, and these are given back. Once all have met, there is one history of it
+//! all, and the closing has the table of each seat's log (`HaveMet` in `specs/Met.antt`).
 //!
 //! # Contract
 //!
 //! - `lend_all` answers a handle for each seat and what is left to give them back, or, for want of memory,
 //!   the seats.
-//! - `take_back` answers the seats, and the table of each one's log.
+//! - `take_back` answers the seats.
 //! - `meet_all` answers the closing of the domain: its history is legal, and allowed by the rules from the
-//!   opening state; all that each seat had seen is a beginning of it; and each entry is of one of the seats.
+//!   opening state; all that each seat had seen is a beginning of it; each entry is of one of the seats; it
+//!   tells which seats met, with their steps, and these are they; and its tables are theirs, in their order.
 //!
 //! All memory is taken before a handle is made, since a handle can't be let go.
 //!

@@ -15,12 +15,15 @@ pub is_run : {T : Type 0} (does : Seat → Seat → T → T → Type 0) (allows 
     (start : State) (firsts met : List Seat) (olds news : List T) (w : Whole) → AreFrom (new_seat home c start) 0 firsts
     → HaveMet allows c start firsts met w → AllDid does firsts met olds news → IsRun does allows home c start olds news met w
 is_run does allows home c start firsts met olds news w new have ran = record {
+  config = have.config;
   opening = have.opening;
   base = have.base;
   legal = have.legal;
   allowed = have.allowed;
   time = have.time;
   makers = have.makers;
+  numbered = have.numbered;
+  tables = have.tables;
   many = did_long does firsts met olds news ran;
   seats = did_each does firsts met olds news ran;
   each = λ k n s e f.
@@ -35,6 +38,7 @@ is_run does allows home c start firsts met olds news w new have ran = record {
           seen = on.seen;
           mine = on.mine;
           rests = on.rests;
+          named = on.named;
         },
       );
 }

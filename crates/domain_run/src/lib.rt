@@ -13,7 +13,8 @@
 //! - it is legal, and allowed by the rules from the opening state;
 //! - the k-th task did what it says, once, from the new seat of number k to a seat that met. All that this seat had seen is
 //!   a beginning of the history, and its commits and rests are those of its number in it;
-//! - each entry is of one of the seats.
+//! - each entry is of one of the seats;
+//! - the closing's tables are those of the seats that met, by number.
 //!
 //! So what a task says of its seat holds of the whole history, at every interleaving. A run that isn't begun, for numbers
 //! out of range or for want of memory, hands back all that it was given, as it was.
@@ -22,7 +23,7 @@
 //!
 //! All memory is taken before a handle is made, since a handle can't be let go. The domain is lent to its seats in their order
 //! (`domain_loan`), each handle goes into a worker with its task (`workers.rt`), each of these runs in a thread, and the seats
-//! are taken back with the tables of their logs. A method that takes any `S: Store` is what a `Task` needs: one that takes a
+//! are taken back. A method that takes any `S: Store` is what a `Task` needs: one that takes a
 //! handle can't be written outside this crate.
 //!
 //! # Its place

@@ -1,6 +1,6 @@
 // A run over a domain.
 ghost use Rattle.std.specs.Prelude.{◌≡◌, ℕ, List, length, map, IfOk, IfErr};
-ghost use Rattle.domain_loan.specs.Met.{AllContinue, AreTablesOf};
+ghost use Rattle.domain_loan.specs.Met.{AllContinue};
 ghost use Rattle.domain_loan.specs.New.{fresh, AreNewFrom};
 ghost use Rattle.domain_run.specs.Runs.{AllDid, AreReady, IsRun};
 ghost use Rattle.mv_history.specs.Meaning as history;
@@ -11,7 +11,7 @@ ghost use Rattle.mvrlu.specs.Opened.{Refuses, new_seat};
 use crate::task::Task;
 use crate::workers::run_each;
 use domain_loan::{lend_all, meet_all, take_back};
-use mv_history::{LogTable, Protocol, Words};
+use mv_history::{Protocol, Words};
 use mv_layout::Config;
 use mvrlu::{Closing, Domain, OpenFault, Seat, open};
 use std::alloc::Global;
@@ -47,7 +47,7 @@ pub fn run<R: Threads + Wait + Sync, P: Protocol + Send + Sync, T: Task<P> + Sen
         Err(fault) => return Err((tasks, fault)),
     };
     match run_on(rt, alloc, domain, seats, tasks) {
-        Ok((closing, tasks, _tables)) => Ok((closing, tasks)),
+        Ok(done) => Ok(done),
         Err((domain, seats, tasks)) => {
             let _ = domain.meet(seats);
             Err((tasks, OpenFault::Memory))
@@ -58,8 +58,8 @@ pub fn run<R: Threads + Wait + Sync, P: Protocol + Send + Sync, T: Task<P> + Sen
 /// Runs each task on the seat of its place, in a thread of its own, and lets all seats meet. It needs all seats of the
 /// domain as `open` gave them, in order of number, and a task for each.
 ///
-/// It answers the closing of the domain, the tasks in their order, each as its run left it, and the tables of the seats'
-/// logs, taken before the meeting. What holds of them is as said of [`run`].
+/// It answers the closing of the domain, which has the tables of the seats' logs, and the tasks in their order, each as its
+/// run left it. What holds of them is as said of [`run`].
 ///
 /// The error is want of memory. It comes before any task is begun, and hands back the domain, its seats and the tasks as
 /// they were.
@@ -69,17 +69,17 @@ pub fn run_on<R: Threads + Wait + Sync, P: Protocol + Send + Sync, T: Task<P> + 
     domain: Domain<P>,
     seats: Vec<Seat<P>>,
     tasks: Vec<T>,
-) -> Result<(Closing<P>, Vec<T>, Vec<LogTable>), (Domain<P>, Vec<Seat<P>>, Vec<T>)>
+) -> Result<(Closing<P>, Vec<T>), (Domain<P>, Vec<Seat<P>>, Vec<T>)>
     requires new { AreNewFrom domain 0 (map seat_of seats.items) }
     requires all { length seats.items ≡ (numbers_of domain).seats }
     requires as_many { length tasks.items ≡ length seats.items }
     requires ready { AreReady T.ready (fresh domain) tasks.items }
-    ensures ran { IfOk result (λ done. (met : List history.Seat) × AreTablesOf met done.2.items
+    ensures ran { IfOk result (λ done. (met : List history.Seat)
         × IsRun (T.did Took) P.allowed (name_of domain) (numbers_of domain) (opening_of domain) tasks.items done.1.items met (whole_of done.0)) }
     ensures refused { IfErr result (λ back. (back.0 ≡ domain) × (back.1 ≡ seats) × (back.2 ≡ tasks)) }
 {
     match run_lent(rt, alloc, &domain, seats, tasks) {
-        Ok((seats, tasks, tables)) => Ok((meet_all(domain, seats), tasks, tables)),
+        Ok((seats, tasks)) => Ok((meet_all(domain, seats), tasks)),
         Err((seats, tasks)) => Err((domain, seats, tasks)),
     }
 }
@@ -91,14 +91,13 @@ fn run_lent<R: Threads + Wait + Sync, P: Protocol + Send + Sync, T: Task<P> + Se
     domain: &Domain<P>,
     seats: Vec<Seat<P>>,
     tasks: Vec<T>,
-) -> Result<(Vec<Seat<P>>, Vec<T>, Vec<LogTable>), (Vec<Seat<P>>, Vec<T>)>
+) -> Result<(Vec<Seat<P>>, Vec<T>), (Vec<Seat<P>>, Vec<T>)>
     requires new { AreNewFrom domain.now 0 (map seat_of seats.items) }
     requires as_many { length tasks.items ≡ length seats.items }
     requires ready { AreReady T.ready (fresh domain.now) tasks.items }
     ensures gone_on { IfOk result (λ done. AllContinue (map seat_of seats.items) (map seat_of done.0.items)) }
     ensures did { IfOk result (λ done.
         AllDid (T.did Took) (map seat_of seats.items) (map seat_of done.0.items) tasks.items done.1.items) }
-    ensures tables { IfOk result (λ done. AreTablesOf (map seat_of done.0.items) done.2.items) }
     ensures refused { IfErr result (λ back. (back.0 ≡ seats) × (back.1 ≡ tasks)) }
 {
     let Ok(workers) = Vec::with_capacity(alloc, seats.len()) else {
@@ -112,6 +111,5 @@ fn run_lent<R: Threads + Wait + Sync, P: Protocol + Send + Sync, T: Task<P> + Se
         }
     };
     let (handles, tasks) = run_each(rt, handles, tasks, workers);
-    let (seats, tables) = take_back(handles, left);
-    Ok((seats, tasks, tables))
+    Ok((take_back(handles, left), tasks))
 }

@@ -26,6 +26,8 @@ mod moves;
 #[cfg(test)]
 mod opening;
 #[cfg(test)]
+mod owned_closing;
+#[cfg(test)]
 mod owned_rows;
 #[cfg(test)]
 mod owned_seats;

@@ -15,6 +15,7 @@ const TWO: OpenSets = OpenSets {
     seats: 2,
     objects: 256,
     slots: 64,
+    opening_time: 0,
 };
 
 // The set of this index.

@@ -8,7 +8,7 @@ use crate::clients::Client;
 use crate::comparing::assert_same;
 use crate::lending::{give_back, lend};
 use crate::moves::{Answer, Move, make};
-use mv_history::{AnyRules, View, Words};
+use mv_history::{AnyRules, LogTable, View, Words};
 use mv_layout::Config;
 use mvrlu::{Closing, Domain, OpenFault, Seat, open_zeros};
 use std::alloc::{AllocError, Global};
@@ -30,7 +30,8 @@ pub struct Schedule<'a> {
     pub turns: &'a [&'a [Turn]],
     /// Its turns after all seats were given back and lent again; a section that was left open is given up.
     pub again: &'a [Turn],
-    /// The time of the closing, and the words of its first objects.
+    /// The time of the closing, and the words of its first objects. A seat whose last turn told its table has that table
+    /// there too.
     pub closing: (u64, &'a [Words]),
 }
 
@@ -47,6 +48,8 @@ pub enum Otherwise {
     Time(u64),
     /// The words of an object of the closing; None where there is no such object.
     Object(u32, Option<Words>),
+    /// The closing's table of the seat of this number; None where there is no such table.
+    Table(usize, Option<LogTable>),
 }
 
 /// One seat and one object, sets of up to 16 objects, logs of 64 slots, and 0 as the opening time.
@@ -139,6 +142,37 @@ fn closed_otherwise(mut closing: Closing<AnyRules>, wanted: (u64, &[Words])) -> 
     None
 }
 
+// The table that the last of these turns of a seat told; where it has none, the one that was told before.
+fn told_last(turns: &[Turn], seat: usize, before: Option<LogTable>) -> Option<LogTable> {
+    let mut told = before;
+    for turn in turns {
+        if turn.0 == seat {
+            told = match turn.2 {
+                Answer::Counts(table) => Some(table),
+                _ => None,
+            };
+        }
+    }
+    told
+}
+
+// What of a closing's tables is otherwise than the last turns of the seats told.
+fn tables_otherwise(closing: &Closing<AnyRules>, schedule: &Schedule) -> Option<Otherwise> {
+    let tables = closing.tables();
+    for seat in 0..schedule.domain.seats as usize {
+        let mut told = None;
+        for part in schedule.turns {
+            told = told_last(part, seat, told);
+        }
+        told = told_last(schedule.again, seat, told);
+        let found = tables.get(seat).copied();
+        if found.is_none() || (told.is_some() && found != told) {
+            return Some(Otherwise::Table(seat, found));
+        }
+    }
+    None
+}
+
 // Lends the domain to the seats, plays parts of a schedule, and gives the domain back.
 fn play_lent<'d>(
     domain: &'d Domain<AnyRules>,
@@ -195,8 +229,10 @@ pub fn played(alloc: Global, schedule: &Schedule) -> Result<Option<Otherwise>, O
         }
     };
     let (seats, otherwise) = play_all(&domain, seats, clients, schedule);
-    let closed = closed_otherwise(domain.meet(seats), schedule.closing);
-    Ok(otherwise.or(closed))
+    let closing = domain.meet(seats);
+    let tables = tables_otherwise(&closing, schedule);
+    let closed = closed_otherwise(closing, schedule.closing);
+    Ok(otherwise.or(tables).or(closed))
 }
 
 /// Plays schedules. Every turn of each is to be answered as wanted.

@@ -11,7 +11,7 @@ ghost use Rattle.grow_report.specs.Whole.{GrowRunOf};
 ghost use Rattle.script_workers.specs.Workers.{items_of};
 ghost use Rattle.grow_workers.specs.Links.{AllLinkedTurns};
 ghost use Rattle.grow_hash.specs.GrowRules.{IsGrowCommit};
-ghost use Rattle.domain_loan.specs.Met.{AreTablesOf, MetAlong};
+ghost use Rattle.domain_loan.specs.Met.{MetAlong};
 ghost use Rattle.domain_loan.specs.New.{AreNewFrom};
 ghost use Rattle.domain_loan.specs.Shown.{handle_causes};
 ghost use Rattle.domain_lines.specs.Joined.{past_of_whole};
@@ -19,7 +19,6 @@ ghost use Rattle.domain_lines.specs.Joined.{past_of_whole};
 use domain_loan::{lend_all, meet_all, take_back};
 use grow_hash::GrowRules;
 use grow_workers::run_grow;
-use mv_history::LogTable;
 use mvrlu::{Closing, Domain, Seat};
 use run_outside::Gate;
 use run_report::Line;
@@ -35,8 +34,8 @@ use std::thread::Threads;
 /// has, sizes and nexts of `h0`, and an opening state of at least 1,026 objects whose words are all 0. `write_max` must be at
 /// least 64, which is as many objects as a split locks at most. `gate` is called around each command.
 ///
-/// It answers the closing of the domain, the lines, whose order is left open (`order_grown` of `grow_report` orders them),
-/// and the tables of the logs by seat. They are those of one run in the closing's history: every reply is the one that
+/// It answers the closing of the domain, which has the tables of the logs by seat, and the lines, whose order is left open
+/// (`order_grown` of `grow_report` orders them). They are those of one run in the closing's history: every reply is the one that
 /// the sequential catalogue gives at the line's printed place, and each commit of the history has exactly one line or is
 /// a split that was due.
 ///
@@ -52,10 +51,7 @@ pub fn run_grow_domain<R: Threads + Wait + Sync, G: Gate>(
     seats: Vec<Seat<GrowRules>>,
     scripts: &[Vec<Command>],
     gate: &G,
-) -> Result<
-    (Closing<GrowRules>, Vec<Line>, Vec<LogTable>),
-    (Domain<GrowRules>, Vec<Seat<GrowRules>>, AllocError),
->
+) -> Result<(Closing<GrowRules>, Vec<Line>), (Domain<GrowRules>, Vec<Seat<GrowRules>>, AllocError)>
     requires new { AreNewFrom domain 0 (map seat_of seats.items) }
     requires all { length seats.items ≡ (numbers_of domain).seats }
     requires opening { IsGrownOpening (opening_of domain) }
@@ -65,27 +61,24 @@ pub fn run_grow_domain<R: Threads + Wait + Sync, G: Gate>(
     requires most { 64 ≤ (numbers_of domain).write_max }
     ensures ran { IfOk result (λ done.
         GrowRunOf (past_of_whole (whole_of done.0)) (map items_of scripts.now) done.1.items (grown_catalogue (last_state (whole_of done.0)))
-        (count_splits (whole_of done.0).history) done.2.items) }
+        (count_splits (whole_of done.0).history) (whole_of done.0).tables) }
     ensures linked { IfOk result (λ done. MetAlong
         (λ firsts met. AllLinkedTurns (handle_causes IsGrownOpening IsGrowCommit) firsts met (map items_of scripts.now) done.1.items)
-        IsGrowCommit (numbers_of domain) (opening_of domain) (map seat_of seats.items) done.2.items (whole_of done.0)) }
+        IsGrowCommit (numbers_of domain) (opening_of domain) (map seat_of seats.items) (whole_of done.0)) }
     ensures opening { IfOk result (λ done.
         ((whole_of done.0).start ≡ opening_of domain) × ((whole_of done.0).base ≡ (numbers_of domain).base)) }
     ensures err { IfErr result (λ refused. (refused.0 ≡ domain) × (map seat_of refused.1.items ≡ map seat_of seats.items)) }
 {
     match run_seats(rt, alloc, &domain, seats, scripts, gate) {
-        Ok((seats, lines, tables)) => Ok((meet_all(domain, seats), lines, tables)),
+        Ok((seats, lines)) => Ok((meet_all(domain, seats), lines)),
         Err((seats, error)) => Err((domain, seats, error)),
     }
 }
 
-// What a run of the seats leaves: the seats, the lines and the tables; or the seats as they were.
-type FromSeats = Result<
-    (Vec<Seat<GrowRules>>, Vec<Line>, Vec<LogTable>),
-    (Vec<Seat<GrowRules>>, AllocError),
->;
+// What a run of the seats leaves: the seats and the lines; or the seats as they were.
+type FromSeats = Result<(Vec<Seat<GrowRules>>, Vec<Line>), (Vec<Seat<GrowRules>>, AllocError)>;
 
-// Runs a script on each seat, and takes the tables of their logs.
+// Runs a script on each seat.
 fn run_seats<R: Threads + Wait + Sync, G: Gate>(
     rt: &R,
     alloc: Global,
@@ -102,15 +95,11 @@ fn run_seats<R: Threads + Wait + Sync, G: Gate>(
     ensures ran { IfOk result (λ done. AllRanGrow (map seat_of seats.items) (map seat_of done.0.items) (map items_of scripts.now) done.1.items) }
     ensures linked { IfOk result (λ done. AllLinkedTurns (handle_causes IsGrownOpening IsGrowCommit) (map seat_of seats.items) (map seat_of done.0.items)
         (map items_of scripts.now) done.1.items) }
-    ensures tables { IfOk result (λ done. AreTablesOf (map seat_of done.0.items) done.2.items) }
     ensures err { IfErr result (λ refused. map seat_of refused.0.items ≡ map seat_of seats.items) }
 {
     let (handles, left) = lend_all(alloc, domain, seats)?;
     match run_grow(rt, alloc, handles, scripts, gate) {
-        Ok((handles, lines)) => {
-            let (seats, tables) = take_back(handles, left);
-            Ok((seats, lines, tables))
-        }
-        Err((handles, error)) => Err((take_back(handles, left).0, error)),
+        Ok((handles, lines)) => Ok((take_back(handles, left), lines)),
+        Err((handles, error)) => Err((take_back(handles, left), error)),
     }
 }

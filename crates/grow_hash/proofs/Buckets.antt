@@ -1,10 +1,7 @@
 -- The bucket of a key, and what a split does to it.
-use Rattle.std.proofs.Common.{◌≡◌, ◌≢◌, ℕ, zero, suc, ◌+◌, ◌*◌, ◌/◌, ◌-◌, ◌%◌, ◌<◌, ◌≤◌, ◌⊎◌, inl, inr, cond}
-use Rattle.std.proofs.Common.{Bool, sym, ap, ◌∙◌, arith, lt-ltb, le-ltb}
-use Rattle.std.proofs.lemmas.Bool.{cases_lt}
-use Rattle.std.proofs.Math.Nat.{mod-lt, div-add-mod}
 use Rattle.std.proofs.lemmas.Nat.{mod-mul-add}
-use Rattle.grow_hash.specs.Tables.{buckets_at, bucket_of}
+use Rattle.std.proofs.Common.{◌≡◌, ◌≢◌, ◌+◌, ◌*◌, ◌/◌, ◌-◌, ◌%◌, ◌<◌, ◌≤◌, ◌⊎◌, ℕ, zero, suc, inl, inr, cond, Bool, sym, ap, ◌∙◌, arith, lt-ltb, le-ltb, mod-lt}
+use Rattle.grow_hash.proofs.Terms.{cases_lt, div-add-mod, buckets_at, bucket_of}
 
 -- there are some buckets
 pub some_buckets : (level : ℕ) → 16 ≤ buckets_at level

@@ -1,14 +1,7 @@
 -- The catalogue of a growing hash set, node by node from the last one.
-use Rattle.std.proofs.Common.{◌≡◌, ◌≢◌, ℕ, zero, suc, ◌-◌, ◌^◌, ◌<◌, ◌≤◌, Bool, cond, List, [], ◌∷◌, length, drop, set}
-use Rattle.std.proofs.Common.{refl, sym, ap, ◌∙◌, subst, arith}
-use Rattle.mv_history.specs.State.{State}
-use Rattle.mv_history.specs.Meaning.{words_at}
-use Rattle.set_script.specs.Catalogue.{Map, Maps, empty, map_of, put}
 use Rattle.set_script.specs.CatalogueOf.{map_among}
-use Rattle.set_script.specs.Objects.{owner, key}
-use Rattle.set_script.proofs.ObjectWords.{word}
-use Rattle.grow_hash.specs.Tables.{bucket}
-use Rattle.grow_hash.specs.Grown.{IsGrown, is_used, grown_name}
+use Rattle.std.proofs.Common.{◌≡◌, ◌≢◌, ◌-◌, ◌^◌, ◌<◌, ◌≤◌, ◌∷◌, ℕ, zero, suc, Bool, cond, List, [], length, drop, set, refl, sym, ap, ◌∙◌, subst, arith}
+use Rattle.grow_hash.proofs.Terms.{State, words_at, Map, Maps, empty, map_of, put, owner, key, word, bucket, IsGrown, is_used, grown_name}
 use Rattle.grow_hash.proofs.GrownMaps.{used_owned, used_vacant}
 use Rattle.grow_hash.proofs.GrownStates.{bucket_low, node_of_bucket}
 

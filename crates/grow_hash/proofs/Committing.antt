@@ -1,15 +1,9 @@
 -- When a command's commit is one of a growing hash set.
-use Rattle.std.proofs.Common.{◌≡◌, ◌≤◌, true, false, length, sym, ap, ◌∙◌, subst, arith, Some}
-use Rattle.mv_history.specs.State.{State, Writes, written}
-use Rattle.mv_history.specs.Meaning.{words_at}
-use Rattle.mv_history.proofs.Writing.{length-written}
-use Rattle.set_script.specs.declared.commands.Command.{Command}
-use Rattle.set_script.specs.Catalogue.{cost}
-use Rattle.set_script.specs.Replies.{changed, applies, overflows}
-use Rattle.set_script.specs.Tags.{tag_of}
 use Rattle.set_script.proofs.Replying.{overflows-fits, Works, works}
-use Rattle.grow_hash.specs.Grown.{grown_catalogue, grown_capacity}
-use Rattle.grow_hash.specs.GrowRules.{makes, growing_of, KeepsGrown, Grows, IsGrowCommit}
+use Rattle.set_script.specs.Catalogue.{cost}
+use Rattle.std.proofs.Common.{◌≡◌, ◌≤◌}
+use Rattle.grow_hash.proofs.Terms.{true, false, length, sym, ap, ◌∙◌, subst, arith, Some, State, Writes, written, words_at, length-written, Command, changed}
+use Rattle.grow_hash.proofs.Terms.{applies, overflows, tag_of, grown_catalogue, grown_capacity, makes, growing_of, KeepsGrown, Grows, IsGrowCommit}
 use Rattle.grow_hash.proofs.GrownStates.{lawful_fits}
 
 -- What a commit leaves that keeps what it must has room in the nodes.

@@ -1,14 +1,7 @@
 -- From what the searches of a growing hash set read to what they find.
-use Rattle.std.proofs.Common.{◌≡◌, ℕ, suc, ◌+◌, ◌<◌, ◌≤◌, inl, inr, List, length, Option, sym, ap, ◌∙◌, subst, arith}
-use Rattle.std.proofs.lemmas.Bool.{cases_eq}
-use Rattle.mv_history.specs.State.{State}
-use Rattle.set_script.specs.Catalogue.{next_key}
-use Rattle.set_script.specs.CatalogueOf.{map_at}
-use Rattle.list_set.specs.Linked.{IsLinked}
-use Rattle.list_set.specs.Walks.{IsSpot}
-use Rattle.grow_hash.specs.Tables.{level, split_place, buckets_at, bucket_of, bucket, buckets}
-use Rattle.grow_hash.specs.Grown.{IsGrown, head_at}
-use Rattle.grow_hash.specs.GrowPlans.{head_of}
+use Rattle.std.proofs.Common.{◌≡◌, ◌+◌, ◌<◌, ◌≤◌}
+use Rattle.grow_hash.proofs.Terms.{ℕ, suc, inl, inr, List, length, Option, sym, ap, ◌∙◌, subst, arith, cases_eq, State, next_key, map_at, IsLinked, IsSpot}
+use Rattle.grow_hash.proofs.Terms.{level, split_place, buckets_at, bucket_of, bucket, buckets, IsGrown, head_at, head_of}
 use Rattle.grow_hash.proofs.Buckets.{few_buckets, more_buckets, twice_buckets}
 use Rattle.grow_hash.proofs.GrownStates.{bucket_low}
 

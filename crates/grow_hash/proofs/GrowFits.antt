@@ -1,24 +1,9 @@
 -- An add or a del stays allowed whatever others commit meanwhile that writes nothing of it.
-use Rattle.std.proofs.Common.{◌≡◌, ◌≢◌, ℕ, suc, ◌^◌, ◌<◌, ◌≤◌, inl, inr, true, false, true≢false, List, [], ◌∷◌, length, refl, sym, ap, ◌∙◌, subst}
-use Rattle.std.proofs.Common.{arith, Option, Some, None}
-use Rattle.std.proofs.lemmas.Bool.{cases_eq}
-use Rattle.mv_history.specs.State.{State, Writes, written, touches}
-use Rattle.mv_history.specs.Drift.{IsFit}
-use Rattle.mv_history.specs.Meaning.{words_at}
-use Rattle.mv_history.proofs.Writing.{length-written}
-use Rattle.mv_history.proofs.Drifting.{drift_keeps_apart}
-use Rattle.set_script.specs.declared.commands.Command.{Command}
-use Rattle.set_script.specs.declared.commands.Command.TheVariants.{Add, Put, Del, Has, Get, Move, Pair, Size, Next}
-use Rattle.set_script.specs.Objects.{owner, key, link, list_words, no_words, relink}
-use Rattle.set_script.specs.Tags.{tag_of}
-use Rattle.set_script.proofs.ObjectWords.{word}
-use Rattle.section_work.proofs.Objects.{touches-in}
-use Rattle.list_set.specs.Places.{IsInList, IsAddPlace, add_writes, IsDelPlace, del_writes}
-use Rattle.list_set.specs.Linked.{IsNodeOf}
-use Rattle.grow_hash.specs.Tables.{split_place, bucket}
-use Rattle.grow_hash.specs.Grown.{IsGrown, head_at, grown_name}
-use Rattle.grow_hash.specs.GrowRules.{Growing, makes, splits, growing_of, Grows, IsGrowCommit}
-use Rattle.grow_hash.specs.GrowPlans.{GrowPlan, head_of, IsGrowing}
+use Rattle.std.proofs.Common.{◌≡◌, ◌≢◌, ◌^◌, ◌<◌, ◌≤◌, ◌∷◌, ℕ, suc, inl, inr, true, false, true≢false, List, [], length, refl, sym, ap, ◌∙◌, subst, arith, Some}
+use Rattle.grow_hash.proofs.Terms.{Option, None, cases_eq, State, Writes, written, touches, IsFit, words_at, length-written, drift_keeps_apart, Command, Add}
+use Rattle.grow_hash.proofs.Terms.{Put, Del, Has, Get, Move, Pair, Size, Next, owner, key, link, list_words, no_words, relink, tag_of, word, touches-in}
+use Rattle.grow_hash.proofs.Terms.{IsInList, IsAddPlace, add_writes, IsDelPlace, del_writes, IsNodeOf, split_place, bucket, IsGrown, head_at, grown_name}
+use Rattle.grow_hash.proofs.Terms.{Growing, makes, splits, growing_of, Grows, IsGrowCommit, GrowPlan, head_of, IsGrowing}
 use Rattle.grow_hash.proofs.GrownAdds.{add_allowed}
 use Rattle.grow_hash.proofs.GrownDels.{del_allowed}
 use Rattle.grow_hash.proofs.GrownStates.{bucket_kept, bucket_low}

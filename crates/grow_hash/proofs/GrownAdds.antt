@@ -1,22 +1,9 @@
 -- An add at its place keeps a grown state lawful, and puts its key into the set.
-use Rattle.std.proofs.Common.{◌≡◌, ◌≢◌, ℕ, suc, ◌^◌, ◌<◌, ◌≤◌, ◌⊎◌, inl, inr, false, not, [], length, set, refl, sym, ap, ◌∙◌, subst, arith}
-use Rattle.std.proofs.Common.{get_or-set_other, length-set}
-use Rattle.std.proofs.lemmas.Bool.{cases_eq, false_from_ne_true}
-use Rattle.mv_history.specs.State.{State, written}
-use Rattle.mv_history.specs.Meaning.{words_at}
-use Rattle.mv_history.proofs.Writing.{length-written}
-use Rattle.set_script.specs.declared.commands.Command.TheVariants.{Add}
-use Rattle.set_script.specs.Catalogue.{empty, has_key, put}
-use Rattle.set_script.specs.Objects.{owner, key, link, value, head_words, list_words, relink}
-use Rattle.set_script.specs.Tags.{tag_of}
-use Rattle.set_script.proofs.ObjectWords.{word, owned_in_range, owner-relink, kind-relink, key-relink}
-use Rattle.list_set.specs.Places.{IsInList, IsAddPlace, add_writes}
-use Rattle.list_set.specs.Linked.{IsNodeOf, IsLinked}
-use Rattle.list_set.proofs.Changes.{Added}
 use Rattle.list_set.proofs.Adding.{add_writes_do}
-use Rattle.grow_hash.specs.Tables.{bucket}
-use Rattle.grow_hash.specs.Grown.{IsGrown, head_at, grown_map, grown_name}
-use Rattle.grow_hash.specs.GrowRules.{KeepsGrown, IsGrowCommit}
+use Rattle.std.proofs.Common.{◌≡◌, ◌≢◌, ◌^◌, ◌<◌, ◌≤◌, ◌⊎◌, ℕ, suc, inl, inr, false, not, [], length, set, refl, sym, ap, ◌∙◌, subst, arith, get_or-set_other}
+use Rattle.grow_hash.proofs.Terms.{length-set, cases_eq, false_from_ne_true, State, written, words_at, length-written, Add, empty, has_key, put, owner, key}
+use Rattle.grow_hash.proofs.Terms.{link, value, head_words, list_words, relink, tag_of, word, owned_in_range, owner-relink, kind-relink, key-relink, IsInList}
+use Rattle.grow_hash.proofs.Terms.{IsAddPlace, add_writes, IsNodeOf, IsLinked, Added, bucket, IsGrown, head_at, grown_map, grown_name, KeepsGrown, IsGrowCommit}
 use Rattle.grow_hash.proofs.KeptLists.{list_kept}
 use Rattle.grow_hash.proofs.LinkedAdds.{add_new, Inserted, more_owner, more_key, list_more}
 use Rattle.grow_hash.proofs.GrownMaps.{grown_map-keeps, grown_map-relink, grown_map-more}

@@ -1,22 +1,10 @@
 -- A del at its place keeps a grown state lawful, and takes its key out of the set.
-use Rattle.std.proofs.Common.{◌≡◌, ◌≢◌, ℕ, suc, ◌<◌, ◌≤◌, ◌⊎◌, inl, inr, true, false, [], length, set, refl, sym, ap, ◌∙◌, subst, arith}
-use Rattle.std.proofs.Common.{get_or-set_other, length-set}
-use Rattle.std.proofs.lemmas.Bool.{cases_eq, false_from_ne_true}
-use Rattle.mv_history.specs.State.{State, written}
-use Rattle.mv_history.specs.Meaning.{words_at}
-use Rattle.mv_history.proofs.Writing.{length-written}
-use Rattle.set_script.specs.declared.commands.Command.TheVariants.{Del}
-use Rattle.set_script.specs.Catalogue.{empty, has_key, take_out}
-use Rattle.set_script.specs.Objects.{owner, key, link, value, head_words, list_words, no_words, relink}
-use Rattle.set_script.specs.Tags.{tag_of}
-use Rattle.set_script.proofs.ObjectWords.{word, owned_in_range, owner-relink, kind-relink, key-relink}
-use Rattle.list_set.specs.Places.{IsDelPlace, del_writes}
-use Rattle.list_set.specs.Linked.{IsNodeOf, IsLinked}
-use Rattle.list_set.proofs.Changes.{Taken}
 use Rattle.list_set.proofs.Removing.{del_writes_do}
-use Rattle.grow_hash.specs.Tables.{bucket}
-use Rattle.grow_hash.specs.Grown.{IsGrown, head_at, grown_map, grown_name}
-use Rattle.grow_hash.specs.GrowRules.{KeepsGrown, IsGrowCommit}
+use Rattle.std.proofs.Common.{◌≡◌, ◌≢◌, ◌<◌, ◌≤◌, ◌⊎◌}
+use Rattle.grow_hash.proofs.Terms.{ℕ, suc, inl, inr, true, false, [], length, set, refl, sym, ap, ◌∙◌, subst, arith, get_or-set_other, length-set, cases_eq}
+use Rattle.grow_hash.proofs.Terms.{false_from_ne_true, State, written, words_at, length-written, Del, empty, has_key, take_out, owner, key, link, value}
+use Rattle.grow_hash.proofs.Terms.{head_words, list_words, no_words, relink, tag_of, word, owned_in_range, owner-relink, kind-relink, key-relink, IsDelPlace}
+use Rattle.grow_hash.proofs.Terms.{del_writes, IsNodeOf, IsLinked, Taken, bucket, IsGrown, head_at, grown_map, grown_name, KeepsGrown, IsGrowCommit}
 use Rattle.grow_hash.proofs.KeptLists.{list_kept}
 use Rattle.grow_hash.proofs.LinkedDels.{del_node, del_apart, Unlinked, less_owner, less_key, list_less}
 use Rattle.grow_hash.proofs.GrownMaps.{Keeps, grown_map-keeps, keeps-grown_map, grown_map-relink, grown_map-less}

@@ -1,18 +1,11 @@
 -- The set for which a grown lawful state stands.
-use Rattle.std.proofs.Common.{◌≡◌, ◌≢◌, ℕ, suc, ◌+◌, ◌-◌, ◌<◌, ◌≤◌, inl, inr, true, false, not, eqb, ne_eqb, List, []}
-use Rattle.std.proofs.Common.{length, set, drop, refl, sym, ap, ◌∙◌, arith, get_or-drop, length-drop}
-use Rattle.std.proofs.lemmas.List.{drop-set-lt, drop-set-add}
-use Rattle.std.proofs.lemmas.Bool.{cases_lt}
-use Rattle.std.proofs.lemmas.Bool.Decides.{nat_tests}
-use Rattle.mv_history.specs.State.{State}
-use Rattle.mv_history.specs.Meaning.{words_at}
-use Rattle.set_script.specs.Catalogue.{Map, has_key, put, take_out, cost, empty}
+use Rattle.set_script.specs.Catalogue.{cost}
 use Rattle.set_script.specs.CatalogueOf.{map_among}
-use Rattle.set_script.specs.Objects.{owner, key, value, relink}
-use Rattle.set_script.proofs.ObjectWords.{word, owned_in_range, owner-relink, key-relink, value-relink}
-use Rattle.set_script.proofs.Mapped.{map_among-same, map_among-more, map_among-less, map_among-has, has-map_among}
-use Rattle.set_script.proofs.Tally.{tally, tally-bound, length-map_among}
-use Rattle.grow_hash.specs.Grown.{is_used, grown_map, grown_name, grown_catalogue, grown_capacity}
+use Rattle.std.proofs.Common.{◌≡◌, ◌≢◌, ◌+◌, ◌-◌, ◌<◌, ◌≤◌, ℕ, suc, inl, inr, true, false, not, eqb, ne_eqb, List, [], length, set, drop, refl, sym, ap, ◌∙◌}
+use Rattle.grow_hash.proofs.Terms.{arith, get_or-drop, length-drop, drop-set-lt, drop-set-add, cases_lt, nat_tests, State, words_at, Map, has_key, put}
+use Rattle.grow_hash.proofs.Terms.{take_out, empty, owner, key, value, relink, word, owned_in_range, owner-relink, key-relink, value-relink, map_among-same}
+use Rattle.grow_hash.proofs.Terms.{map_among-more, map_among-less, map_among-has, has-map_among, tally, tally-bound, length-map_among, is_used, grown_map}
+use Rattle.grow_hash.proofs.Terms.{grown_name, grown_catalogue, grown_capacity}
 
 pub used_owned : (w : List ℕ) → word 0 w ≢ 0 → is_used w ≡ true
 used_owned w n = ap not (ne_eqb (word 0 w) 0 n)

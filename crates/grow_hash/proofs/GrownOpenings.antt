@@ -1,14 +1,7 @@
 -- The states with which a growing hash set begins are lawful.
-use Rattle.std.proofs.Common.{◌≡◌, ℕ, suc, ◌*◌, ◌^◌, ◌<◌, inl, inr, [], length, sym, ap, ◌∙◌, subst, arith}
-use Rattle.std.proofs.lemmas.Bool.{cases_lt}
-use Rattle.std.proofs.lemmas.List.{get_or_past}
-use Rattle.mv_history.specs.State.{State}
-use Rattle.mv_history.specs.Meaning.{words_at}
-use Rattle.set_script.specs.Objects.{owner, link, no_words}
-use Rattle.set_script.proofs.ObjectWords.{word}
-use Rattle.list_set.specs.Linked.{IsNodeOf, IsLinked}
-use Rattle.grow_hash.specs.Tables.{level, table_words}
-use Rattle.grow_hash.specs.Grown.{IsGrown, IsGrownOpening, head_at}
+use Rattle.std.proofs.Common.{◌≡◌, ◌*◌, ◌^◌, ◌<◌}
+use Rattle.grow_hash.proofs.Terms.{ℕ, suc, inl, inr, [], length, sym, ap, ◌∙◌, subst, arith, cases_lt, get_or_past, State, words_at, owner, link, no_words}
+use Rattle.grow_hash.proofs.Terms.{word, IsNodeOf, IsLinked, level, table_words, IsGrown, IsGrownOpening, head_at}
 use Rattle.grow_hash.proofs.GrownStates.{head_is}
 
 opening_owner : (s : State) → IsGrownOpening s → (o : ℕ) → owner s o ≡ 0

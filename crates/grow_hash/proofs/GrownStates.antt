@@ -1,14 +1,8 @@
 -- What is known of a grown lawful state.
-use Rattle.std.proofs.Common.{◌≡◌, ◌≢◌, ℕ, zero, suc, ◌*◌, ◌^◌, ◌<◌, ◌≤◌, inl, inr, List, sym, ap, ◌∙◌, subst, arith}
-use Rattle.std.proofs.lemmas.Bool.{cases_lt}
-use Rattle.mv_history.specs.State.{State}
-use Rattle.mv_history.specs.Meaning.{words_at}
 use Rattle.set_script.specs.Catalogue.{cost}
-use Rattle.set_script.specs.Objects.{owner, key, head_words, list_words}
-use Rattle.set_script.proofs.ObjectWords.{word}
-use Rattle.list_set.specs.Linked.{IsNodeOf}
-use Rattle.grow_hash.specs.Tables.{level, split_place, bucket_of, bucket, table_words, IsTable}
-use Rattle.grow_hash.specs.Grown.{IsGrown, head_at, grown_catalogue, grown_capacity}
+use Rattle.std.proofs.Common.{◌≡◌, ◌≢◌, ◌*◌, ◌^◌, ◌<◌, ◌≤◌, ℕ, zero, suc, inl, inr, List, sym, ap, ◌∙◌, subst, arith}
+use Rattle.grow_hash.proofs.Terms.{cases_lt, State, words_at, owner, key, head_words, list_words, word, IsNodeOf, level, split_place, bucket_of, bucket}
+use Rattle.grow_hash.proofs.Terms.{table_words, IsTable, IsGrown, head_at, grown_catalogue, grown_capacity}
 use Rattle.grow_hash.proofs.Buckets.{bucket_in}
 use Rattle.grow_hash.proofs.GrownMaps.{Keeps, grown_fits}
 

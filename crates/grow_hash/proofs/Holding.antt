@@ -1,16 +1,9 @@
 -- The keys of a bucket and those of the set.
-use Rattle.std.proofs.Common.{◌≡◌, ℕ, Bool, true, false, refl, sym, ap, ◌∙◌}
-use Rattle.mv_history.specs.State.{State}
-use Rattle.mv_history.specs.Meaning.{words_at}
-use Rattle.set_script.specs.Catalogue.{has_key}
-use Rattle.set_script.specs.CatalogueOf.{map_at}
 use Rattle.set_script.proofs.Heads.{is_key_at-from}
 use Rattle.set_script.proofs.ListMaps.{holds-map_at, map_at-holds}
-use Rattle.list_set.specs.Linked.{IsNodeOf}
 use Rattle.list_set.proofs.Walking.{node_picked}
-use Rattle.grow_hash.specs.Tables.{bucket}
-use Rattle.grow_hash.specs.Grown.{IsGrown, head_at, grown_map}
-use Rattle.grow_hash.specs.GrowPlans.{head_of}
+use Rattle.std.proofs.Common.{◌≡◌, ℕ, Bool, true, false, refl, sym, ap, ◌∙◌}
+use Rattle.grow_hash.proofs.Terms.{State, words_at, has_key, map_at, IsNodeOf, bucket, IsGrown, head_at, grown_map, head_of}
 use Rattle.grow_hash.proofs.GrownMaps.{grown_map-keeps, keeps-grown_map}
 use Rattle.grow_hash.proofs.GrownStates.{bucket_low, node_bucket, keeps_node, node_keeps}
 

@@ -1,11 +1,6 @@
 -- A list of which nothing changes.
-use Rattle.std.proofs.Common.{◌≡◌, ◌≢◌, ℕ, ◌^◌, ◌<◌, ◌≤◌, inl, inr, length, sym, ap, ◌∙◌, subst, arith}
-use Rattle.mv_history.specs.State.{State}
-use Rattle.mv_history.specs.Meaning.{words_at}
-use Rattle.set_script.specs.Objects.{key, link}
-use Rattle.set_script.proofs.ObjectWords.{word}
-use Rattle.list_set.specs.Places.{IsInList}
-use Rattle.list_set.specs.Linked.{IsNodeOf, IsAfter, IsLinked}
+use Rattle.std.proofs.Common.{◌≡◌, ◌≢◌, ◌^◌, ◌<◌, ◌≤◌}
+use Rattle.grow_hash.proofs.Terms.{ℕ, inl, inr, length, sym, ap, ◌∙◌, subst, arith, State, words_at, key, link, word, IsInList, IsNodeOf, IsAfter, IsLinked}
 
 module _ (s s' : State) (head : ℕ) (here : words_at s' head ≡ words_at s head) (kept : (o : ℕ) → IsNodeOf s head o → words_at s' o ≡ words_at s o)
     (back : (o : ℕ) → IsNodeOf s' head o → IsNodeOf s head o) where

@@ -1,3 +1,4 @@
+pub mod Terms
 pub mod Buckets
 pub mod KeptLists
 pub mod LinkedAdds

@@ -1,13 +1,7 @@
 -- A list with one node more.
-use Rattle.std.proofs.Common.{◌≡◌, ◌≢◌, ℕ, suc, ◌^◌, ◌<◌, ◌≤◌, ◌⊎◌, inl, inr, length, sym, ap, ◌∙◌, subst, arith}
-use Rattle.std.proofs.lemmas.Bool.{cases_eq, cases_lt}
-use Rattle.mv_history.specs.State.{State}
-use Rattle.mv_history.specs.Meaning.{words_at}
-use Rattle.set_script.specs.Objects.{owner, kind, key, link}
-use Rattle.set_script.proofs.ObjectWords.{word}
-use Rattle.list_set.specs.Places.{IsInList, IsAddPlace}
-use Rattle.list_set.specs.Linked.{IsNodeOf, IsAfter, IsLinked}
-use Rattle.list_set.proofs.Linking.{head_no_node}
+use Rattle.std.proofs.Common.{◌≡◌, ◌≢◌, ◌^◌, ◌<◌, ◌≤◌, ◌⊎◌}
+use Rattle.grow_hash.proofs.Terms.{ℕ, suc, inl, inr, length, sym, ap, ◌∙◌, subst, arith, cases_eq, cases_lt, State, words_at, owner, kind, key, link, word}
+use Rattle.grow_hash.proofs.Terms.{IsInList, IsAddPlace, IsNodeOf, IsAfter, IsLinked, head_no_node}
 
 -- the place of an add parts the nodes of the list into those with keys up to that of its node, and those with greater ones
 module _ (s : State) (head k p : ℕ) (l : IsLinked s head) (place : IsAddPlace s head k p) where

@@ -1,13 +1,7 @@
 -- A list with one node less.
-use Rattle.std.proofs.Common.{◌≡◌, ◌≢◌, ℕ, suc, ◌^◌, ◌<◌, ◌≤◌, ◌⊎◌, inl, inr, length, sym, ap, ◌∙◌, subst, arith}
-use Rattle.std.proofs.lemmas.Bool.{cases_eq, cases_order}
-use Rattle.mv_history.specs.State.{State}
-use Rattle.mv_history.specs.Meaning.{words_at}
-use Rattle.set_script.specs.Objects.{owner, kind, key, link}
-use Rattle.set_script.proofs.ObjectWords.{word}
-use Rattle.list_set.specs.Places.{IsInList, IsDelPlace}
-use Rattle.list_set.specs.Linked.{IsNodeOf, IsAfter, IsLinked}
-use Rattle.list_set.proofs.Linking.{head_no_node}
+use Rattle.std.proofs.Common.{◌≡◌, ◌≢◌, ◌^◌, ◌<◌, ◌≤◌, ◌⊎◌}
+use Rattle.grow_hash.proofs.Terms.{ℕ, suc, inl, inr, length, sym, ap, ◌∙◌, subst, arith, cases_eq, cases_order, State, words_at, owner, kind, key, link, word}
+use Rattle.grow_hash.proofs.Terms.{IsInList, IsDelPlace, IsNodeOf, IsAfter, IsLinked, head_no_node}
 
 -- what is known at the place of a del
 module _ (s : State) (head k p n : ℕ) (l : IsLinked s head) (place : IsDelPlace s head k p n) where

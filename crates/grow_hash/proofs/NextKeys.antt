@@ -1,16 +1,8 @@
 -- The least key of the set that is not below one, bucket by bucket.
-use Rattle.std.proofs.Common.{◌≡◌, ◌≢◌, ℕ, ◌+◌, ◌<◌, ◌≤◌, inl, inr, Bool, true, cond, eqb, ne_eqb, eq-eqb, refl, sym, ap, ◌∙◌, subst, arith, Option}
-use Rattle.std.proofs.Common.{Some, None, min, List}
-use Rattle.std.specs.Prelude.{MatchOption}
-use Rattle.std.proofs.lemmas.Bool.{cases_lt}
-use Rattle.mv_history.specs.State.{State}
-use Rattle.set_script.specs.Catalogue.{has_key, next_key}
-use Rattle.set_script.specs.CatalogueOf.{map_at}
-use Rattle.set_script.proofs.ObjectWords.{word}
-use Rattle.set_script.proofs.Mapped.{IsMap-map_among}
 use Rattle.set_script.proofs.NextKeys.{IsLeast, next_is, next_none, least_from, none_from}
-use Rattle.grow_hash.specs.Tables.{level, split_place, bucket, buckets}
-use Rattle.grow_hash.specs.Grown.{IsGrown, head_at, grown_map}
+use Rattle.std.proofs.Common.{◌≡◌, ◌≢◌, ◌+◌, ◌<◌, ◌≤◌, ℕ, inl, inr, Bool, true, cond, eqb, ne_eqb, eq-eqb, refl, sym, ap, ◌∙◌, subst, arith, Option, Some, None}
+use Rattle.grow_hash.proofs.Terms.{min, List, MatchOption, cases_lt, State, has_key, next_key, map_at, word, IsMap-map_among, level, split_place, bucket}
+use Rattle.grow_hash.proofs.Terms.{buckets, IsGrown, head_at, grown_map}
 use Rattle.grow_hash.proofs.Buckets.{bucket_present}
 use Rattle.grow_hash.proofs.Holding.{bucket_has, has_bucket}
 

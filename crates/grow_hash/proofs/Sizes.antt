@@ -1,17 +1,8 @@
 -- The buckets together have as many keys as the set.
-use Rattle.std.proofs.Common.{◌≡◌, ◌≢◌, ℕ, zero, suc, ◌+◌, ◌<◌, ◌≤◌, inl, inr, Bool, true, false, cond, nat_lt, ◌&&◌, List, [], ◌∷◌}
-use Rattle.std.proofs.Common.{length, drop, refl, sym, ap, ◌∙◌, subst, arith, length-drop, lt-ltb, get_or-drop}
-use Rattle.std.proofs.lemmas.Bool.{cases_eq, cases_lt}
-use Rattle.std.proofs.lemmas.Bool.Decides.{nat_tests}
-use Rattle.mv_history.specs.State.{State}
-use Rattle.mv_history.specs.Meaning.{words_at}
-use Rattle.set_script.specs.CatalogueOf.{is_key_at, map_at}
-use Rattle.set_script.specs.Objects.{owner, kind, key}
-use Rattle.set_script.proofs.ObjectWords.{word}
-use Rattle.set_script.proofs.Tally.{tally, tally-none, tally-bound, tally-same, length-map_among, node_at}
-use Rattle.list_set.proofs.Counting.{keys_counted}
-use Rattle.grow_hash.specs.Tables.{level, split_place, bucket, buckets}
-use Rattle.grow_hash.specs.Grown.{IsGrown, head_at, is_used, grown_map}
+use Rattle.std.proofs.Common.{◌≡◌, ◌≢◌, ◌+◌, ◌<◌, ◌≤◌, ◌&&◌, ◌∷◌, ℕ, zero, suc, inl, inr, Bool, true, false, cond, nat_lt, List, [], length, drop, refl, sym}
+use Rattle.grow_hash.proofs.Terms.{ap, ◌∙◌, subst, arith, length-drop, lt-ltb, get_or-drop, cases_eq, cases_lt, nat_tests, State, words_at, is_key_at, map_at}
+use Rattle.grow_hash.proofs.Terms.{owner, kind, key, word, tally, tally-none, tally-bound, tally-same, length-map_among, node_at, keys_counted, level}
+use Rattle.grow_hash.proofs.Terms.{split_place, bucket, buckets, IsGrown, head_at, is_used, grown_map}
 use Rattle.grow_hash.proofs.Buckets.{bucket_present}
 use Rattle.grow_hash.proofs.GrownMaps.{used-from, used_vacant}
 use Rattle.grow_hash.proofs.GrownStates.{low_unowned, key_once}

@@ -1,18 +1,9 @@
 -- What a split does to the table, and what holds after an allowed history.
-use Rattle.std.proofs.Common.{◌≡◌, ◌≢◌, ℕ, suc, ◌+◌, ◌%◌, ◌<◌, ◌≤◌, inl, inr, cond, Bool, eq-eqb, ne_eqb, List, [], ◌∷◌}
-use Rattle.std.proofs.Common.{◌++◌, refl, sym, ap, ◌∙◌, subst, arith, append_assoc, append-nil, Option, Some, None}
-use Rattle.std.proofs.lemmas.Bool.{cases_eq}
-use Rattle.mv_history.specs.State.{State, Writes, written, state_after}
 use Rattle.mv_history.specs.declared.history.Entry.{Entry}
-use Rattle.mv_history.specs.declared.history.Entry.TheVariants.{Rest, Change}
-use Rattle.mv_history.specs.Legal.{IsAllowed}
-use Rattle.mv_history.specs.Meaning.{words_at}
-use Rattle.mv_history.proofs.Writing.{state_after-append}
-use Rattle.set_script.proofs.ObjectWords.{word}
-use Rattle.grow_hash.specs.Tables.{level, split_place, buckets_at, bucket_of, bucket, buckets, table_words, next_table, IsTable}
-use Rattle.grow_hash.specs.Grown.{IsGrown, IsGrownOpening}
-use Rattle.grow_hash.specs.GrowRules.{Growing, makes, splits, growing_of, Grows, IsGrowCommit}
-use Rattle.grow_hash.specs.Splits.{is_splitting, count_splits}
+use Rattle.std.proofs.Common.{◌≡◌, ◌≢◌, ◌+◌, ◌%◌, ◌<◌, ◌≤◌, ◌∷◌, ◌++◌, ℕ, suc, inl, inr, cond, Bool, eq-eqb, ne_eqb, List, [], refl, sym, ap, ◌∙◌, subst, arith}
+use Rattle.grow_hash.proofs.Terms.{append_assoc, append-nil, Option, Some, None, cases_eq, State, Writes, written, state_after, Rest, Change, IsAllowed}
+use Rattle.grow_hash.proofs.Terms.{words_at, state_after-append, word, level, split_place, buckets_at, bucket_of, bucket, buckets, table_words, next_table}
+use Rattle.grow_hash.proofs.Terms.{IsTable, IsGrown, IsGrownOpening, Growing, makes, splits, growing_of, Grows, IsGrowCommit, is_splitting, count_splits}
 use Rattle.grow_hash.proofs.Buckets.{some_buckets, twice_buckets, bucket_split, bucket_whole, bucket_next, bucket_level}
 use Rattle.grow_hash.proofs.GrownOpenings.{grown_opening}
 

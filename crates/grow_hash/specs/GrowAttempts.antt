@@ -1,11 +1,5 @@
 -- What an attempt of a command on a growing hash set leaves, by its answer: what it leaves as a work.
-use Rattle.mv_history.specs.Meaning.{Seat}
-use Rattle.set_script.specs.declared.commands.Command.{Command}
-use Rattle.set_script.specs.declared.commands.Reply.{Reply}
-use Rattle.section_work.specs.Attempts.{Attempted}
-use Rattle.section_work.specs.Causes.{Causes}
-use Rattle.section_work.specs.declared.attempting.Attempt.{Attempt}
-use Rattle.section_work.specs.declared.attempting.Attempt.TheVariants.{Done as WorkDone, Again as WorkAgain}
+use Rattle.grow_hash.specs.Terms.{Seat, Command, Reply, Attempted, Causes, Attempt, WorkDone, WorkAgain}
 use Rattle.grow_hash.specs.GrowMeaning.{grow_meaning}
 use Rattle.grow_hash.specs.declared.attempt.GrowStep.{GrowStep}
 use Rattle.grow_hash.specs.declared.attempt.GrowStep.TheVariants.{Done, Again}

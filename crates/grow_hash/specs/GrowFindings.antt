@@ -1,12 +1,9 @@
 -- What a command on a growing hash set comes to in a state, before anything is locked.
-use Rattle.std.specs.Prelude.{◌≡◌, Bool, true, false, length}
-use Rattle.mv_history.specs.State.{State, Writes}
 use Rattle.mv_history.specs.Drift.{IsFit}
 use Rattle.mv_history.specs.Legal.{are_distinct, AreWithin}
-use Rattle.set_script.specs.Tags.{tag_of}
-use Rattle.set_script.specs.declared.commands.Command.{Command}
-use Rattle.set_script.specs.declared.commands.Reply.{Reply}
 use Rattle.set_script.specs.declared.commands.Reply.TheVariants.{Worn}
+use Rattle.std.specs.Prelude.{◌≡◌}
+use Rattle.grow_hash.specs.Terms.{Bool, true, false, length, State, Writes, tag_of, Command, Reply}
 use Rattle.grow_hash.specs.GrowRules.{IsGrowCommit}
 use Rattle.grow_hash.specs.GrowPlans.{GrowPlan, grow_locks}
 use Rattle.grow_hash.specs.GrowReplies.{reply_grown, changes_grown}

@@ -1,11 +1,6 @@
 -- What a command on a growing hash set means, as a work.
-use Rattle.std.specs.Prelude.{ℕ, ◌≡◌, true, false, List}
-use Rattle.mv_history.specs.State.{State, Writes}
-use Rattle.set_script.specs.Tags.{tag_of}
-use Rattle.set_script.specs.declared.commands.Command.{Command}
-use Rattle.set_script.specs.declared.commands.Reply.{Reply}
-use Rattle.set_script.specs.declared.commands.Reply.TheVariants.{Yes}
-use Rattle.section_work.specs.Works.{Meaning}
+use Rattle.std.specs.Prelude.{◌≡◌}
+use Rattle.grow_hash.specs.Terms.{ℕ, true, false, List, State, Writes, tag_of, Command, Reply, Yes, Meaning}
 use Rattle.grow_hash.specs.GrowRules.{MakesGrown}
 use Rattle.grow_hash.specs.GrowPlans.{GrowPlan, grow_locks}
 use Rattle.grow_hash.specs.GrowReplies.{reply_grown, changes_grown}

@@ -1,11 +1,6 @@
 -- That a commit of a command makes what it should.
-use Rattle.std.specs.Prelude.{ℕ, ◌≡◌, Some, List, refl, false}
-use Rattle.std.proofs.Common.{sym, ap, ◌∙◌, subst}
-use Rattle.mv_history.specs.State.{State, Writes, written}
-use Rattle.set_script.specs.Tags.{tag_of}
-use Rattle.set_script.specs.declared.commands.Command.{Command}
-use Rattle.set_script.specs.declared.commands.Command.TheVariants.{Add, Put, Del, Has, Get, Move, Pair, Size, Next}
-use Rattle.set_script.specs.declared.commands.Reply.{Reply}
+use Rattle.std.proofs.Common.{◌≡◌, sym, ap, ◌∙◌, subst}
+use Rattle.grow_hash.specs.Terms.{ℕ, Some, List, refl, false, State, Writes, written, tag_of, Command, Add, Put, Del, Has, Get, Move, Pair, Size, Next, Reply}
 use Rattle.grow_hash.specs.GrowRules.{makes, growing_of, MakesGrown, Grows, IsGrowCommit}
 use Rattle.grow_hash.specs.GrowPlans.{GrowPlan, IsOfGrown}
 use Rattle.grow_hash.specs.GrowReplies.{reply_grown}

@@ -1,10 +1,7 @@
 -- What a command on a growing hash set locks and writes in a state.
-use Rattle.std.specs.Prelude.{ℕ, ◌≡◌, ◌^◌, ◌<◌, ◌≤◌, length}
-use Rattle.mv_history.specs.State.{State, Writes}
-use Rattle.set_script.specs.declared.commands.Command.{Command}
-use Rattle.set_script.specs.declared.commands.Command.TheVariants.{Add, Put, Del, Has, Get, Move, Pair, Size, Next}
-use Rattle.set_script.specs.Objects.{owner}
-use Rattle.list_set.specs.Places.{IsAddPlace, add_writes, IsDelPlace, del_writes}
+use Rattle.std.specs.Prelude.{◌≡◌, ◌^◌, ◌<◌, ◌≤◌}
+use Rattle.grow_hash.specs.Terms.{ℕ, length, State, Writes, Command, Add, Put, Del, Has, Get, Move, Pair, Size, Next, owner, IsAddPlace, add_writes, IsDelPlace}
+use Rattle.grow_hash.specs.Terms.{del_writes}
 use Rattle.grow_hash.specs.Tables.{bucket}
 use Rattle.grow_hash.specs.Grown.{first_grown, head_at, grown_name}
 

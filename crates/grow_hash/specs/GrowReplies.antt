@@ -1,9 +1,5 @@
 -- Replies of a growing hash set in a state.
-use Rattle.std.specs.Prelude.{Bool}
-use Rattle.mv_history.specs.State.{State}
-use Rattle.set_script.specs.Replies.{reply, changes}
-use Rattle.set_script.specs.declared.commands.Command.{Command}
-use Rattle.set_script.specs.declared.commands.Reply.{Reply}
+use Rattle.grow_hash.specs.Terms.{Bool, State, reply, changes, Command, Reply}
 use Rattle.grow_hash.specs.Grown.{grown_catalogue, grown_capacity}
 
 -- the command's reply in a state, at the last time or not

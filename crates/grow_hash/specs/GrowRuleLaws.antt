@@ -1,17 +1,10 @@
 -- That a state is an opening one, or lawful, and a commit allowed, in one way at most.
-use Rattle.std.specs.Prelude.{ℕ, ◌≡◌, ◌≢◌, ◌^◌, ◌<◌, ◌≤◌, true, false, length, Option, Some, None, List}
 use Rattle.std.specs.Coded.{Coded-set, coded×, coded_ℕ, coded_list}
 use Rattle.std.proofs.Props.{props}
 use mathlib.Core.Sum.{⊎_set}
-use Rattle.mv_history.specs.State.{State, Writes, written, touches}
-use Rattle.mv_history.specs.Meaning.{words_at}
-use Rattle.set_script.specs.declared.commands.Command.{Command}
-use Rattle.set_script.specs.declared.commands.Reply.{Reply}
-use Rattle.set_script.specs.declared.commands.Reply.TheVariants.{Yes}
-use Rattle.set_script.specs.Objects.{owner, kind, key, link, value, head_words, list_words, no_words}
-use Rattle.set_script.specs.Replies.{reply, next}
-use Rattle.list_set.specs.Places.{IsInList}
-use Rattle.list_set.specs.Linked.{IsNodeOf, IsAfter, IsLinked}
+use Rattle.std.specs.Prelude.{◌≡◌, ◌≢◌, ◌^◌, ◌<◌, ◌≤◌}
+use Rattle.grow_hash.specs.Terms.{ℕ, true, false, length, Option, Some, None, List, State, Writes, written, touches, words_at, Command, Reply, Yes, owner, kind}
+use Rattle.grow_hash.specs.Terms.{key, link, value, head_words, list_words, no_words, reply, next, IsInList, IsNodeOf, IsAfter, IsLinked}
 use Rattle.grow_hash.specs.Tables.{level, split_place, most_level, buckets_at, bucket, table_words, next_table, IsTable}
 use Rattle.grow_hash.specs.Grown.{IsGrown, IsGrownOpening, first_grown, most_buckets, head_at, grown_catalogue, grown_capacity}
 use Rattle.grow_hash.specs.GrowRules.{Growing, makes, splits, growing_of, KeepsGrown, MakesGrown, SplitsGrown, Grows, IsGrowCommit}

@@ -1,13 +1,6 @@
 -- Which commits a growing hash set allows.
-use Rattle.std.specs.Prelude.{ℕ, ◌≡◌, ◌≢◌, ◌+◌, ◌<◌, ◌==◌, ◌&&◌, true, false, if◌then◌else◌, List, [], ◌∷◌, Option, Some, None}
-use Rattle.mv_history.specs.State.{State, Writes, written, touches}
-use Rattle.mv_history.specs.Meaning.{words_at}
-use Rattle.set_script.specs.declared.commands.Command.{Command}
-use Rattle.set_script.specs.declared.commands.Command.TheVariants.{Add, Del}
-use Rattle.set_script.specs.declared.commands.Reply.TheVariants.{Yes}
-use Rattle.set_script.specs.Objects.{owner, key}
-use Rattle.set_script.specs.Replies.{reply, next}
-use Rattle.list_set.specs.Linked.{IsNodeOf}
+use Rattle.std.specs.Prelude.{◌≡◌, ◌≢◌, ◌+◌, ◌<◌, ◌==◌, ◌&&◌, if◌then◌else◌, ◌∷◌, ℕ, true, false, List, [], Option, Some, None}
+use Rattle.grow_hash.specs.Terms.{State, Writes, written, touches, words_at, Command, Add, Del, Yes, owner, key, reply, next, IsNodeOf}
 use Rattle.grow_hash.specs.Tables.{level, split_place, most_level, buckets_at, next_table}
 use Rattle.grow_hash.specs.Grown.{IsGrown, head_at, grown_name, grown_catalogue, grown_capacity}
 

@@ -1,11 +1,7 @@
 -- The states that stand for a growing hash set, and the set for which they stand.
-use Rattle.std.specs.Prelude.{ℕ, suc, ◌≡◌, ◌≢◌, ◌-◌, ◌<◌, ◌≤◌, ◌==◌, Bool, not, List, length, drop, set, slice_index_or}
-use Rattle.mv_history.specs.State.{State}
-use Rattle.mv_history.specs.Meaning.{words_at}
 use Rattle.set_script.specs.Catalogue.{Map, Maps, empty}
-use Rattle.set_script.specs.CatalogueOf.{map_among}
-use Rattle.set_script.specs.Objects.{owner, key, link, value, head_words, list_words, no_words}
-use Rattle.list_set.specs.Linked.{IsLinked}
+use Rattle.std.specs.Prelude.{◌≡◌, ◌≢◌, ◌-◌, ◌<◌, ◌≤◌, ◌==◌, ℕ, suc, Bool, not, List, length, drop, set, slice_index_or}
+use Rattle.grow_hash.specs.Terms.{State, words_at, map_among, owner, key, link, value, head_words, list_words, no_words, IsLinked}
 use Rattle.grow_hash.specs.Tables.{bucket, IsTable}
 
 -- how many buckets there are at most

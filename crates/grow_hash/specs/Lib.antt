@@ -1,3 +1,4 @@
+pub mod Terms
 pub mod Tables
 pub mod Grown
 pub mod GrowRules

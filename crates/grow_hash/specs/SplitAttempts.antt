@@ -1,19 +1,14 @@
 -- What a call that tries to split a bucket leaves, by its answer: what it leaves as a work.
-use Rattle.std.specs.Prelude.{ℕ, suc, ◌≡◌, ◌+◌, ◌-◌, take}
-use Rattle.mv_history.specs.Meaning.{Seat, InSection, state_of_time}
-use Rattle.section_work.specs.Attempts.{IsDoneAt, IsReadAt, GivesUp}
-use Rattle.section_work.specs.Causes.{Causes}
 use Rattle.section_work.specs.Steps.{IsStepped}
-use Rattle.section_work.specs.declared.attempting.Attempt.{Attempt}
+use Rattle.std.specs.Prelude.{◌≡◌, ◌+◌, ◌-◌}
+use Rattle.grow_hash.specs.Terms.{ℕ, suc, take, Seat, InSection, state_of_time, IsDoneAt, IsReadAt, GivesUp, Causes, Attempt, Looked, Split, Done, Again}
 use Rattle.grow_hash.specs.Tables.{split_place, buckets}
 use Rattle.grow_hash.specs.Grown.{grown_catalogue}
 use Rattle.grow_hash.specs.GrowRules.{split_tag}
 use Rattle.grow_hash.specs.Splits.{count_splits}
 use Rattle.grow_hash.specs.SplitMeaning.{split_meaning, split_of}
-use Rattle.grow_hash.specs.declared.split_work.Looked.{Looked}
+use Rattle.grow_hash.specs.declared.answer.Split.TheVariants.{Whole, Long, Worn}
 use Rattle.grow_hash.specs.declared.split_work.Looked.TheVariants as looks
-use Rattle.grow_hash.specs.declared.answer.Split.{Split}
-use Rattle.grow_hash.specs.declared.answer.Split.TheVariants.{Done, Whole, Long, Worn, Again}
 
 -- The split is the seat's last commit, at this printed time, of a section that the call entered, in whose snapshot it could be made; it wrote
 -- what it locks there, and nothing else. It split the bucket that was next in the state just before, left the catalogue, and made one bucket

@@ -1,19 +1,13 @@
 -- What the split of a bucket means, as a work.
-use Rattle.std.specs.Prelude.{ℕ, ◌≡◌, true, Bool, List, ⊤}
-use Rattle.mv_history.specs.State.{State, Writes}
 use Rattle.section_work.specs.declared.place.Place.TheVariants.{Commit as AtCommit, Read}
-use Rattle.section_work.specs.Works.{Meaning}
-use Rattle.section_work.specs.declared.attempting.Attempt.{Attempt}
-use Rattle.section_work.specs.declared.attempting.Attempt.TheVariants.{Done as WorkDone, Again as WorkAgain}
+use Rattle.std.specs.Prelude.{◌≡◌}
+use Rattle.grow_hash.specs.Terms.{ℕ, true, Bool, List, ⊤, State, Writes, Meaning, Attempt, WorkDone, WorkAgain, Looked, Splits, Whole, Long, Worn, Split, Done}
+use Rattle.grow_hash.specs.Terms.{AllSplit, TooLong, TooLate, Again}
 use Rattle.grow_hash.specs.Tables.{split_place}
 use Rattle.grow_hash.specs.GrowRules.{split_tag}
 use Rattle.grow_hash.specs.SplitPlans.{SplitPlan}
 use Rattle.grow_hash.specs.SplitCalls.{IsSplittable, most_writes}
 use Rattle.grow_hash.specs.SplitSteps.{IsClosed}
-use Rattle.grow_hash.specs.declared.split_work.Looked.{Looked}
-use Rattle.grow_hash.specs.declared.split_work.Looked.TheVariants.{Splits, Whole, Long, Worn}
-use Rattle.grow_hash.specs.declared.answer.Split.{Split}
-use Rattle.grow_hash.specs.declared.answer.Split.TheVariants.{Done, Whole as AllSplit, Long as TooLong, Worn as TooLate, Again}
 
 -- what is planned for it: the split, with its tag
 pub record PlansSplit (s : State) (tag : List ℕ) (ws : Writes) : Type 0 where

@@ -1,11 +1,9 @@
 -- What a look at the bucket at the split place comes to.
-use Rattle.std.specs.Prelude.{ℕ, ◌≡◌, ◌<◌}
-use Rattle.mv_history.specs.State.{State, Writes}
+use Rattle.std.specs.Prelude.{◌≡◌, ◌<◌}
+use Rattle.grow_hash.specs.Terms.{ℕ, State, Writes, Looked, Splits, Whole, Long, Worn}
 use Rattle.grow_hash.specs.Tables.{level, split_place, most_level}
 use Rattle.grow_hash.specs.SplitPlans.{SplitPlan}
 use Rattle.grow_hash.specs.SplitCalls.{keys_at_place, most_split, IsSplittable}
-use Rattle.grow_hash.specs.declared.split_work.Looked.{Looked}
-use Rattle.grow_hash.specs.declared.split_work.Looked.TheVariants.{Splits, Whole, Long, Worn}
 
 -- in this state the bucket at this place can be split, and these are the writes of its split
 pub record IsPlannedSplit (s : State) (place : ℕ) (writes : Writes) : Type 0 where

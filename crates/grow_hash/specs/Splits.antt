@@ -1,7 +1,7 @@
 -- How many splits a history has.
-use Rattle.std.specs.Prelude.{ℕ, ◌+◌, Bool, true, false, if◌then◌else◌, List, [], ◌∷◌, Option, Some, None}
 use Rattle.mv_history.specs.declared.history.Entry.{Entry}
 use Rattle.mv_history.specs.declared.history.Entry.TheVariants.{Rest, Change}
+use Rattle.std.specs.Prelude.{◌+◌, if◌then◌else◌, ◌∷◌, ℕ, Bool, true, false, List, [], Option, Some, None}
 use Rattle.grow_hash.specs.GrowRules.{Growing, makes, splits, growing_of}
 
 -- whether a commit is a split, by what its tag stands for

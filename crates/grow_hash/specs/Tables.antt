@@ -1,8 +1,6 @@
 -- The table of a growing hash set, object 0: which bucket has which keys.
-use Rattle.std.specs.Prelude.{ℕ, suc, ◌≡◌, ◌+◌, ◌*◌, ◌%◌, ◌^◌, ◌<◌, ◌≤◌, ◌==◌, nat_lt, if◌then◌else◌, List, [], ◌∷◌}
-use Rattle.mv_history.specs.State.{State}
-use Rattle.mv_history.specs.Meaning.{words_at}
-use Rattle.set_script.specs.Objects.{key, link}
+use Rattle.std.specs.Prelude.{◌≡◌, ◌+◌, ◌*◌, ◌%◌, ◌^◌, ◌<◌, ◌≤◌, ◌==◌, if◌then◌else◌, ◌∷◌}
+use Rattle.grow_hash.specs.Terms.{ℕ, suc, nat_lt, List, [], State, words_at, key, link}
 
 -- how often the number of buckets was doubled
 abbrev pub level : State → ℕ

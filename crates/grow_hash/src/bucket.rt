@@ -1,7 +1,6 @@
 // The bucket that is to be split, and what its split writes.
-ghost use Rattle.std.specs.Prelude.{◌≡◌, ◌+◌, ◌<◌, ◌≤◌, if◌then◌else◌, length, take};
-ghost use Rattle.set_script.specs.CatalogueOf.{map_at};
-ghost use Rattle.list_set.specs.Linked.{IsLinked};
+ghost use Rattle.std.specs.Prelude.{◌≡◌, ◌+◌, ◌<◌, ◌≤◌, if◌then◌else◌};
+ghost use Rattle.grow_hash.specs.Terms.{length, take, map_at, IsLinked};
 ghost use Rattle.grow_hash.specs.Tables.{most_level, buckets_at, next_table};
 ghost use Rattle.grow_hash.specs.BucketReads.{IsRead, ArePartedWrites, IsMoved};
 

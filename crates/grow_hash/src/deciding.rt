@@ -1,7 +1,7 @@
 // What a command on a growing hash set comes to in a state, before anything is locked.
-ghost use Rattle.std.specs.Prelude.{◌≡◌, if◌then◌else◌};
-ghost use Rattle.set_script.specs.declared.commands.Command.TheVariants.{Add, Del};
 ghost use Rattle.set_script.specs.declared.commands.Reply.TheVariants.{Yes, No};
+ghost use Rattle.std.specs.Prelude.{◌≡◌, if◌then◌else◌};
+ghost use Rattle.grow_hash.specs.Terms.{Add, Del};
 ghost use Rattle.grow_hash.specs.Grown.{IsGrown, grown_name};
 ghost use Rattle.grow_hash.specs.GrowPlans.{IsOfGrown};
 ghost use Rattle.grow_hash.specs.GrowFindings.{IsGrowFound, reply_at_last};

@@ -1,11 +1,10 @@
 // Laws of the rules of a growing hash set, over all states and histories.
-ghost use Rattle.std.specs.Prelude.{◌≡◌, ◌+◌, ℕ, List};
 ghost use Rattle.mv_history.specs.declared.history.Entry.{Entry};
 ghost use Rattle.mv_history.specs.State.{State, Writes, written, state_after};
 ghost use Rattle.mv_history.specs.Legal.{IsAllowed};
 ghost use Rattle.mv_history.specs.Drift.{IsFit};
-ghost use Rattle.set_script.specs.Tags.{tag_of};
-ghost use Rattle.set_script.specs.declared.commands.Command.{Command};
+ghost use Rattle.std.specs.Prelude.{◌≡◌, ◌+◌};
+ghost use Rattle.grow_hash.specs.Terms.{ℕ, List, tag_of, Command};
 ghost use Rattle.grow_hash.specs.Tables.{buckets, split_place};
 ghost use Rattle.grow_hash.specs.Grown.{IsGrown, IsGrownOpening, grown_catalogue};
 ghost use Rattle.grow_hash.specs.GrowRules.{split_tag, IsGrowCommit};

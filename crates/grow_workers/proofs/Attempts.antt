@@ -1,17 +1,10 @@
 -- What one attempt of a command leaves, or one try of the split that is due behind it.
-use Rattle.std.proofs.Common.{◌≡◌, ◌≤◌, ◌&&◌, Bool, true, false, Option, Some, None, refl, sym, ◌∙◌, subst, arith}
-use Rattle.item_workers.specs.Chains.{OnTried}
 use Rattle.item_workers.specs.declared.runner.Tried.{Tried}
-use Rattle.work_runner.proofs.Tries.{under_still, done_behind}
-use Rattle.grow_hash.specs.declared.attempt.GrowStep.{GrowStep}
-use Rattle.grow_hash.specs.Grown.{IsGrownOpening}
-use Rattle.grow_hash.specs.GrowRules.{IsGrowCommit}
-use Rattle.grow_hash.specs.GrowAttempts.{GrowAttempted}
 use Rattle.grow_hash.specs.SplitCalls.{most_writes}
-use Rattle.grow_hash.specs.declared.attempt.GrowStep.TheVariants.{Done}
-use Rattle.grow_report.specs.Turns.{is_added, odd_with}
-use Rattle.script_workers.proofs.Terms.{Seat, IsSeat, Command, Place, Causes, Reply, CommitsNone, IsUnder, none_begun}
-use Rattle.grow_workers.specs.Links.{GrowKept, kept, LinkedCommand, LinkedTurn, LinkedDone, LinkedIf, IsAnsweredBy, IsUnderTurn}
+use Rattle.std.proofs.Common.{◌≡◌, ◌≤◌, ◌&&◌}
+use Rattle.grow_workers.proofs.Terms.{Bool, true, false, Option, Some, None, refl, sym, ◌∙◌, subst, arith, OnTried, under_still, IsGrownOpening, IsGrowCommit}
+use Rattle.grow_workers.proofs.Terms.{GrowAttempted, Done, is_added, odd_with, Seat, IsSeat, Command, Place, Causes, Reply, CommitsNone, IsUnder, none_begun}
+use Rattle.grow_workers.proofs.Terms.{GrowKept, kept, LinkedCommand, LinkedTurn, LinkedDone, LinkedIf, IsAnsweredBy, IsUnderTurn}
 use Rattle.grow_workers.proofs.Places.{answered, command_ran}
 use Rattle.item_workers.specs.declared.runner.Tried.TheVariants as tries
 
@@ -21,19 +14,11 @@ even_then true true e = refl
 even_then _ _ e = absurd (cc)
 
 module _ (k : Causes) (s : GrowKept) (command : Command) where
-  -- Where the command is not done, no commit was made since it was begun, and the parity is the one that was kept.
-  pub under_none : (t : GrowKept) (found : Option (Place × Reply)) → found ≡ None → IsUnderTurn k s command t found
-      → IsUnder most_writes s.seat t.seat × (t.odd ≡ s.odd)
-  under_none t found none h = subst (λ (d : Option (Place × Reply)). IsUnderTurn k s command t d) none h
-
   -- An attempt of the command that is done leaves its link, and a seat that may hold what a split locks.
-  pub done_command : (t u : Seat) (step : GrowStep) (place : Place) (answer : Reply) → step ≡ Done answer place
-      → IsUnder most_writes s.seat t → IsSeat IsGrownOpening IsGrowCommit u → GrowAttempted k t u command step
-      → LinkedCommand k s.seat u command place answer × IsUnder most_writes u u
-  done_command t u step place answer is under lawful left =
-      let linked : LinkedCommand k s.seat u command place answer =
-      done_behind (λ old new. GrowAttempted k old new command) (IsSeat IsGrownOpening IsGrowCommit) s.seat t u step (Done answer place) is under.none
-      lawful left in
+  pub done_command : (t u : Seat) (place : Place) (answer : Reply) → IsUnder most_writes s.seat t → IsSeat IsGrownOpening IsGrowCommit u
+      → GrowAttempted k t u command (Done answer place) → LinkedCommand k s.seat u command place answer × IsUnder most_writes u u
+  done_command t u place answer under lawful left =
+      let linked : LinkedCommand k s.seat u command place answer = record { from = t; none = under.none; attempted = left; lawful = lawful } in
       let ran = command_ran k s.seat u command place answer linked in
       (linked, none_begun most_writes u (omega (arith, under.may, under.none.continues.write_max, ran.continues.write_max)))
 
@@ -46,13 +31,6 @@ module _ (k : Causes) (s : GrowKept) (command : Command) where
     split_done = subst (λ (d : Bool). LinkedIf d k u u) (sym not_due) refl;
     odd = odd_is;
   }
-
-  -- One that is done, with its split due, has its link already.
-  pub under_due : (t : GrowKept) (found : Option (Place × Reply)) (place : Place) (answer : Reply) → found ≡ Some (place, answer)
-      → IsUnderTurn k s command t found
-      → (between : Seat) × LinkedCommand k s.seat between command place answer × IsUnder most_writes between t.seat
-      × ((s.odd && is_added command answer) ≡ true)
-  under_due t found place answer is h = subst (λ (d : Option (Place × Reply)). IsUnderTurn k s command t d) is h
 
   -- What a try of the split leaves that is due behind a command that is done.
   pub split_told : (between t u : Seat) (odd : Bool) (found : Option (Place × Reply)) (place : Place) (answer : Reply) (tried : Tried (Place × Reply))

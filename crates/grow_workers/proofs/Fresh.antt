@@ -1,8 +1,5 @@
 -- A read is of a section that its own command entered.
-use Rattle.std.proofs.Common.{ℕ}
-use Rattle.work_runner.proofs.Tries.{entered_fresh}
-use Rattle.script_workers.proofs.Terms.{Command, Read, Reply, Causes, IsEnteredBetween}
-use Rattle.grow_workers.specs.Links.{GrowKept, LinkedTurn}
+use Rattle.grow_workers.proofs.Terms.{ℕ, entered_fresh, Command, Read, Reply, Causes, IsEnteredBetween, GrowKept, LinkedTurn}
 
 -- No read is older than what its seat had seen when the command began, which is all that the commands before it and their splits did.
 pub linked_fresh : (k : Causes) (s t : GrowKept) (command : Command) (time : ℕ) (answer : Reply) → (l : LinkedTurn k s t command (Read time) answer)

@@ -1,3 +1,4 @@
+pub mod Terms
 pub mod Places
 pub mod Fresh
 pub mod Attempts

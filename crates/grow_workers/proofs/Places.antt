@@ -1,29 +1,20 @@
 -- The place of a command and of a split: what their tries say of it.
-use Rattle.std.proofs.Common.{◌≡◌, ℕ, ◌+◌, ◌-◌, ◌≤◌, ◌==◌, ◌&&◌, Bool, true, false, not, if◌then◌else◌, List, [], ◌∷◌, ◌++◌, Option, Some, None, length, take}
-use Rattle.std.proofs.Common.{inl, inr, refl, sym, ap, ◌∙◌, subst, arith}
 use Rattle.std.proofs.lemmas.Bool.Decides.{nat_tests}
-use Rattle.std.proofs.lemmas.List.{append-nil}
-use Rattle.mv_history.specs.State.{Writes, state_at}
-use Rattle.mv_history.proofs.Steps.{Continues-Continues}
 use Rattle.mv_history.proofs.Writing.{length-state_after}
-use Rattle.set_script.specs.Replies.{next, applies, overflows}
+use Rattle.set_script.specs.Replies.{next, applies, overflows, reply, changes}
 use Rattle.section_work.specs.Attempts.{IsReadAt}
 use Rattle.section_work.specs.Works.{Meaning}
 use Rattle.set_script.specs.declared.commands.Reply.TheVariants.{Yes, No, Full, Worn}
-use Rattle.work_runner.proofs.Tries.{seen_grows, entered_continues, entered_within}
-use Rattle.grow_hash.specs.Grown.{grown_catalogue, grown_capacity, first_grown, IsGrownOpening}
 use Rattle.grow_hash.specs.GrowPlans.{GrowPlan}
-use Rattle.grow_report.specs.Turns.{GrowPlaceOf, SplitIf, CannotSplit}
-use Rattle.grow_hash.specs.GrowRules.{IsGrowCommit}
-use Rattle.grow_hash.specs.GrowAttempts.{GrowAttempted}
 use Rattle.grow_hash.specs.SplitAttempts.{SplitTried}
-use Rattle.grow_hash.specs.declared.attempt.GrowStep.TheVariants.{Done}
 use Rattle.grow_hash.specs.declared.answer.Split.{Split}
-use Rattle.script_workers.proofs.Terms.{Commit, State, Seat, IsSeat, Continues, Continues-itself, reply, changes, Command, Place, AtCommit, Read, Reply, Causes}
-use Rattle.script_workers.proofs.Terms.{past_of, state_of_time}
 use Rattle.script_workers.specs.Commands.{RanTo}
-use Rattle.script_workers.proofs.Places.{last_by, ran_commit, ran_read, ran_after}
-use Rattle.grow_workers.specs.Links.{LinkedCommand, IsAnsweredBy, LinkedIf}
+use Rattle.std.proofs.Common.{◌≡◌, ◌+◌, ◌-◌, ◌≤◌, ◌==◌, ◌&&◌, if◌then◌else◌, ◌∷◌, ◌++◌}
+use Rattle.grow_workers.proofs.Terms.{ℕ, Bool, true, false, not, List, [], Option, Some, None, length, take, inl, inr, refl, sym, ap, ◌∙◌, subst, arith}
+use Rattle.grow_workers.proofs.Terms.{append-nil, Writes, state_at, Continues-Continues, seen_grows, entered_continues, entered_within, grown_catalogue}
+use Rattle.grow_workers.proofs.Terms.{grown_capacity, first_grown, IsGrownOpening, GrowPlaceOf, SplitIf, CannotSplit, IsGrowCommit, GrowAttempted, Done, Commit}
+use Rattle.grow_workers.proofs.Terms.{State, Seat, IsSeat, Continues, Continues-itself, Command, Place, AtCommit, Read, Reply, Causes, past_of, state_of_time}
+use Rattle.grow_workers.proofs.Terms.{last_by, ran_commit, ran_read, ran_after, LinkedCommand, IsAnsweredBy, LinkedIf}
 use Rattle.set_script.specs.declared.commands.Command.TheVariants as commands
 use Rattle.grow_hash.specs.declared.answer.Split.TheVariants as splits
 
@@ -56,7 +47,7 @@ done_at k s t command (AtCommit time) answer lawful d =
     let done = d.done in
     let before : State = state_of_time (past_of t) (time - 1) in
     let room = same_room t (time - 1) in
-    ran_commit _ s t done.commit time lawful.mine done.continues done.later done.mine
+    ran_commit _ s t done.commit time lawful.mine done.continues done.entry done.later done.mine
     (λ by. (
       done.commit,
       refl,

@@ -1,28 +1,15 @@
 -- A chain of commands with their splits is a run.
-use Rattle.std.proofs.Common.{◌≡◌, ℕ, suc, ◌+◌, ◌-◌, ◌≤◌, ◌&&◌, Bool, true, false, List, [], ◌∷◌, ◌++◌, Option, Some, None, length, map, drop, refl, sym, ap}
-use Rattle.std.proofs.Common.{◌∙◌, subst, arith, append_assoc}
-use Rattle.std.proofs.lemmas.List.{append-nil}
 use Rattle.std.proofs.lemmas.Option.{slice_get_within}
-use Rattle.mv_history.proofs.Steps.{Continues-Continues}
-use Rattle.work_runner.proofs.Tries.{seen_grows}
-use Rattle.grow_report.specs.Turns.{GrowPlaceOf, SplitIf, Turn, TurnsOf, RanGrow, IsAhead, first_place, is_added, odd_with}
 use Rattle.grow_report.proofs.Known.{place_longer, due_longer}
-use Rattle.script_workers.proofs.Terms.{Commit, Change, Seat, Continues, Continues-itself, Command, Place, AtCommit, Read, Causes, Reply, Line, time_of, Past}
-use Rattle.script_workers.proofs.Terms.{past_of, Answer, Chain, HaveNumbers, answered}
-use Rattle.script_workers.specs.Lines.{line_of}
-use Rattle.script_workers.proofs.Places.{past_later, follows_earlier}
-use Rattle.grow_workers.specs.Links.{GrowKept, kept, LinkedDone}
+use Rattle.std.proofs.Common.{◌≡◌, ◌+◌, ◌-◌, ◌≤◌, ◌&&◌, ◌∷◌, ◌++◌}
+use Rattle.grow_workers.proofs.Terms.{ℕ, suc, Bool, true, false, List, [], Option, Some, None, length, map, refl, sym, ap, ◌∙◌, subst, arith, append_assoc}
+use Rattle.grow_workers.proofs.Terms.{append-nil, Continues-Continues, seen_grows, GrowPlaceOf, SplitIf, Turn, TurnsOf, RanGrow, IsAhead, first_place, is_added}
+use Rattle.grow_workers.proofs.Terms.{odd_with, Commit, Change, Seat, Continues, Continues-itself, Command, Place, Causes, Reply, Line, time_of, Past, past_of}
+use Rattle.grow_workers.proofs.Terms.{Answer, Chain, HaveNumbers, answered, line_of, placed_later, follows_earlier, GrowKept, kept, LinkedDone}
 use Rattle.grow_workers.proofs.Places.{command_ran, behind}
 use Rattle.grow_report.specs.Turns as reported
 
 module _ (p : Past) where
-  -- the time of a place is one of the history
-  place_seen : (seat : ℕ) (command : Command) (place : Place) (answer : Reply) (commits : List Commit) → GrowPlaceOf p seat command place answer commits
-      → time_of place ≤ p.base + length p.entries
-  place_seen seat command (AtCommit time) answer commits h =
-      let within = slice_get_within p.entries (time - (p.base + 1)) (Change h.0) h.2.there in omega (arith, within, h.2.later)
-  place_seen seat command (Read time) answer commits h = h.1.seen
-
   -- a split that is due is ahead of what follows all of the history
   due_ahead : (due : Bool) (seat from : ℕ) (next : Option Place) (split : Option ℕ) (commits : List Commit)
       → ((time : ℕ) → time ≤ p.base + length p.entries → IsAhead next time) → SplitIf due p seat from None split commits
@@ -64,23 +51,16 @@ ran_from k s u number before (i ∷ commands) (d ∷ ds) le c n =
     let due : Bool = s.odd && is_added i answer in
     let ran = command_ran k s.seat b i place answer link.command_done in
     let next = behind due k b t.seat link.split_done in
-    let seen : time_of place ≤ b.base + length b.seen = place_seen (past_of b) b.number i place answer ran.commits ran.placed in
     let same : t.seat.number ≡ s.seat.number = next.continues.number ∙ ran.continues.number in
-    let rest = ran_from k t u (number + 1) (time_of place) commands ds (omega (arith, seen, seen_grows b t.seat next.continues)) c.2
+    let rest = ran_from k t u (number + 1) (time_of place) commands ds (omega (arith, ran.seen, seen_grows b t.seat next.continues)) c.2
     (subst (λ (m : ℕ). HaveNumbers (λ (c : Command). 1) m (number + 1) commands ds) (sym same) n.2) in
     let on = Continues-Continues next.continues rest.continues in
-    let placed : GrowPlaceOf (past_of u.seat) u.seat.number i place answer ran.commits =
-    subst (λ (m : ℕ). GrowPlaceOf (past_of u.seat) m i place answer ran.commits) (sym on.number)
-    (subst (λ (p : Past). GrowPlaceOf p b.number i place answer ran.commits) (sym (past_later b u.seat on))
-    (place_longer (past_of b) (drop (length b.seen) u.seat.seen) b.number i place answer ran.commits ran.placed)) in
-    let split : SplitIf due (past_of u.seat) u.seat.number (time_of place) (first_place rest.turns) next.split next.commits =
-    subst (λ (m : ℕ). SplitIf due (past_of u.seat) m (time_of place) (first_place rest.turns) next.split next.commits) (sym rest.continues.number)
-    (subst (λ (p : Past). SplitIf due p t.seat.number (time_of place) (first_place rest.turns) next.split next.commits)
-    (sym (past_later t.seat u.seat rest.continues))
-    (due_longer (past_of t.seat) (drop (length t.seat.seen) u.seat.seen) due t.seat.number (time_of place) (first_place rest.turns) next.split
-    next.commits
+    let placed = placed_later (λ p seat commits. GrowPlaceOf p seat i place answer commits) b u.seat ran.commits on
+    (λ p more seat h. place_longer p more seat i place answer ran.commits h) ran.placed in
+    let split = placed_later (λ p seat commits. SplitIf due p seat (time_of place) (first_place rest.turns) next.split commits) t.seat u.seat next.commits
+    rest.continues (λ p more seat h. due_longer p more due seat (time_of place) (first_place rest.turns) next.split next.commits h)
     (due_ahead (past_of t.seat) due t.seat.number (time_of place) (first_place rest.turns) next.split next.commits rest.ahead
-    (next.split_if (time_of place) seen)))) in
+    (next.split_if (time_of place) ran.seen)) in
     let after : number + 1 ≡ suc number = omega arith in
     record {
       continues = Continues-Continues ran.continues on;

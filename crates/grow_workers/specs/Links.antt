@@ -1,16 +1,7 @@
 -- How a command of a growing set was done, with the split that was due behind it.
 use Rattle.std.specs.Prelude.{◌≡◌, ◌≤◌, ◌&&◌, Bool, true, false, List, Option, Some, None, refl}
 use Rattle.std.proofs.Common.{sym, subst}
-use Rattle.mv_history.specs.Meaning.{Seat, IsSeat}
-use Rattle.set_script.specs.declared.commands.Command.{Command}
-use Rattle.set_script.specs.declared.commands.Reply.{Reply}
-use Rattle.section_work.specs.declared.place.Place.{Place}
 use Rattle.section_work.specs.declared.causes.Cause.{Cause}
-use Rattle.section_work.specs.Causes.{Causes}
-use Rattle.run_report.specs.declared.line.Line.{Line}
-use Rattle.run_report.specs.Worked.{BySeat}
-use Rattle.item_workers.specs.Chains.{Chain}
-use Rattle.work_runner.specs.Tries.{IsUnder, none_begun, DoneBehind}
 use Rattle.grow_hash.specs.Grown.{IsGrownOpening}
 use Rattle.grow_hash.specs.GrowRules.{IsGrowCommit}
 use Rattle.grow_hash.specs.GrowAttempts.{GrowAttempted}
@@ -20,6 +11,7 @@ use Rattle.grow_hash.specs.declared.attempt.GrowStep.TheVariants.{Done}
 use Rattle.grow_hash.specs.declared.answer.Split.{Split}
 use Rattle.grow_hash.specs.declared.answer.Split.TheVariants.{Again}
 use Rattle.grow_report.specs.Turns.{is_added, odd_with}
+use Rattle.script_workers.specs.Terms.{Seat, IsSeat, Command, Reply, Place, Causes, Line, BySeat, Chain, IsUnder, none_begun, DoneBehind}
 
 -- What is kept from one command to the next: the seat, and whether the adds that replied yes are an odd number.
 pub record GrowKept : Type 0 where

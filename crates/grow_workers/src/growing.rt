@@ -1,10 +1,8 @@
 // A store of a growing set that does commands one after another, and splits buckets behind them.
 ghost use Rattle.std.specs.Prelude.{◌≡◌, ◌≤◌, ◌&&◌, true, false, Some, None};
-ghost use Rattle.section_work.specs.Causes.{causes};
-ghost use Rattle.item_workers.specs.Chains.{OnTried};
-ghost use Rattle.work_runner.specs.Tries.{CommitsNone};
 ghost use Rattle.grow_hash.specs.SplitCalls.{most_writes};
 ghost use Rattle.grow_report.specs.Turns.{is_added, odd_with};
+ghost use Rattle.script_workers.specs.Terms.{causes, OnTried, CommitsNone};
 ghost use Rattle.grow_workers.specs.Links.{IsAnsweredBy};
 
 use grow_hash::{GrowRules, GrowStep, Split, attempt_grow, try_split};

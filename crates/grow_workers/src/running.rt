@@ -1,12 +1,11 @@
 // The run of the scripts, each by a worker of its own.
 ghost use Rattle.std.specs.Prelude.{◌≡◌, ◌≤◌, length, map, All, IfOk, IfErr};
-ghost use Rattle.set_script.specs.declared.script.TheConstants.{MOST_COMMANDS};
-ghost use Rattle.section_work.specs.Causes.{causes};
 ghost use Rattle.script_workers.specs.Numbers.{AreNumbered};
 ghost use Rattle.script_workers.specs.Workers.{items_of};
 ghost use Rattle.grow_hash.specs.GrowPlans.{IsOfGrown};
 ghost use Rattle.grow_hash.specs.SplitCalls.{most_writes};
 ghost use Rattle.grow_report.specs.Turns.{AllRanGrow};
+ghost use Rattle.script_workers.specs.Terms.{MOST_COMMANDS, causes};
 ghost use Rattle.grow_workers.specs.Links.{AllLinkedTurns};
 
 use crate::growing::Growing;

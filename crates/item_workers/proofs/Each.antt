@@ -1,11 +1,6 @@
 -- What holds of all seats, from what each did; and a chain whose answers are told otherwise.
-use Rattle.std.proofs.Common.{ℕ, ◌+◌, ◌<◌, ◌^◌, List, [], ◌∷◌, map, sum_by, All, Vec}
-use Rattle.std.specs.declared.alloc.Global.{Global}
-use Rattle.std.proofs.lemmas.List.Elements.{All-nil, All-cons, All-head, All-tail}
-use Rattle.mv_history.specs.Meaning.{Seat}
-use Rattle.item_workers.specs.declared.runner.Answer.{Answer}
-use Rattle.item_workers.specs.Chains.{Chain, DidTo, EachDid}
-use Rattle.item_workers.specs.Workers.{MayDo}
+use Rattle.std.proofs.Common.{◌+◌, ◌<◌, ◌^◌, ◌∷◌}
+use Rattle.item_workers.proofs.Terms.{ℕ, List, [], map, sum_by, All, Vec, Global, Seat, Answer, Chain, DidTo, EachDid, MayDo}
 
 module _ {T X I D : Type 0} (first : T → X) (seat_of : X → Seat) (link : X → X → I → D → Type 0) (width : I → ℕ)
     (AllOf : List T → List Seat → List (List I) → List (Vec (Answer D) Global) → Type 0) (none : AllOf [] [] [] [])
@@ -27,26 +22,12 @@ module _ {X I D E : Type 0} (link : X → X → I → D → Type 0) (told : X �
   chain_told s t (i ∷ items) (d ∷ ds) c = (c.0, tells s c.0 i d c.1, chain_told c.0 t items ds c.2)
   chain_told s t _ _ c = absurd c
 
--- what every one has, all of a list have
-all_each : {X : Type 0} (P : X → Type 0) → ((x : X) → P x) → (xs : List X) → All P xs
-all_each P each [] = All-nil P
-all_each P each (x ∷ xs) = All-cons P x xs (each x) (all_each P each xs)
-
 -- what is done without a condition, of all lists
 pub all_free : {I : Type 0} (lists : List (Vec I Global)) → All (λ (list : Vec I Global). All (λ (i : I). Unit {0}) list.items) lists
-all_free {I} =
-    all_each (λ (list : Vec I Global). All (λ (i : I). Unit {0}) list.items) (λ list. all_each (λ (i : I). Unit {0}) (λ i. tt) list.items)
+all_free lists = λ i d lt j e within. tt
 
 -- the lists whose numbers are few and whose items are done may be done
 pub all_may : {I : Type 0} (does : I → Type 0) (width : I → ℕ) (lists : List (Vec I Global))
     → All (λ (list : Vec I Global). 1 + sum_by width list.items < 2 ^ 32) lists → All (λ (list : Vec I Global). All does list.items) lists
     → All (λ (list : Vec I Global). MayDo does width list.items) lists
-all_may {I} does width [] few each = All-nil (λ (list : Vec I Global). MayDo does width list.items)
-all_may {I} does width (list ∷ lists) few each =
-    All-cons (λ (l : Vec I Global). MayDo does width l.items) list lists
-    (record {
-      each = All-head (λ (l : Vec I Global). All does l.items) list lists each;
-      few = All-head (λ (l : Vec I Global). 1 + sum_by width l.items < 2 ^ 32) list lists few;
-    })
-    (all_may does width lists (All-tail (λ (l : Vec I Global). 1 + sum_by width l.items < 2 ^ 32) list lists few)
-    (All-tail (λ (l : Vec I Global). All does l.items) list lists each))
+all_may does width lists few each = λ i d lt. record { each = each i d lt; few = few i d lt }

@@ -1,9 +1,6 @@
 -- How many answers a chain has, and what all places hold.
-use Rattle.std.proofs.Common.{◌≡◌, ℕ, suc, ◌<◌, List, [], ◌∷◌, length, refl, ap, subst, arith, get_or}
-use Rattle.std.specs.List.{AllZip}
-use Rattle.mv_history.specs.Meaning.{Seat}
-use Rattle.item_workers.specs.declared.runner.Answer.{Answer}
-use Rattle.item_workers.specs.Chains.{Chain, DidAll, DidTo}
+use Rattle.std.proofs.Common.{◌++◌, ◌≡◌, ◌<◌, ◌∷◌}
+use Rattle.item_workers.proofs.Terms.{ℕ, suc, List, [], length, refl, ap, subst, arith, get_or, AllZip, Seat, Answer, Chain, DidAll, DidTo}
 
 -- there is an answer for each item
 pub chain_length : {X I D : Type 0} (link : X → X → I → D → Type 0) (s t : X) (items : List I) (ds : List D) → Chain link s t items ds
@@ -23,3 +20,9 @@ pub each_zip : {X : Type 0} (P : X → X → Type 0) (os ns : List X) → length
 each_zip P [] [] len h = tt
 each_zip P (o ∷ os) (n ∷ ns) len h = (h 0 o (omega arith), each_zip P os ns (omega (arith, len)) (λ i d lt. h (suc i) d (omega (arith, lt))))
 each_zip P _ _ len h = absurd (omega (arith, len))
+
+-- so they do with one more place
+pub zip_more : {A B : Type 0} (P : A → B → Type 0) (xs : List A) (ys : List B) (x : A) (y : B) → AllZip P xs ys → P x y → AllZip P (xs ++ x ∷ []) (ys ++ y ∷ [])
+zip_more P [] [] x y h p = (p, tt)
+zip_more P (a ∷ xs) (b ∷ ys) x y h p = (h.0, zip_more P xs ys x y h.1 p)
+zip_more P _ _ x y h p = absurd h

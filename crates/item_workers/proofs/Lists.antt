@@ -1,23 +1,8 @@
 -- What was done of lists of the workers' own.
-use Rattle.std.proofs.Common.{◌≡◌, ℕ, suc, ◌+◌, ◌≤◌, List, [], ◌∷◌, ◌++◌, length, take, drop, sum_by, Some, slice_get, Vec, refl, sym, ap}
-use Rattle.std.proofs.Common.{◌∙◌, subst, arith}
-use Rattle.std.specs.declared.alloc.Global.{Global}
-use Rattle.std.proofs.lemmas.List.{drop_more, drop_all}
-use Rattle.std.proofs.lemmas.Option.{slice_get_within, get_or_from_slice_get}
-use Rattle.mv_history.specs.Meaning.{Seat}
-use Rattle.item_workers.specs.declared.runner.Answer.{Answer}
+use Rattle.std.proofs.Common.{◌≡◌, ◌+◌, ◌≤◌, ◌∷◌, ℕ, suc, List, [], length, take, drop, sum_by, Some, slice_get, Vec, sym, ap, ◌∙◌, subst, arith, Global}
+use Rattle.item_workers.proofs.Terms.{drop_more, drop_all, slice_get_within, get_or_from_slice_get, Seat, Answer, Chain, HaveNumbers, EachDid, answered, IsAt}
+use Rattle.item_workers.proofs.Terms.{GaveOwn, AreOwn, Serves, EachServed, MayDo}
 use Rattle.item_workers.specs.declared.source.Own.{Own}
-use Rattle.item_workers.specs.Chains.{Chain, HaveNumbers, EachDid, answered}
-use Rattle.item_workers.specs.OwnLists.{IsAt, GaveOwn, AreOwn}
-use Rattle.item_workers.specs.Serving.{Serves, EachServed}
-use Rattle.item_workers.specs.Workers.{MayDo}
-
--- one more list as a source
-pub own_more : {I : Type 0} (lists : List (List I)) (sources : List (Own I)) (list : List I) (own : Own I) → AreOwn lists sources → own.items.now ≡ list
-    → own.next ≡ 0 → own.number ≡ 1 → AreOwn (lists ++ list ∷ []) (sources ++ own ∷ [])
-own_more [] [] list own h items next number = (items, next, number, tt)
-own_more (l ∷ lists) (s ∷ sources) list own h items next number = (h.0, h.1, h.2, own_more lists sources list own h.3 items next number)
-own_more _ _ list own h items next number = absurd h
 
 -- at first no item was given
 pub at_first : {I : Type 0} (does : I → Type 0) (width : I → ℕ) (own : Own I) → MayDo does width own.items.now → own.next ≡ 0 → own.number ≡ 1
@@ -27,12 +12,6 @@ at_first does width own may next number = record {
   within = omega (arith, next);
   number_is = number ∙ ap (λ n. 1 + sum_by width (take n own.items.now)) (sym next);
 }
-
--- there is a source for each list
-pub own_count : {I : Type 0} (lists : List (List I)) (sources : List (Own I)) → AreOwn lists sources → length sources ≡ length lists
-own_count [] [] h = refl
-own_count (l ∷ lists) (s ∷ sources) h = ap suc (own_count lists sources h.3)
-own_count _ _ h = absurd h
 
 -- the items that are left, with the first of them ahead
 left_there : {I : Type 0} (items : List I) (i : ℕ) (item : I) → slice_get items i ≡ Some item → drop i items ≡ item ∷ drop (suc i) items
@@ -44,9 +23,8 @@ left_there items i item there =
 
 module _ {X I D : Type 0} (link : X → X → I → D → Type 0) (width : I → ℕ) (seat : ℕ) where
   -- what was left of a list is done, where no item is left then
-  list_done : (s t : X) (a b : Own I) (todo : List I) (ds : List (Answer D)) → drop a.next a.items.now ≡ todo
-      → Serves link (GaveOwn width) seat s a t b ds → length b.items.now ≤ b.next
-      → Chain (answered link) s t todo ds × HaveNumbers width seat a.number todo ds
+  list_done : (s t : X) (a b : Own I) (todo : List I) (ds : List (Answer D)) → drop a.next a.items.now ≡ todo → Serves link (GaveOwn width) seat s a t b ds
+      → length b.items.now ≤ b.next → Chain (answered link) s t todo ds × HaveNumbers width seat a.number todo ds
   list_done s t a b [] [] left h ended = (h.0, tt)
   list_done s t a b (i ∷ todo) [] left h ended =
       let over : length a.items.now ≤ a.next = subst (λ (o : Own I). length o.items.now ≤ o.next) h.1 ended in
@@ -72,13 +50,13 @@ own_did seat_of link width [] [] [] [] [] [] own h = tt
 own_did seat_of link width (o ∷ os) (l ∷ lists) (a ∷ sources) (n ∷ ns) (b ∷ after) (r ∷ rows) own h =
     let served = h.0.served in
     let done = list_done link width (seat_of o).number o h.0.end a served.last l r.items
-    (ap (λ k. drop k a.items.now) own.1 ∙ own.0) served.serves served.ended_is in (
+    (ap (λ k. drop k a.items.now) own.0.1 ∙ own.0.0) served.serves served.ended_is in (
       record {
         end = h.0.end;
         seat_is = h.0.seat_is;
-        did = record { chain = done.0; numbers = subst (λ k. HaveNumbers width (seat_of o).number k l r.items) own.2 done.1 };
+        did = record { chain = done.0; numbers = subst (λ k. HaveNumbers width (seat_of o).number k l r.items) own.0.2 done.1 };
       },
-      own_did seat_of link width os lists sources ns after rows own.3 h.1,
+      own_did seat_of link width os lists sources ns after rows own.1 h.1,
     )
 own_did seat_of link width os [] (a ∷ sources) ns after rows own h = absurd own
 own_did seat_of link width os (l ∷ lists) [] ns after rows own h = absurd own

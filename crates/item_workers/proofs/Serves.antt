@@ -1,7 +1,6 @@
 -- A source, as it gives one more item.
-use Rattle.std.proofs.Common.{ℕ, List, [], ◌∷◌, ◌++◌, refl, subst}
-use Rattle.item_workers.specs.declared.runner.Answer.{Answer}
-use Rattle.item_workers.specs.Serving.{IsGiven, Serves}
+use Rattle.std.proofs.Common.{◌∷◌, ◌++◌}
+use Rattle.item_workers.proofs.Terms.{ℕ, List, [], refl, subst, Answer, IsGiven, Serves}
 
 module _ {X I D P : Type 0} (link : X → X → I → D → Type 0) (gives : P → ℕ → I → P → Type 0) (seat : ℕ) where
   pub serves_more : (s : X) (a : P) (t : X) (b : P) (u : X) (c : P) (ds : List (Answer D)) (d : Answer D)

@@ -14,17 +14,15 @@ OnTried done again Again = again
 -- From the one state to the other the items were done in order, with these answers: each begins at that at which the one before it was done.
 abbrev pub Chain : {X I D : Type 0} → (X → X → I → D → Type 0) → X → X → List I → List D → Type 0
 Chain link s t [] [] = t ≡ s
-Chain link s t [] (d ∷ ds) = ⊥
-Chain link s t (i ∷ is) [] = ⊥
 Chain {X} link s t (i ∷ is) (d ∷ ds) = (u : X) × link s u i d × Chain link u t is ds
+Chain link s t _ _ = ⊥
 
 -- The answers are by the seat of this number, and numbered from this number on, each above all that the items before it have.
 abbrev pub HaveNumbers : {I D : Type 0} → (I → ℕ) → ℕ → ℕ → List I → List (Answer D) → Type 0
 HaveNumbers width seat number [] [] = ⊤
-HaveNumbers width seat number [] (a ∷ answers) = ⊥
-HaveNumbers width seat number (i ∷ is) [] = ⊥
 HaveNumbers width seat number (i ∷ is) (a ∷ answers) =
     (a.seat ≡ seat) × (a.number ≡ number) × HaveNumbers width seat (number + width i) is answers
+HaveNumbers width seat number _ _ = ⊥
 
 -- the link of an item that has this answer
 abbrev pub answered : {X I D : Type 0} → (X → X → I → D → Type 0) → X → X → I → Answer D → Type 0

@@ -1,5 +1,6 @@
 -- A worker's own list, and how far it has been given.
-use Rattle.std.specs.Prelude.{ℕ, suc, ◌≡◌, ◌≤◌, ◌+◌, List, [], ◌∷◌, take, length, sum_by, slice_get, Some, ⊤}
+use Rattle.std.specs.Prelude.{ℕ, suc, ◌≡◌, ◌≤◌, ◌+◌, List, take, length, sum_by, slice_get, Some}
+use Rattle.std.specs.List.{AllZip}
 use Rattle.item_workers.specs.declared.source.Own.{Own}
 use Rattle.item_workers.specs.Workers.{MayDo}
 
@@ -19,6 +20,4 @@ pub record GaveOwn {I : Type 0} (width : I → ℕ) (old : Own I) (number : ℕ)
 
 -- the sources of these lists, none of whose items was given yet
 abbrev pub AreOwn : {I : Type 0} → List (List I) → List (Own I) → Type 0
-AreOwn [] [] = ⊤
-AreOwn (list ∷ lists) (own ∷ sources) = (own.items.now ≡ list) × (own.next ≡ 0) × (own.number ≡ 1) × AreOwn lists sources
-AreOwn _ _ = ⊥
+AreOwn {I} lists sources = AllZip (λ (list : List I) (own : Own I). (own.items.now ≡ list) × (own.next ≡ 0) × (own.number ≡ 1)) lists sources

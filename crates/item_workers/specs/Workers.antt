@@ -1,5 +1,6 @@
 -- A worker: a runner, its source and its answers.
-use Rattle.std.specs.Prelude.{◌≡◌, ◌≤◌, ◌<◌, ◌+◌, ◌^◌, ℕ, List, [], ◌∷◌, sum_by, vec_capacity, Vec, All, ⊤}
+use Rattle.std.specs.Prelude.{◌≡◌, ◌≤◌, ◌<◌, ◌+◌, ◌^◌, ℕ, List, [], sum_by, vec_capacity, Vec, All}
+use Rattle.std.specs.List.{AllZip}
 use Rattle.std.specs.declared.alloc.Global.{Global}
 use Rattle.mv_history.specs.Meaning.{Seat}
 use Rattle.item_workers.specs.Serving.{IsServed}
@@ -44,7 +45,5 @@ RanBy kept_of seat_of link gives ended old new =
 
 -- no answers for each source, and room for those of all that it may give
 abbrev pub AreRooms : {P M D : Type 0} → (P → ℕ) → List P → List (WorkerRoom M D) → Type 0
-AreRooms left [] [] = ⊤
-AreRooms left (source ∷ sources) (room ∷ rooms) =
-    (room.answers.items ≡ []) × (left source ≤ vec_capacity room.answers) × AreRooms left sources rooms
-AreRooms left _ _ = ⊥
+AreRooms {P} {M} {D} left sources rooms =
+    AllZip (λ (source : P) (room : WorkerRoom M D). (room.answers.items ≡ []) × (left source ≤ vec_capacity room.answers)) sources rooms

@@ -31,7 +31,7 @@ pub record MayJoin (v other : View) : Type 0 where
 
 -- what is kept of the joined seat
 abbrev pub note_of : View → Note
-note_of v = record { number = v.number; past = v.past; ring = v.ring }
+note_of v = record { number = v.number; past = v.past; ring = v.ring; trail = v.trail }
 
 -- the notes of both are one, with a note of the joined seat; what it had seen stands in that note
 abbrev pub joined : Config → View → View → View

@@ -32,8 +32,8 @@ impl<D: Domain> Join<View> for Joining<D> {
 
 impl<P: Protocol> Shared<P> {
     /// Joins another seat into that of the pass, which keeps a note of it: its number, what it has
-    /// seen, its commits and rests, and what is in its log. Both are outside, with no scan running.
-    /// The other seat makes no step any more.
+    /// seen, its commits and rests, its steps, and what is in its log. Both are outside, with no scan
+    /// running. The other seat makes no step any more.
     pub fn join<L: Ledger>(&self, pass: &mut Pass<P>, other: Pass<P>, steps: &mut Steps<L>)
         requires of { IsOf self.now pass.old }
         requires other { IsOf self.now other }

@@ -111,11 +111,12 @@ pub struct EmptyHead {
     pub time: u64,
 }
 
-/// What is kept of a seat that was joined.
+/// What is kept of a seat that was joined: its number, what it knew, its log, and its steps in order.
 pub struct Note {
     pub number: u32,
     pub past: Past,
     pub ring: Ring,
+    pub trail: LinkedList<Step>,
 }
 
 /// What a seat knows.

@@ -32,7 +32,8 @@ pub enum Place {
     Data(u32, u32, u32),
 }
 
-/// How many words the table of a domain has, at most 120,062,018.
+/// How many words a domain has, at most 120,062,018: its places, which have no gaps. The table that runs
+/// has `total_cells`.
 pub fn total_words(config: &Config) -> u64
     requires { Checked config.now }
     ensures { result ≡ total config.now }

@@ -2,7 +2,9 @@
 pub mod Numbers
 pub mod NoneLeft
 pub mod Kept
+pub mod Taken
 pub mod Joins
+pub mod Named
 pub mod Loads
 pub mod Met
 pub mod Reads

@@ -1,5 +1,6 @@
 -- What holds the oldest write set of a seat's log, and what making room leaves of a seat.
 use Rattle.std.specs.Prelude.{◌≡◌, ◌≢◌, ◌⊎◌, ℕ, ◌+◌, ◌-◌, ◌*◌, ◌<◌, ◌≤◌, true, false, List, [], length, count_by, slice_index, Some}
+use Rattle.std.specs.List.{AllZip}
 use Rattle.mv_history.specs.declared.answers.Holder.{Holder}
 use Rattle.mv_history.specs.declared.answers.Holder.TheVariants.{Fresh, End}
 use Rattle.mv_history.specs.declared.answers.LogTable.{LogTable}
@@ -143,3 +144,7 @@ pub record IsSeatTable (s : Seat) (t : LogTable) : Type 0 where
   pub aborts : t.aborts ≡ aborts_in s.trail
   pub used : writes_in s.mine ≤ t.live + t.freed
   pub all_used : t.aborts ≡ 0 → t.live + t.freed ≡ writes_in s.mine
+
+-- the tables are those of these seats, one for each, in their order
+abbrev pub AreTablesOf : List Seat → List LogTable → Type 0
+AreTablesOf seats tables = AllZip IsSeatTable seats tables

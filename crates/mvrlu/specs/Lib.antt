@@ -4,8 +4,10 @@ pub mod Bounds
 pub mod Holding
 pub mod Meant
 pub mod Standing
+pub mod MetSeats
 pub mod Whole
 pub mod WholeLaws
+pub mod MetLaws
 pub mod Meeting
 pub mod Joined
 pub mod Opened

@@ -11,7 +11,7 @@ use Rattle.mv_core.specs.HistoryFacts.{BeginsWith}
 use Rattle.mvrlu.specs.declared.domain.Domain.{Domain}
 use Rattle.mvrlu.specs.declared.domain.Seat.{Seat}
 use Rattle.mvrlu.specs.Meant.{numbers_of, seat_of, IsSeatOf}
-use Rattle.mvrlu.specs.Whole.{Whole}
+use Rattle.mvrlu.specs.Whole.{Whole, IsMetSeat}
 
 module _ {P : Type 0} {rules : _} where
   -- these are all the seats of the domain, each once: as many as it has, each of it, and no two of one number
@@ -26,7 +26,8 @@ module _ {P : Type 0} {rules : _} where
 
   -- The law of the whole. Whatever the seats of a domain have done, there is one history of it all. It is legal, and allowed under the
   -- client's rules from the opening state. Whatever a seat had seen at any time is a beginning of it. The commits of a seat are those of
-  -- its number in it, in order and each once, and so many rests in it are the seat's. Each entry is of one of the seats.
+  -- its number in it, in order and each once, and so many rests in it are the seat's. Each entry is of one of the seats. And these are the
+  -- very seats that met: each is the one of its number.
   pub record LawOfTheWhole (starts : State → Type 0) (allows : List ℕ → State → Writes → Type 0) (seats : List (Seat P rules)) (w : Whole) : Type 0 where
     pub opening : starts w.start
     pub legal : IsLegal (length w.start) w.history
@@ -39,6 +40,7 @@ module _ {P : Type 0} {rules : _} where
     pub makers : (e : Entry) → Contains w.history e → (s : Seat P rules) × Contains seats s × ((seat_of s).number ≡ maker_of e)
     pub commits : (c : Commit) → Contains w.history (Change c)
         → (s : Seat P rules) × Contains seats s × ((seat_of s).number ≡ c.seat) × Contains (seat_of s).mine c
+    pub named : All (λ s. IsMetSeat w (seat_of s)) seats
 
   -- a trail that is at most so many steps behind that of one of the seats
   pub record IsAtMostBehindOneOf (seats : List (Seat P rules)) (w : Whole) (most : ℕ) : Type 0 where

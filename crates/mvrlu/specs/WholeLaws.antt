@@ -1,12 +1,15 @@
 -- What holds of a whole history: that it is sound is a proposition, and what stays of it.
 use Rattle.std.proofs.Common.{◌≡◌, ℕ, List, [], ◌++◌, length, refl, sym, ap, ◌∙◌, append_assoc, arith}
 use Rattle.std.proofs.lemmas.List.{append-nil}
+use Rattle.std.proofs.lemmas.List.Elements.{All-nil, All-append}
 use Rattle.mv_history.specs.declared.history.TheConstants.{LAST}
 use Rattle.mv_history.specs.State.{State, Writes, state_after, commits_of, rests_of}
 use Rattle.mv_history.specs.Legal.{AreWords}
 use Rattle.mv_history.specs.Meaning.{Seat, IsSeat}
 use Rattle.mv_history.specs.Laws.{IsSeat-prop}
 use Rattle.mv_history.specs.WordsLaws.{AreWords-state_after}
+use Rattle.mv_history.specs.declared.Step.{Step}
+use Rattle.mvrlu.specs.MetSeats.{IsLookStep}
 use Rattle.mvrlu.specs.Whole.{Whole, last_state, IsStill, IsSound}
 
 -- a seat that has seen the whole history
@@ -53,7 +56,16 @@ pub words_at_last : (w : Whole) → IsSound w → AreWords (last_state w)
 words_at_last w is = AreWords-state_after (length w.start) [] w.history w.start is.legal is.words
 
 pub still_itself : (v : Whole) → IsStill v v
-still_itself v = record { config = refl; start = refl; base = refl; history = refl; trail = ([], sym (append-nil v.trail)) }
+still_itself v = record {
+  config = refl;
+  start = refl;
+  base = refl;
+  history = refl;
+  number = refl;
+  trail = ([], sym (append-nil v.trail), All-nil (λ (s : Step). IsLookStep s.kind));
+  others = refl;
+  tables = refl;
+}
 
 pub still_long : (u v w : Whole) → IsStill u v → IsStill v w → IsStill u w
 still_long u v w p q = record {
@@ -61,7 +73,14 @@ still_long u v w p q = record {
   start = q.start ∙ p.start;
   base = q.base ∙ p.base;
   history = q.history ∙ p.history;
-  trail = (p.trail.0 ++ q.trail.0, q.trail.1 ∙ ap (λ t. t ++ q.trail.0) p.trail.1 ∙ append_assoc u.trail p.trail.0 q.trail.0);
+  number = q.number ∙ p.number;
+  trail = (
+    p.trail.0 ++ q.trail.0,
+    q.trail.1 ∙ ap (λ t. t ++ q.trail.0) p.trail.1 ∙ append_assoc u.trail p.trail.0 q.trail.0,
+    All-append (λ (s : Step). IsLookStep s.kind) p.trail.0 q.trail.0 p.trail.2 q.trail.2,
+  );
+  others = q.others ∙ p.others;
+  tables = q.tables ∙ p.tables;
 }
 
 pub still_state : (v w : Whole) → IsStill v w → last_state w ≡ last_state v

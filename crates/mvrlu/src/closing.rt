@@ -5,17 +5,18 @@ ghost use Rattle.mvrlu.specs.Whole.{IsSound, IsStill, last_state};
 ghost use Rattle.mvrlu.specs.WholeLaws.{IsSound-prop};
 
 use mv_core::{Pass, Shared, Steps};
-use mv_history::{Protocol, View, Words};
+use mv_history::{LogTable, Protocol, View, Words};
 use std::marker::{Brand, Model};
 use std::sync::ledger::{Blank, Ledger};
 use version_chain::{Found, find, read_master, read_version};
 
-/// The shared words of a domain, and the one pass that is left of it, in a section that reads the
-/// whole history. Clauses see them as `Whole`.
+/// The shared words of a domain, the one pass that is left of it, in a section that reads the whole
+/// history, and the tables of the seats that met. Clauses see them as `Whole`.
 #[derive(Drop)]
 pub(crate) struct Last<P: Protocol> {
     pub(crate) pass: Pass<P>,
     pub(crate) shared: Shared<P>,
+    pub(crate) tables: Vec<LogTable>,
 }
 
 impl<P: Protocol> Model for Last<P> {
@@ -24,7 +25,7 @@ impl<P: Protocol> Model for Last<P> {
 
     ghost Value = { Whole };
 
-    ghost view = { λ l. whole_from (config_of l.shared) (knows l.pass) };
+    ghost view = { λ l. whole_from (config_of l.shared) l.tables.items (knows l.pass) };
 
     ghost invariant = { λ l. IsReading l.shared l.pass };
 }
@@ -59,6 +60,13 @@ impl<P: Protocol> Last<P> {
         ensures { result ≡ self.now.base + length self.now.history }
     {
         self.pass.time()
+    }
+
+    // The tables of the seats that met.
+    fn tables(&self) -> &[LogTable]
+        ensures { result.now ≡ self.now.tables }
+    {
+        self.tables.as_slice()
     }
 }
 
@@ -108,5 +116,13 @@ impl<P: Protocol> Closing<P> {
         ensures { result ≡ (whole_of self.now).base + length (whole_of self.now).history }
     {
         self.last.time()
+    }
+
+    /// The table of each seat's log, as it was when the seats met, in the order in which they were given to `Domain::meet`,
+    /// which took it: each is the one that `Handle::table` told of that seat last. A read changes none of them.
+    pub fn tables(&self) -> &[LogTable]
+        ensures { result.now ≡ (whole_of self.now).tables }
+    {
+        self.last.tables()
     }
 }

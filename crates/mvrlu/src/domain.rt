@@ -1,17 +1,23 @@
 // A domain, and its seats.
+ghost use Rattle.std.specs.Prelude.{◌≡◌, ◌≤◌, length, vec_capacity};
+ghost use Rattle.mv_core.specs.Passes.{config_of};
 ghost use Rattle.mv_history.specs.Laws.{IsSeat-prop};
 ghost use Rattle.mv_history.specs.Meaning.{IsSeat};
 ghost use Rattle.mvrlu.specs.Placed.{seat_from};
 
 use crate::places::Idle;
 use mv_core::Shared;
-use mv_history::Protocol;
+use mv_history::{LogTable, Protocol};
 
 /// The shared words of a domain: its opening objects, the logs and marks of its seats, and the commit
 /// clock. It owns their memory, and gives it back when it is let go.
 #[derive(Drop)]
 pub struct Domain<P: Protocol> {
     pub(crate) shared: Shared<P>,
+    // Empty, with room for a table of each seat's log: `meet` takes them, and takes no memory.
+    pub(crate) room: Vec<LogTable>,
+    pub ghost empty: { length room.items ≡ 0 },
+    pub ghost roomy: { (config_of shared).seats ≤ vec_capacity room },
 }
 
 /// A seat of a domain, outside a section: a thread's place in it, which `Domain::handle` lends the

@@ -11,8 +11,8 @@
 //! state. A `Seat` means what every store's seat means: what it has seen of the one history of commits
 //! and rests, its own commits in it, the free slots of its log, and the trail of its atomic steps. A
 //! `Handle` means its seat, and a `Session` the section of its seat: the snapshot's length, and what it
-//! holds. A `Closing` means the whole history, with the numbers of its domain, and reads the state after
-//! it. `Meant` in specs/ has these.
+//! holds. A `Closing` means the whole history, with the numbers of its domain and the tables of the logs of
+//! the seats that met, and reads the state after it. `Meant` in specs/ has these.
 //!
 //! **The contract.** `Handle` is a `Store` and `Session` a `Section`, so all clauses of these traits hold
 //! over every interleaving of the steps. What a refusal claims was found in the steps of that very call:
@@ -46,7 +46,12 @@
 //! allowed by the client's rules from the opening state, and begun by whatever any seat had seen at any
 //! time. Each seat's commits stand in it, in order and each once, and so many of its rests; each entry is
 //! of one of the seats. The `Closing` reads the state after all of it. `LawOfTheWhole` in specs/ says so,
-//! and it is the contract of `meet`.
+//! and it is the contract of `meet`. The `Closing` also has the table of each seat's log, which `meet` took
+//! of the seats that it was given (clause `tables`); `open` took the room for them. And it tells which seats
+//! met, one of each number (`IsMetSeat`): of each other seat all that it had seen and done, as the core noted
+//! when it was joined, and of the seat that is left its number and its trail, behind which stand the joins,
+//! two loads of CLOCK with an entering between them, and later reads. So of each number one trail is that of
+//! a seat that met (clause `trails`): no other trail stands for a seat, though the history be the same.
 //!
 //! A handle lends the domain to its seat, and may go to another thread; the words are touched only through
 //! its calls. Where a thread can't keep that loan from one call to the next, `Session::park` makes a

@@ -1,18 +1,19 @@
 // Meeting: all seats of a domain are joined, and its history is known whole.
-ghost use Rattle.std.specs.Prelude.{◌≡◌, ◌+◌, ◌<◌, ◌≤◌, [], length, All};
+ghost use Rattle.std.specs.Prelude.{◌≡◌, ◌+◌, ◌<◌, ◌≤◌, [], length, map, All, vec_capacity};
 ghost use Rattle.mv_core.specs.EnterSteps.{MayLoadLow};
 ghost use Rattle.mv_core.specs.Passes.{view, IsOf};
+ghost use Rattle.mvrlu.specs.Holding.{AreTablesOf};
 ghost use Rattle.mvrlu.specs.Joined.{AreJoining};
-ghost use Rattle.mvrlu.specs.Meant.{numbers_of, opening_of, whole_of};
+ghost use Rattle.mvrlu.specs.Meant.{numbers_of, opening_of, seat_of, whole_of};
 ghost use Rattle.mvrlu.specs.Meeting.{AreAll, LawOfTheWhole, IsAtMostBehindOneOf};
 ghost use Rattle.mvrlu.specs.Placed.{Fits};
-ghost use Rattle.mvrlu.specs.Whole.{IsSound};
+ghost use Rattle.mvrlu.specs.Whole.{IsSound, AreApart, TellsTrails};
 
 use crate::closing::{Closing, Last};
 use crate::domain::{Domain, Seat};
 use crate::places::{Idle, Place};
 use mv_core::{Pass, Shared, Steps};
-use mv_history::Protocol;
+use mv_history::{LogTable, Protocol};
 use reader_marks::enter;
 use std::boxed::Box;
 use std::marker::Brand;
@@ -29,6 +30,18 @@ fn pass_of<P: Protocol>(shared: &Shared<P>, seat: Seat<P>) -> Pass<P>
     let Idle { place } = idle;
     let Place { pass, log: _ } = Box::into_inner(place);
     pass
+}
+
+// The table of each of these seats' logs, in their order. There is room for them. It takes no memory.
+fn taken<P: Protocol>(seats: &[Seat<P>], mut tables: Vec<LogTable>) -> Vec<LogTable>
+    requires none { length tables.items ≡ 0 }
+    requires room { length seats.now ≤ vec_capacity tables }
+    ensures taken { AreTablesOf (map seat_of seats.now) result.items }
+{
+    for seat in seats {
+        tables.push_reserved(seat.idle.table());
+    }
+    tables
 }
 
 // Joins all these seats into the last of them.
@@ -64,18 +77,25 @@ fn met<P: Protocol, L: Ledger>(
 ) -> Last<P>
     requires all { AreAll domain seats.items }
     ensures law { LawOfTheWhole P.start P.allowed seats.items result }
+    ensures numbered { AreApart result }
+    ensures tables { AreTablesOf (map seat_of seats.items) result.tables }
     ensures sound { IsSound result }
     ensures opening { (result.start ≡ opening_of domain) × (result.base ≡ (numbers_of domain).base) }
     ensures numbers { result.config ≡ numbers_of domain }
     ensures short { IsAtMostBehindOneOf seats.items result ((numbers_of domain).seats + 7) }
     ensures cost { steps.new ≤ steps.old + ((numbers_of domain).seats + 7) }
 {
-    let Domain { shared } = domain;
+    let Domain { shared, room } = domain;
+    let tables = taken(&seats, room);
     let mut pass = joined(&shared, seats, steps);
     let _ = shared.load_joined(&mut pass, steps);
     let _ = enter(&shared, &mut pass, steps);
     let _ = shared.load_joined(&mut pass, steps);
-    Last { pass, shared }
+    Last {
+        pass,
+        shared,
+        tables,
+    }
 }
 
 // Meets, with a counter of its own.
@@ -84,6 +104,8 @@ fn begun<P: Protocol, L: Ledger>(domain: Domain<P>, seats: Vec<Seat<P>>, blank: 
     requires parts { (blank.parts ≡ L.parts) × (0 < L.parts) }
     requires all { AreAll domain seats.items }
     ensures law { LawOfTheWhole P.start P.allowed seats.items result }
+    ensures numbered { AreApart result }
+    ensures tables { AreTablesOf (map seat_of seats.items) result.tables }
     ensures sound { IsSound result }
     ensures opening { (result.start ≡ opening_of domain) × (result.base ≡ (numbers_of domain).base) }
     ensures numbers { result.config ≡ numbers_of domain }
@@ -99,14 +121,20 @@ impl<P: Protocol> Domain<P> {
     /// history of it. It is legal and allowed by the client's rules from the opening state. Whatever a
     /// seat had seen at any time is a beginning of it. Each seat's commits stand in it, in order and
     /// each once, and so many of its rests; each entry is of one of the seats. The closing reads the
-    /// state after that history, and has the numbers with which the domain was opened.
+    /// state after that history, and has the numbers with which the domain was opened. It keeps the
+    /// table of each seat's log, in the order of the seats that it was given (`Closing::tables`).
     ///
-    /// It never refuses and takes no memory. It joins the seats, loads CLOCK, enters a section, which
-    /// helps the last commit, and loads CLOCK again, in at most `seats + 7` steps: no seat is left
-    /// that could make an entry between the two loads.
+    /// The closing tells which seats met, with their steps: of each number one seat, with one trail.
+    ///
+    /// It never refuses and takes no memory: `open` took the room for the tables. It joins the seats,
+    /// loads CLOCK, enters a section, which helps the last commit, and loads CLOCK again, in at most
+    /// `seats + 7` steps: no seat is left that could make an entry between the two loads.
     pub fn meet(self, seats: Vec<Seat<P>>) -> Closing<P>
         requires all { AreAll self seats.items }
         ensures law { LawOfTheWhole P.start P.allowed seats.items (whole_of result) }
+        ensures numbered { AreApart (whole_of result) }
+        ensures trails { TellsTrails (whole_of result) }
+        ensures tables { AreTablesOf (map seat_of seats.items) (whole_of result).tables }
         ensures opening { ((whole_of result).start ≡ opening_of self) × ((whole_of result).base ≡ (numbers_of self).base) }
         ensures numbers { (whole_of result).config ≡ numbers_of self }
         ensures short { IsAtMostBehindOneOf seats.items (whole_of result) ((numbers_of self).seats + 7) }

@@ -90,10 +90,11 @@ fn with_seats<P: Protocol>(
 {
     let (shared, passes) = made;
     let ready = with_logs(&shared, alloc, passes)?;
+    let room = Vec::with_capacity(alloc, ready.len())?;
     // A row of seats can't be let go, so nothing is refused from here on.
     let seats = Vec::with_capacity(alloc, ready.len())?;
     let seats = all_seated(&shared, ready, seats);
-    Ok((Domain { shared }, seats))
+    Ok((Domain { shared, room }, seats))
 }
 
 // Opens a domain of numbers that are in range.

@@ -178,7 +178,7 @@ impl<'d, P: Protocol> Section for Session<'d, P> {
         locked::<P, Brand>(&domain.shared, &mut part.busy, object, None, Blank::new(1))
     }
 
-    // In a domain of one seat it never answers `Busy` or `Stale`. It reads none of the object's words.
+    // In a domain of one seat it never answers `Busy` or `Stale`. It makes at most 18 steps.
     fn try_lock_with(&mut self, object: u32, words: Words) -> LockAnswer
         requires { object < length (state_of (section_of self.old)) }
         ensures goes_on { GoesOn (section_of self.old) (section_of self.new) }

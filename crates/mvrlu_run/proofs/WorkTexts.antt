@@ -1,7 +1,6 @@
--- The text of a run of generated scripts, by the lines, maps and tables of that run.
+-- The text of a run of generated scripts, by the lines and maps of that run.
 use Rattle.std.proofs.Common.{◌≡◌, ℕ, ◌-◌, List, arith, ap, ◌∙◌, subst}
 use Rattle.std.proofs.lemmas.List.{length-replicate}
-use Rattle.mv_history.specs.declared.answers.LogTable.{LogTable}
 use Rattle.set_script.specs.Catalogue.{Maps}
 use Rattle.set_script.specs.Objects.{no_words}
 use Rattle.set_script.specs.Rules.{capacity}
@@ -19,13 +18,13 @@ use Rattle.mvrlu_run.specs.Told.{IsTextOfWork}
 
 -- a run of the four scripts of a number is summed up by its summary, and where no reply is worn so are the scripts one after another
 pub text_of_work : (number : ℕ) (scripts : List (List Command)) (closing : Closing SetRules) (text : List ℕ) (lines : List Line) (end : Maps)
-    (tables : List LogTable) → scripts ≡ scripts_of number → IsLeft (runs work_options scripts) lines end tables closing → IsOrdered lines
+    → scripts ≡ scripts_of number → IsLeft (runs work_options scripts) lines end closing → IsOrdered lines
     → text ≡ summary number lines end → IsTextOfWork number closing text
-text_of_work number scripts closing text lines end tables four run ordered is =
-    let left = subst (λ (s : List (List Command)). IsLeft (runs work_options s) lines end tables closing) four run in
+text_of_work number scripts closing text lines end four run ordered is =
+    let left = subst (λ (s : List (List Command)). IsLeft (runs work_options s) lines end closing) four run in
     let room = ap capacity left.start ∙ ap (λ (n : ℕ). n - 180) (length-replicate 16384 no_words) in
     record {
-      printed = record { lines = lines; end = end; tables = tables; left = left; ordered = ordered; is = is };
+      printed = record { lines = lines; end = end; left = left; ordered = ordered; is = is };
       replayed = λ none.
           is
           ∙ summary_as (scripts_of number) lines (whole_of closing).base (capacity (whole_of closing).start) end (scripts_generated number)

@@ -50,25 +50,25 @@ config_of options write_max seats = record {
   base = options.base;
 }
 
--- A kind of run over a domain, which ends in values of this type: the numbers of its domain; what makes lines, an end and tables those of
--- one run in its whole history; and the text of them.
+-- A kind of run over a domain, which ends in values of this type: the numbers of its domain; what makes lines and an end those of one run
+-- in its whole history; and the text of them and of the tables of its seats.
 pub record Kind (End : Type 0) : Type 1 where
   pub numbers : Config
-  pub is_run : List Line → End → List LogTable → Whole → Type 0
+  pub is_run : List Line → End → Whole → Type 0
   pub text_of : List Line → End → List LogTable → List ℕ
 
 -- The history of a domain is that of a run, and each seat went along the chain of its lines: from the one with which a domain of these numbers,
--- all of them, was opened, to the one that met. The lines that are printed are those of the chains, in another order, and the tables are
--- those of the seats that the chains lead to.
+-- all of them, was opened, to the one that met, of which the closing tells, with its trail and its table. The lines that are printed are those of
+-- the chains, in another order.
 pub record IsRunAlong (allows : List ℕ → State → Writes → Type 0) (chain : List Seat → List Seat → List Line → Type 0) (numbers : Config)
-    (is_run : Past → Type 0) (lines : List Line) (tables : List LogTable) (w : Whole) : Type 0 where
+    (is_run : Past → Type 0) (lines : List Line) (w : Whole) : Type 0 where
   pub run : is_run (past_of_whole w)
   pub home : List ℕ
   pub firsts : List Seat
   pub new : AreFrom (new_seat home numbers (replicate numbers.objects no_words)) 0 firsts
   pub own : List Line
   pub same : IsPermutation own lines
-  pub linked : MetAlong (λ olds news. chain olds news own) allows numbers (replicate numbers.objects no_words) firsts tables w
+  pub linked : MetAlong (λ olds news. chain olds news own) allows numbers (replicate numbers.objects no_words) firsts w
 
 -- the chains of commands that each seat did in turn, by the lines of one seat after those of another
 abbrev pub chain_of : List (List Command) → List Seat → List Seat → List Line → Type 0
@@ -99,8 +99,8 @@ work_options = record { objects = 16384; slots = 1024; base = 0 }
 abbrev pub runs : Options → List (List Command) → Kind Maps
 runs options scripts = record {
   numbers = config_of options 16 (length scripts);
-  is_run = λ lines end tables w.
-      IsRunAlong IsSetCommit (chain_of scripts) (config_of options 16 (length scripts)) (λ past. RunOf past scripts lines end tables) lines tables w;
+  is_run = λ lines end w.
+      IsRunAlong IsSetCommit (chain_of scripts) (config_of options 16 (length scripts)) (λ past. RunOf past scripts lines end w.tables) lines w;
   text_of = text_of_run;
 }
 
@@ -108,9 +108,9 @@ runs options scripts = record {
 abbrev pub works : ℕ → Kind Maps
 works number = record {
   numbers = config_of work_options 16 (length (scripts_of number));
-  is_run = λ lines end tables w.
+  is_run = λ lines end w.
       IsRunAlong IsSetCommit (chain_of (scripts_of number)) (config_of work_options 16 (length (scripts_of number)))
-      (λ past. RunOf past (scripts_of number) lines end tables) lines tables w;
+      (λ past. RunOf past (scripts_of number) lines end w.tables) lines w;
   text_of = λ lines end tables. summary number lines end;
 }
 
@@ -118,9 +118,9 @@ works number = record {
 abbrev pub block_runs : Options → List (List (List Command)) → Kind Maps
 block_runs options scripts = record {
   numbers = config_of options 64 (length scripts);
-  is_run = λ lines end tables w.
-      IsRunAlong IsBlockCommit (block_chain_of scripts) (config_of options 64 (length scripts)) (λ past. BlocksRunOf past scripts lines end tables)
-      lines tables w;
+  is_run = λ lines end w.
+      IsRunAlong IsBlockCommit (block_chain_of scripts) (config_of options 64 (length scripts)) (λ past. BlocksRunOf past scripts lines end w.tables)
+      lines w;
   text_of = text_of_run;
 }
 
@@ -128,8 +128,8 @@ block_runs options scripts = record {
 abbrev pub pool_runs : Options → ℕ → List Command → Kind Maps
 pool_runs options seats script = record {
   numbers = config_of options 16 seats;
-  is_run = λ lines end tables w.
-      IsRunAlong IsSetCommit (pool_chain_of script) (config_of options 16 seats) (λ past. PoolOf past seats script lines end tables) lines tables w;
+  is_run = λ lines end w.
+      IsRunAlong IsSetCommit (pool_chain_of script) (config_of options 16 seats) (λ past. PoolOf past seats script lines end w.tables) lines w;
   text_of = text_of_run;
 }
 
@@ -142,9 +142,9 @@ pub record GrownEnd : Type 0 where
 abbrev pub grow_runs : Options → List (List Command) → Kind GrownEnd
 grow_runs options scripts = record {
   numbers = config_of options 64 (length scripts);
-  is_run = λ lines end tables w.
+  is_run = λ lines end w.
       IsRunAlong IsGrowCommit (grow_chain_of scripts) (config_of options 64 (length scripts))
-      (λ past. GrowRunOf past scripts lines end.set end.splits tables) lines tables w;
+      (λ past. GrowRunOf past scripts lines end.set end.splits w.tables) lines w;
   text_of = λ lines end tables. text_of_grown lines end.set end.splits tables;
 }
 
@@ -155,15 +155,14 @@ module _ {Rules : Type 0} where
     pub base : (whole_of closing).base ≡ numbers.base
     pub run : is_run (whole_of closing)
 
-  -- the domain is left of a run of this kind, of these lines, this end and these tables
-  abbrev pub IsLeft : {End : Type 0} → Kind End → List Line → End → List LogTable → Closing Rules → Type 0
-  IsLeft kind lines end tables closing = IsLeftOf kind.numbers (kind.is_run lines end tables) closing
+  -- the domain is left of a run of this kind, of these lines and this end
+  abbrev pub IsLeft : {End : Type 0} → Kind End → List Line → End → Closing Rules → Type 0
+  IsLeft kind lines end closing = IsLeftOf kind.numbers (kind.is_run lines end) closing
 
-  -- The text of a run of this kind: it is that of the run's lines in their order, of its end and of its tables.
+  -- The text of a run of this kind: it is that of the run's lines in their order, of its end and of the tables that the closing has.
   pub record IsTextOf {End : Type 0} (kind : Kind End) (closing : Closing Rules) (text : List ℕ) : Type 0 where
     pub lines : List Line
     pub end : End
-    pub tables : List LogTable
-    pub left : IsLeft kind lines end tables closing
+    pub left : IsLeft kind lines end closing
     pub ordered : IsOrdered lines
-    pub is : text ≡ kind.text_of lines end tables
+    pub is : text ≡ kind.text_of lines end (whole_of closing).tables

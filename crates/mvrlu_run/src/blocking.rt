@@ -14,7 +14,6 @@ use crate::finish::{Closed, Finish};
 use crate::running::{USUAL, config, ran_or_met};
 use crate::texts::Made;
 use block_domain::run_block_domain;
-use mv_history::LogTable;
 use mvrlu::{Closing, Domain, OpenFault, Seat, open_zeros};
 use run_outside::{Files, Gate};
 use run_report::{Line, order, render};
@@ -35,7 +34,6 @@ struct ToldBlocks {
     closing: Closing<BlockRules>,
     lines: Vec<Line>,
     end: Catalogue,
-    tables: Vec<LogTable>,
 }
 
 /// Reads the scripts of blocks of these files, runs them, and makes the text. An error is why there is none: a file has no
@@ -82,9 +80,8 @@ fn blocks_text<R: Threads + Wait + Sync, G: Gate>(
         closing,
         lines,
         end,
-        tables,
     } = run_block_sets(rt, alloc, USUAL, scripts, gate)?;
-    let text = render(alloc, &lines, &end, &tables)?;
+    let text = render(alloc, &lines, &end, closing.tables())?;
     Ok((text, closing))
 }
 
@@ -103,11 +100,11 @@ fn run_block_sets<R: Threads + Wait + Sync, G: Gate>(
     requires few { length scripts.now ≤ 64 }
     requires short { All (λ script. count_of script ≤ 65536) scripts.now }
     ensures ran { IfOk result (λ told.
-        IsLeft (block_runs options (map blocks_of scripts.now)) told.lines.items told.end told.tables.items told.closing) }
+        IsLeft (block_runs options (map blocks_of scripts.now)) told.lines.items told.end told.closing) }
     ensures ordered { IfOk result (λ told. IsOrdered told.lines.items) }
 {
     let (domain, seats) = open_blocks(alloc, options, scripts.len() as u32)?;
-    let (mut closing, mut lines, tables) = ran_or_met(run_block_domain(
+    let (mut closing, mut lines) = ran_or_met(run_block_domain(
         rt, alloc, domain, seats, scripts, gate,
     ))?;
     order(&mut lines);
@@ -116,7 +113,6 @@ fn run_block_sets<R: Threads + Wait + Sync, G: Gate>(
         closing,
         lines,
         end,
-        tables,
     })
 }
 

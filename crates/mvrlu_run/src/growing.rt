@@ -20,7 +20,7 @@ use crate::texts::Made;
 use grow_domain::run_grow_domain;
 use grow_hash::{GrowRules, read_grown, table_of};
 use grow_report::{order_grown, render_grown};
-use mv_history::{LogTable, View};
+use mv_history::View;
 use mvrlu::{Closing, Domain, OpenFault, Seat, open_zeros};
 use run_outside::{Files, Gate};
 use run_report::Line;
@@ -43,7 +43,6 @@ struct ToldGrown {
     lines: Vec<Line>,
     end: Catalogue,
     splits: u32,
-    tables: Vec<LogTable>,
 }
 
 /// Reads the scripts of a growing set of these files, runs them, and makes the text. An error is why there is none: a file
@@ -92,9 +91,8 @@ fn grown_text<R: Threads + Wait + Sync, G: Gate>(
         lines,
         end,
         splits,
-        tables,
     } = run_grown_set(rt, alloc, USUAL, scripts, gate)?;
-    let text = render_grown(alloc, &lines, &end, splits, &tables)?;
+    let text = render_grown(alloc, &lines, &end, splits, closing.tables())?;
     Ok((text, closing))
 }
 
@@ -115,13 +113,13 @@ fn run_grown_set<R: Threads + Wait + Sync, G: Gate>(
     requires short { All (λ script. length script.items ≤ 65536) scripts.now }
     requires growing { All (λ script. All IsOfGrown script.items) scripts.now }
     ensures ran { IfOk result (λ told.
-        IsLeft (grow_runs options (map items_of scripts.now)) told.lines.items (record { set = told.end; splits = told.splits }) told.tables.items
+        IsLeft (grow_runs options (map items_of scripts.now)) told.lines.items (record { set = told.end; splits = told.splits })
         told.closing) }
     ensures ordered { IfOk result (λ told. IsOrdered told.lines.items) }
     ensures few { IfOk result (λ told. told.splits ≤ 1008) }
 {
     let (domain, seats) = open_grown(alloc, options, scripts.len() as u32)?;
-    let (mut closing, mut lines, tables) = ran_or_met(run_grow_domain(
+    let (mut closing, mut lines) = ran_or_met(run_grow_domain(
         rt, alloc, domain, seats, scripts, gate,
     ))?;
     order_grown(&mut lines);
@@ -132,7 +130,6 @@ fn run_grown_set<R: Threads + Wait + Sync, G: Gate>(
         lines,
         end,
         splits,
-        tables,
     })
 }
 

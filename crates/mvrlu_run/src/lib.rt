@@ -20,15 +20,15 @@
 //!
 //! Status 0: the output grew by exactly the text that the words ask for (`IsTextFor` in `specs/Told.antt`).
 //! When `run`, `pool`, `block` or `grow` ends so, every input file whose content the model knows was a valid
-//! script, and the text is that of some lines, final maps and tables. Each line stands in the history of the
+//! script, and the text is that of some lines and final maps, and of the closing's tables. Each line stands in the history of the
 //! closing: a commit is the entry of its time by its seat with its command's tag, and a read has its reply in
 //! the state of its time. Each command has one line, each commit of the history has one, and the lines in
 //! their order, replayed one after another, give every reply and end in the printed sets. The domain has all
-//! the numbers that it was to have, and each seat went along a chain from its opening to a seat that met, whose
+//! the numbers that it was to have, and each seat went along a chain from its opening to the seat that met, whose
 //! links are the attempts of its lines: so a read's place isn't below any commit that its seat had seen when
-//! the command began (`fresh_read` in script_domain's proofs). The tables are those of the seats that these
-//! chains lead to, each by its log and trail (`IsRunAlong`); which seats met the closing doesn't say, so a
-//! table that another trail of the same history explains is accepted too. Each other status has its cause,
+//! the command began (`fresh_read` in script_domain's proofs). The closing tells which seats met, with all
+//! their steps, so each step that a chain names was made; and the tables are those that the meeting took of
+//! these seats (`IsRunAlong`), so no other counts are printed. Each other status has its cause,
 //! and where the texts are told and no call failed the scripts alone decide, but for want of memory. A gate is
 //! called around each command; no clause speaks of it, since it tells nothing.
 //!

@@ -69,9 +69,8 @@ fn pool_text<R: Threads + Wait + Sync, G: Gate>(
         closing,
         lines,
         end,
-        tables,
     } = pool_sets(rt, alloc, USUAL, seats, commands, gate)?;
-    let text = render(alloc, &lines, &end, &tables)?;
+    let text = render(alloc, &lines, &end, closing.tables())?;
     Ok((text, closing))
 }
 
@@ -90,11 +89,11 @@ fn pool_sets<R: Threads + Wait + Sync, G: Gate>(
     requires few { seats ≤ 8 }
     requires short { length commands.now ≤ 65536 }
     ensures ran { IfOk result (λ told.
-        IsLeft (pool_runs options seats commands.now) told.lines.items told.end told.tables.items told.closing) }
+        IsLeft (pool_runs options seats commands.now) told.lines.items told.end told.closing) }
     ensures ordered { IfOk result (λ told. IsOrdered told.lines.items) }
 {
     let (domain, seats) = open_sets(alloc, options, seats)?;
-    let (mut closing, mut lines, tables) = ran_or_met(run_pool_domain(
+    let (mut closing, mut lines) = ran_or_met(run_pool_domain(
         rt, alloc, domain, seats, commands, gate,
     ))?;
     order(&mut lines);
@@ -103,6 +102,5 @@ fn pool_sets<R: Threads + Wait + Sync, G: Gate>(
         closing,
         lines,
         end,
-        tables,
     })
 }

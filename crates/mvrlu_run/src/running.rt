@@ -8,7 +8,7 @@ ghost use Rattle.run_words.specs.Words.{FitOptions};
 ghost use Rattle.script_workers.specs.Workers.{items_of};
 ghost use Rattle.mvrlu_run.specs.Kinds.{IsLeft, config_of, runs};
 
-use mv_history::{LogTable, Protocol};
+use mv_history::Protocol;
 use mv_layout::Config;
 use mvrlu::{Closing, Domain, OpenFault, Seat, open_zeros};
 use run_outside::Gate;
@@ -31,14 +31,13 @@ pub const USUAL: Options = Options {
 // How many objects a command may hold.
 const WRITE_MAX: u32 = 16;
 
-/// What a run of scripts gives: what is left of its domain, its lines in their order, the sets as they are at the end,
-/// and the table of each seat's log.
+/// What a run of scripts gives: what is left of its domain, which has the table of each seat's log, its lines in their
+/// order, and the sets as they are at the end.
 #[derive(Drop)]
 pub struct Told {
     pub closing: Closing<SetRules>,
     pub lines: Vec<Line>,
     pub end: Catalogue,
-    pub tables: Vec<LogTable>,
 }
 
 /// Runs the scripts over a domain of these numbers, script i as seat i. The gate is called around each command. The
@@ -54,20 +53,17 @@ pub fn run_sets<R: Threads + Wait + Sync, G: Gate>(
     requires some { 1 ≤ length scripts.now }
     requires few { length scripts.now ≤ 64 }
     requires short { All (λ script. length script.items ≤ 65536) scripts.now }
-    ensures ran { IfOk result (λ told. IsLeft (runs options (map items_of scripts.now)) told.lines.items told.end told.tables.items told.closing) }
+    ensures ran { IfOk result (λ told. IsLeft (runs options (map items_of scripts.now)) told.lines.items told.end told.closing) }
     ensures ordered { IfOk result (λ told. IsOrdered told.lines.items) }
 {
     let (domain, seats) = open_sets(alloc, options, scripts.len() as u32)?;
-    let (mut closing, mut lines, tables) = ran_or_met(run_domain(
-        rt, alloc, domain, seats, scripts, gate,
-    ))?;
+    let (mut closing, mut lines) = ran_or_met(run_domain(rt, alloc, domain, seats, scripts, gate))?;
     order(&mut lines);
     let end = read_all(alloc, &mut closing)?;
     Ok(Told {
         closing,
         lines,
         end,
-        tables,
     })
 }
 

@@ -125,9 +125,8 @@ fn run_text<R: Threads + Wait + Sync, G: Gate>(
         closing,
         lines,
         end,
-        tables,
     } = run_sets(rt, alloc, options, scripts, gate)?;
-    let text = render(alloc, &lines, &end, &tables)?;
+    let text = render(alloc, &lines, &end, closing.tables())?;
     Ok((text, closing))
 }
 
@@ -145,7 +144,6 @@ fn work_text<R: Threads + Wait + Sync, G: Gate>(
         closing,
         lines,
         end,
-        tables: _,
     } = run_sets(rt, alloc, WORK, &scripts, gate)?;
     let text = summary(alloc, number, &lines, &end)?;
     Ok((text, closing))

@@ -16,14 +16,14 @@
 //!
 //! **The contract.** `lock` answers one of `LockAnswer`. `Held` for a new object adds the object to
 //! what is held, with the words of the state that the section reads, and takes one free slot. A
-//! refusal leaves what is held and how many slots are free, and has its cause in the call's own
-//! steps: `Busy` in the last three of them, which found HEAD naming another log's version and its
-//! stamp unset; `Stale` in a later commit of the object, which was seen. That no commit after the
+//! refusal leaves what is held and how many slots are free, and has its cause: `Busy` in the last
+//! three steps of the call, which found HEAD naming another log's version and its stamp unset;
+//! `Stale` in a later commit of the object, which was seen. That no commit after the
 //! section's time writes what it holds is known of every pass (`KnownSection` of `mv_core`). It makes
 //! at most 24 steps, waits for nothing and takes no memory; the trail has a record for each step,
 //! and none is an exchange on CLOCK. At most two are exchanges of HEAD, the second only after the first
-//! found a chain that was cut. `lock_with` does the same with words of the caller's: none is read, so
-//! that it makes at most 18 steps, and an object that is held already gets them as by `write`.
+//! found a chain that was cut. `lock_with` does the same with words of the caller's in place of the
+//! object's, so that it makes at most 18 steps, and an object that is held already gets them as by `write`.
 //! `lock_new` is either of them, for a caller who knows that the object isn't held. `write` gives a held
 //! object other words, in what is held alone, in six steps; it never refuses.
 //!

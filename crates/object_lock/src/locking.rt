@@ -351,7 +351,7 @@ pub fn lock<P: Protocol, L: Ledger>(
 }
 
 /// Tries to hold an object for the section, with these words. The condition is `lock`'s, and so are
-/// the answers, but that the object has the given words then, and none of its words is read:
+/// the answers, but that the object has the given words then:
 ///
 /// - `Held` where the section holds the object already: it has these words then, by the six stores of
 ///   `write`.

@@ -7,7 +7,7 @@ ghost use Rattle.mvrlu.specs.Meant.{numbers_of, opening_of, seat_of, whole_of};
 ghost use Rattle.mvrlu.specs.Whole.{last_state};
 ghost use Rattle.command_pool.specs.Pool.{PoolRan, PoolLinked};
 ghost use Rattle.set_script.specs.Rules.{IsSetCommit};
-ghost use Rattle.domain_loan.specs.Met.{AreTablesOf, MetAlong};
+ghost use Rattle.domain_loan.specs.Met.{MetAlong};
 ghost use Rattle.domain_loan.specs.New.{AreNewFrom};
 ghost use Rattle.domain_loan.specs.Shown.{handle_causes};
 ghost use Rattle.domain_lines.specs.Joined.{past_of_whole};
@@ -15,7 +15,6 @@ ghost use Rattle.pool_domain.specs.Whole.{PoolOf};
 
 use command_pool::run_pool;
 use domain_loan::{lend_all, meet_all, take_back};
-use mv_history::LogTable;
 use mvrlu::{Closing, Domain, Seat};
 use run_outside::Gate;
 use run_report::Line;
@@ -31,9 +30,9 @@ use std::thread::Threads;
 /// an opening state of at least 181 objects whose words are all 0. `write_max` must be at least 5, which is as many objects
 /// as a command locks at most. `gate` is called around each command, with the seat that took it and its number from 1.
 ///
-/// It answers the closing of the domain, the lines, whose order is left open (`order` of `run_report` orders them), and
-/// the tables of the logs by seat. They are those of one pool in the closing's history: every reply is the one that the
-/// sequential catalogue gives at the line's printed place, and each commit of the history has exactly one line.
+/// It answers the closing of the domain, which has the tables of the logs by seat, and the lines, whose order is left open
+/// (`order` of `run_report` orders them). They are those of one pool in the closing's history: every reply is the one that
+/// the sequential catalogue gives at the line's printed place, and each commit of the history has exactly one line.
 ///
 /// Each seat went along the chain of its lines, from the one that `open` gave to one that met (`MetAlong`), and the
 /// tables are those of the seats that these chains lead to.
@@ -47,10 +46,7 @@ pub fn run_pool_domain<R: Threads + Wait + Sync, G: Gate>(
     seats: Vec<Seat<SetRules>>,
     commands: &[Command],
     gate: &G,
-) -> Result<
-    (Closing<SetRules>, Vec<Line>, Vec<LogTable>),
-    (Domain<SetRules>, Vec<Seat<SetRules>>, AllocError),
->
+) -> Result<(Closing<SetRules>, Vec<Line>), (Domain<SetRules>, Vec<Seat<SetRules>>, AllocError)>
     requires new { AreNewFrom domain 0 (map seat_of seats.items) }
     requires all { length seats.items ≡ (numbers_of domain).seats }
     requires some { 1 ≤ length seats.items }
@@ -59,21 +55,22 @@ pub fn run_pool_domain<R: Threads + Wait + Sync, G: Gate>(
     requires short { length commands.now ≤ MOST_COMMANDS }
     requires most { 5 ≤ (numbers_of domain).write_max }
     ensures ran { IfOk result (λ done.
-        PoolOf (past_of_whole (whole_of done.0)) (length seats.items) commands.now done.1.items (catalogue_of (last_state (whole_of done.0))) done.2.items) }
+        PoolOf (past_of_whole (whole_of done.0)) (length seats.items) commands.now done.1.items (catalogue_of (last_state (whole_of done.0)))
+        (whole_of done.0).tables) }
     ensures linked { IfOk result (λ done. MetAlong
         (λ firsts met. PoolLinked (handle_causes IsOpening IsSetCommit) firsts met commands.now done.1.items)
-        IsSetCommit (numbers_of domain) (opening_of domain) (map seat_of seats.items) done.2.items (whole_of done.0)) }
+        IsSetCommit (numbers_of domain) (opening_of domain) (map seat_of seats.items) (whole_of done.0)) }
     ensures opening { IfOk result (λ done.
         ((whole_of done.0).start ≡ opening_of domain) × ((whole_of done.0).base ≡ (numbers_of domain).base)) }
     ensures err { IfErr result (λ refused. (refused.0 ≡ domain) × (map seat_of refused.1.items ≡ map seat_of seats.items)) }
 {
     match run_seats(rt, alloc, &domain, seats, commands, gate) {
-        Ok((seats, lines, tables)) => Ok((meet_all(domain, seats), lines, tables)),
+        Ok((seats, lines)) => Ok((meet_all(domain, seats), lines)),
         Err((seats, error)) => Err((domain, seats, error)),
     }
 }
 
-// Does the commands on the seats, and takes the tables of their logs.
+// Does the commands on the seats.
 fn run_seats<R: Threads + Wait + Sync, G: Gate>(
     rt: &R,
     alloc: Global,
@@ -81,7 +78,7 @@ fn run_seats<R: Threads + Wait + Sync, G: Gate>(
     seats: Vec<Seat<SetRules>>,
     commands: &[Command],
     gate: &G,
-) -> Result<(Vec<Seat<SetRules>>, Vec<Line>, Vec<LogTable>), (Vec<Seat<SetRules>>, AllocError)>
+) -> Result<(Vec<Seat<SetRules>>, Vec<Line>), (Vec<Seat<SetRules>>, AllocError)>
     requires new { AreNewFrom domain.now 0 (map seat_of seats.items) }
     requires some { 1 ≤ length seats.items }
     requires few { length seats.items ≤ 8 }
@@ -90,15 +87,11 @@ fn run_seats<R: Threads + Wait + Sync, G: Gate>(
     ensures ran { IfOk result (λ done. PoolRan (map seat_of seats.items) (map seat_of done.0.items) commands.now done.1.items) }
     ensures linked { IfOk result (λ done. PoolLinked (handle_causes IsOpening IsSetCommit) (map seat_of seats.items) (map seat_of done.0.items)
         commands.now done.1.items) }
-    ensures tables { IfOk result (λ done. AreTablesOf (map seat_of done.0.items) done.2.items) }
     ensures err { IfErr result (λ refused. map seat_of refused.0.items ≡ map seat_of seats.items) }
 {
     let (handles, left) = lend_all(alloc, domain, seats)?;
     match run_pool(rt, alloc, handles, commands, gate) {
-        Ok((handles, lines)) => {
-            let (seats, tables) = take_back(handles, left);
-            Ok((seats, lines, tables))
-        }
-        Err((handles, error)) => Err((take_back(handles, left).0, error)),
+        Ok((handles, lines)) => Ok((take_back(handles, left), lines)),
+        Err((handles, error)) => Err((take_back(handles, left), error)),
     }
 }

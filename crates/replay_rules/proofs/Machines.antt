@@ -1,10 +1,9 @@
 -- The words of a machine: as it is opened, and after a step.
-use Rattle.std.proofs.Common.{◌≡◌, ℕ, zero, suc, ◌-◌, ◌<◌, List, [], ◌∷◌, length, get_or, arith, replicate, set, refl, sym, ap}
-use Rattle.std.proofs.Common.{◌∙◌, subst, Option, Some, None}
+use Rattle.std.proofs.Common.{◌≡◌, ℕ, zero, suc, ◌-◌, ◌<◌, List, [], ◌∷◌, length, get_or, arith, replicate, set, refl, sym, ap, ◌∙◌, subst, Option, Some, None}
 use Rattle.std.proofs.lemmas.List.{get_or-replicate, length-replicate}
 use Rattle.mv_layout.proofs.InCells.{in_cells, shows_put}
-use Rattle.mv_core.proofs.Terms.{Config, Checked, Place, Clock, Grace, Mark, Head, Master, First, Stamp, Prev, Super, Data, IsPlace, Memory, put}
-use Rattle.mv_core.proofs.Terms.{Shows, cells, cell_of, clock_of}
+use Rattle.mv_core.proofs.Terms.{Config, Checked, Place, Clock, Grace, Mark, Head, Master, First, Stamp, Prev, Super, Data, IsPlace, Memory, put, Shows, cells}
+use Rattle.mv_core.proofs.Terms.{cell_of, clock_of}
 use Rattle.mv_core.specs.Start.{opening_memory}
 use Rattle.mv_core.specs.Moves.{memory_after, opening_of, IsStorable}
 use Rattle.replay_rules.specs.States.{zeros, opened, Made, may_in, place_in, writes_in, state_of, AreMade}

@@ -19,9 +19,9 @@ use Rattle.log_reclaim.specs.declared.writing_back.NoBack.{NoBack}
 use Rattle.log_reclaim.specs.declared.writing_back.NoBack.TheVariants.{Young, Gone, Above}
 use Rattle.log_reclaim.specs.Backs.{IsCommitted, IsWriting, HasLooked, LeavesAt, StartsSo, StoresWord, FinishesSo}
 use Rattle.log_reclaim.specs.Parts.{Reclaims, Shrinks}
-use Rattle.log_reclaim.proofs.OneNote.{note_of, note_is, position_is, place_is}
+use Rattle.log_reclaim.proofs.looks.OneNote.{note_of, note_is, position_is, place_is}
 use Rattle.log_reclaim.proofs.Reclaiming.{reclaims_may}
-use Rattle.log_reclaim.proofs.Visits.{looked_rest, looked_stands, left_steps, left_makes, left_stands}
+use Rattle.log_reclaim.proofs.looks.Visits.{looked_rest, looked_stands, left_steps, left_makes, left_stands}
 use Rattle.seat_log.proofs.PlainSteps.{stands_left, one_leaves}
 use Rattle.runtime_tests.specs.Clients.{IsOutside, IsWritingBack}
 

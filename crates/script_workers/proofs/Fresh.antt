@@ -1,8 +1,5 @@
 -- A read is of a section that its own command entered.
-use Rattle.std.proofs.Common.{ℕ}
-use Rattle.work_runner.proofs.Tries.{entered_fresh}
-use Rattle.script_workers.proofs.Terms.{Seat, Command, Read, Reply, Causes, IsEnteredBetween}
-use Rattle.script_workers.specs.Links.{Linked}
+use Rattle.script_workers.proofs.Terms.{ℕ, entered_fresh, Seat, Command, Read, Reply, Causes, IsEnteredBetween, Linked}
 
 -- No read is older than what its seat had seen when the command began.
 pub linked_fresh : (k : Causes) (s t : Seat) (command : Command) (time : ℕ) (answer : Reply) → Linked k s t command (Read time) answer

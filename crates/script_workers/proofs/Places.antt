@@ -1,22 +1,17 @@
 -- The place of a command: what its attempt says of it, and that it stays as more of the history is seen.
-use Rattle.std.proofs.Common.{◌≡◌, ℕ, ◌+◌, ◌-◌, ◌<◌, ◌≤◌, ◌==◌, eqb, Bool, true, false, if◌then◌else◌, List, [], ◌∷◌, ◌++◌, length, take, drop, All, refl, sym}
-use Rattle.std.proofs.Common.{ap, ◌∙◌, subst, arith, length-append}
 use Rattle.std.proofs.lemmas.Bool.{eqb-true}
-use Rattle.std.proofs.lemmas.List.{append-nil, get_or_push, take-append-drop}
-use Rattle.std.proofs.lemmas.List.Elements.{All-nil, All-cons, All-get_or}
 use Rattle.std.proofs.lemmas.Option.{slice_get_within}
-use Rattle.mv_history.specs.declared.history.Entry.TheVariants.{Rest}
 use Rattle.mv_history.proofs.Writing.{length-state_after}
 use Rattle.set_script.specs.Objects.{first_node}
-use Rattle.run_report.proofs.history.Grown.{longer, place_longer}
-use Rattle.work_runner.proofs.Tries.{seen_grows, entered_continues, entered_within}
-use Rattle.mv_history.proofs.Steps.{Continues-Continues}
-use Rattle.set_catalog.specs.declared.answer.Attempt.TheVariants.{Done}
-use Rattle.set_catalog.specs.Attempts.{Attempted}
-use Rattle.script_workers.proofs.Terms.{Commit, Entry, Change, commits_of, Seat, InSection, IsSeat, Continues, catalogue_of, IsOpening, reply, changes}
-use Rattle.script_workers.proofs.Terms.{capacity, IsSetCommit, Command, IsEntered, Place, AtCommit, Read, Reply, Causes, time_of, Past, past_of, state_of_time}
-use Rattle.script_workers.proofs.Terms.{PlaceOf, CommitsNone, Follows}
-use Rattle.script_workers.specs.Commands.{RanTo, RanAt}
+use Rattle.mv_history.specs.declared.history.Entry.{Entry}
+use Rattle.set_script.specs.Replies.{reply, changes}
+use Rattle.section_work.specs.Sections.{IsEntered}
+use Rattle.std.proofs.lemmas.List.Elements.{All-nil, All-cons, All-get_or}
+use Rattle.std.proofs.Common.{◌≡◌, ◌+◌, ◌-◌, ◌<◌, ◌≤◌, ◌==◌, if◌then◌else◌, ◌∷◌, ◌++◌, ℕ, eqb, Bool, true, false, List, [], length, take, drop, All, refl, sym}
+use Rattle.script_workers.proofs.Terms.{longer, IsEntryAt, ap, ◌∙◌, subst, arith, length-append, append-nil, get_or_push, take-append-drop, Rest, seen_grows}
+use Rattle.script_workers.proofs.Terms.{entered_continues, entered_within, Continues-Continues, Done, Attempted, Commit, Change, commits_of, Seat, InSection}
+use Rattle.script_workers.proofs.Terms.{IsSeat, Continues, catalogue_of, IsOpening, capacity, IsSetCommit, Command, Place, AtCommit, Read, Reply, Causes, Past}
+use Rattle.script_workers.proofs.Terms.{past_of, state_of_time, CommitsNone, Follows, RanTo, RanAt}
 
 -- one more commit, if it is this seat's
 all_by_one : (seat : ℕ) (c : Commit) (cs : List Commit) (is : Bool) → eqb c.seat seat ≡ is → All (λ (d : Commit). d.seat ≡ seat) cs
@@ -56,15 +51,22 @@ ran_after placed_in s t u place none ran = record {
   commits = ran.commits;
   mine = ran.mine ∙ ap (λ cs. cs ++ ran.commits) none.mine;
   follows = follows_earlier (s.base + length s.seen) (t.base + length t.seen) place (seen_grows s t none.continues) ran.follows;
+  seen = ran.seen;
   placed = ran.placed;
 }
 
 -- one that is the seat's last commit, at this time
 pub ran_commit : (placed_in : Past → ℕ → List Commit → Type 0) (s t : Seat) (c : Commit) (time : ℕ) → t.mine ≡ commits_of t.number t.seen → Continues s t
-    → s.base + length s.seen < time → t.mine ≡ s.mine ++ c ∷ [] → (c.seat ≡ t.number → placed_in (past_of t) t.number (c ∷ []))
-    → RanTo placed_in s t (AtCommit time)
-ran_commit placed_in s t c time own goes later mine placed =
-    record { continues = goes; commits = c ∷ []; mine = mine; follows = later; placed = placed (last_by t s.mine c own mine) }
+    → IsEntryAt t time (Change c) → s.base + length s.seen < time → t.mine ≡ s.mine ++ c ∷ []
+    → (c.seat ≡ t.number → placed_in (past_of t) t.number (c ∷ [])) → RanTo placed_in s t (AtCommit time)
+ran_commit placed_in s t c time own goes entry later mine placed = record {
+  continues = goes;
+  commits = c ∷ [];
+  mine = mine;
+  follows = later;
+  seen = omega (arith, slice_get_within t.seen (time - (t.base + 1)) (Change c) entry.there, entry.later);
+  placed = placed (last_by t s.mine c own mine);
+}
 
 -- one that is a read in a section which was entered behind the seat
 pub ran_read : (placed_in : Past → ℕ → List Commit → Type 0) (k : Causes) (s t before : Seat) (entered : InSection) (time : ℕ) → Continues s before
@@ -78,6 +80,7 @@ ran_read placed_in k s t before entered time comes enters is mine placed =
       commits = [];
       mine = mine ∙ sym (append-nil s.mine);
       follows = within.0;
+      seen = within.1;
       placed = placed (omega (arith, within.0, c.base)) within.1;
     }
 
@@ -85,7 +88,7 @@ ran_read placed_in k s t before entered time comes enters is mine placed =
 pub done_at : (k : Causes) (s t : Seat) (command : Command) (place : Place) (answer : Reply) → IsSeat IsOpening IsSetCommit t
     → Attempted k s t command (Done answer place) → RanAt s t command place answer
 done_at k s t command (AtCommit time) answer lawful done =
-    ran_commit _ s t done.commit time lawful.mine done.continues done.later done.mine
+    ran_commit _ s t done.commit time lawful.mine done.continues done.entry done.later done.mine
     (λ by. (
       done.commit,
       refl,
@@ -117,16 +120,10 @@ past_later s t c =
     sym (take-append-drop (length s.seen) t.seen) ∙ ap (λ es. es ++ drop (length s.seen) t.seen) c.seen in
     λ i. record { start = c.start i; base = c.base i; last = c.last i; entries = entries i }
 
--- The place of a command stays its place.
-pub place_later : (s t : Seat) (seat : ℕ) (command : Command) (place : Place) (answer : Reply) (commits : List Commit) → Continues s t
-    → PlaceOf (past_of s) seat command place answer commits → PlaceOf (past_of t) seat command place answer commits
-place_later s t seat command place answer commits c h =
-    subst (λ q. PlaceOf q seat command place answer commits) (sym (past_later s t c))
-    (place_longer (past_of s) (drop (length s.seen) t.seen) seat command place answer commits h)
-
--- the time of a place was seen
-pub time_seen : (s : Seat) (seat : ℕ) (command : Command) (place : Place) (answer : Reply) (commits : List Commit)
-    → PlaceOf (past_of s) seat command place answer commits → time_of place ≤ s.base + length s.seen
-time_seen s seat command (AtCommit time) answer commits h =
-    let within = slice_get_within s.seen (time - (s.base + 1)) (Change h.0) h.2.there in omega (arith, within, h.2.later)
-time_seen s seat command (Read time) answer commits h = h.1.seen
+-- What is placed in a history, and in each longer one, is placed in what the seat sees later.
+pub placed_later : (placed_in : Past → ℕ → List Commit → Type 0) (s t : Seat) (commits : List Commit) → Continues s t
+    → ((p : Past) (more : List Entry) (seat : ℕ) → placed_in p seat commits → placed_in (longer p more) seat commits)
+    → placed_in (past_of s) s.number commits → placed_in (past_of t) t.number commits
+placed_later placed_in s t commits c stays h =
+    subst (λ (m : ℕ). placed_in (past_of t) m commits) (sym c.number)
+    (subst (λ q. placed_in q s.number commits) (sym (past_later s t c)) (stays (past_of s) (drop (length s.seen) t.seen) s.number h))

@@ -1,20 +1,11 @@
 -- A chain of links is a run.
-use Rattle.std.proofs.Common.{◌≡◌, ℕ, suc, ◌+◌, ◌≤◌, List, [], ◌∷◌, ◌++◌, length, map, refl, sym, ap, ◌∙◌, subst, arith, append_assoc}
-use Rattle.std.proofs.lemmas.List.{append-nil}
-use Rattle.mv_history.proofs.Steps.{Continues-Continues}
-use Rattle.set_catalog.specs.Steps.{most_locks}
-use Rattle.set_catalog.specs.declared.answer.Attempt.{Attempt}
-use Rattle.set_catalog.specs.declared.answer.Attempt.TheVariants.{Done, Again}
-use Rattle.set_catalog.specs.Attempts.{Attempted}
-use Rattle.run_report.specs.Worked.{LinesOf}
-use Rattle.item_workers.proofs.Each.{chain_told}
-use Rattle.work_runner.proofs.Tries.{done_behind, gave_up, under_still}
-use Rattle.script_workers.proofs.Terms.{Commit, Seat, IsSeat, Continues, Continues-itself, Command, Place, Reply, Causes, Cause, IsOpening, IsSetCommit, Line}
-use Rattle.script_workers.proofs.Terms.{time_of, past_of, PlaceOf, Ran, Answer, Chain, DidAll, HaveNumbers, answered, IsUnder}
-use Rattle.script_workers.specs.Links.{Linked, LinkedDone}
-use Rattle.script_workers.specs.Commands.{RanAt}
-use Rattle.script_workers.specs.Lines.{line_of, LinkedLine}
-use Rattle.script_workers.proofs.Places.{done_at, place_later, time_seen, ran_after, follows_earlier}
+use Rattle.section_work.specs.declared.causes.Cause.{Cause}
+use Rattle.std.proofs.Common.{◌≡◌, ◌+◌, ◌≤◌, ◌∷◌, ◌++◌}
+use Rattle.script_workers.proofs.Terms.{most_locks, ℕ, suc, List, [], length, map, refl, sym, ap, ◌∙◌, subst, arith, append_assoc, append-nil}
+use Rattle.script_workers.proofs.Terms.{Continues-Continues, Done, Again, Attempted, LinesOf, chain_told, gave_up, under_still, Commit, Seat, IsSeat, Continues}
+use Rattle.script_workers.proofs.Terms.{Continues-itself, Command, Place, Reply, Causes, IsOpening, IsSetCommit, Line, time_of, past_of, PlaceOf, Ran, Answer}
+use Rattle.script_workers.proofs.Terms.{Chain, DidAll, HaveNumbers, answered, IsUnder, Linked, LinkedDone, RanAt, line_of, LinkedLine, place_longer}
+use Rattle.script_workers.proofs.Places.{done_at, placed_later, ran_after, follows_earlier}
 
 -- The command of a link has its place.
 pub linked_ran : (k : Causes) (s t : Seat) (command : Command) (place : Place) (answer : Reply) → Linked k s t command place answer
@@ -23,20 +14,16 @@ linked_ran k s t command place answer l =
     ran_after _ s l.from t place l.none (done_at k l.from t command place answer l.lawful l.attempted)
 
 -- What an attempt leaves under a command that was begun: its link,
-pub under_done : (k : Causes) (s t u : Seat) (command : Command) (a : Attempt) (place : Place) (answer : Reply) → a ≡ Done answer place
-    → IsUnder most_locks s t → IsSeat IsOpening IsSetCommit u → Attempted k t u command a
-    → Linked k s u command place answer × (most_locks ≤ u.write_max)
-under_done k s t u command a place answer is h lawful left =
-    let l : Linked k s u command place answer =
-    done_behind (λ old new. Attempted k old new command) (IsSeat IsOpening IsSetCommit) s t u a (Done answer place) is h.none lawful left in
+pub under_done : (k : Causes) (s t u : Seat) (command : Command) (place : Place) (answer : Reply) → IsUnder most_locks s t → IsSeat IsOpening IsSetCommit u
+    → Attempted k t u command (Done answer place) → Linked k s u command place answer × (most_locks ≤ u.write_max)
+under_done k s t u command place answer h lawful left =
+    let l : Linked k s u command place answer = record { from = t; none = h.none; attempted = left; lawful = lawful } in
     (l, omega (arith, h.may, h.none.continues.write_max, (linked_ran k s u command place answer l).continues.write_max))
 
 -- or that it is still under it
-pub under_again : (k : Causes) (s t u : Seat) (command : Command) (a : Attempt) (cause : Cause) → a ≡ Again cause → IsUnder most_locks s t
-    → Attempted k t u command a → IsUnder most_locks s u
-under_again k s t u command a cause is h left =
-    let g = subst (λ (b : Attempt). Attempted k t u command b) is left in
-    under_still most_locks s t u h (gave_up k t u g.prepared g.entered g.mine g.prepares g.enters)
+pub under_again : (k : Causes) (s t u : Seat) (command : Command) (cause : Cause) → IsUnder most_locks s t → Attempted k t u command (Again cause)
+    → IsUnder most_locks s u
+under_again k s t u command cause h g = under_still most_locks s t u h (gave_up k t u g.prepared g.entered g.mine g.prepares g.enters)
 
 -- From a seat on these lines were made, the first of this number and following this time.
 record RanFrom (s t : Seat) (number before : ℕ) (commands : List Command) (lines : List Line) : Type 0 where
@@ -58,9 +45,8 @@ ran_from k s u number before (i ∷ commands) (d ∷ ds) le c n =
     let t : Seat = c.0 in
     let place : Place = d.done.0 in
     let ran = linked_ran k s t i place d.done.1 c.1 in
-    let seen = time_seen t t.number i place d.done.1 ran.commits ran.placed in
     let same : t.number ≡ s.number = ran.continues.number in
-    let rest = ran_from k t u (number + 1) (time_of place) commands ds seen c.2
+    let rest = ran_from k t u (number + 1) (time_of place) commands ds ran.seen c.2
     (subst (λ (m : ℕ). HaveNumbers (λ (c : Command). 1) m (number + 1) commands ds) (sym same) n.2) in
     let next : number + 1 ≡ suc number = omega arith in
     record {
@@ -75,8 +61,8 @@ ran_from k s u number before (i ∷ commands) (d ∷ ds) le c n =
           by = n.0 ∙ sym (rest.continues.number ∙ same);
           numbered = n.1;
           follows = follows_earlier before (s.base + length s.seen) place le ran.follows;
-          place = subst (λ (m : ℕ). PlaceOf (past_of u) m i place d.done.1 ran.commits) (sym rest.continues.number)
-              (place_later t u t.number i place d.done.1 ran.commits rest.continues ran.placed);
+          place = placed_later (λ p seat commits. PlaceOf p seat i place d.done.1 commits) t u ran.commits rest.continues
+              (λ p more seat h. place_longer p more seat i place d.done.1 ran.commits h) ran.placed;
         },
         subst (λ (m : ℕ). LinesOf (past_of u) u.number m (time_of place) commands (map line_of ds) rest.commits) next rest.each,
       );

@@ -1,28 +1,18 @@
--- The terms of the workers, under one name: seats and their histories, commands and places, lines, answers and chains.
-pub use Rattle.std.specs.declared.alloc.Global.{Global}
-pub use Rattle.mv_history.specs.declared.history.Commit.{Commit}
-pub use Rattle.mv_history.specs.declared.history.Entry.{Entry}
-pub use Rattle.mv_history.specs.declared.history.Entry.TheVariants.{Change}
-pub use Rattle.mv_history.specs.State.{State, commits_of}
-pub use Rattle.mv_history.specs.Meaning.{Seat, InSection, IsSeat}
-pub use Rattle.mv_history.specs.Calls.{Continues}
-pub use Rattle.mv_history.specs.CallLaws.{Continues-itself}
-pub use Rattle.section_work.specs.Causes.{Causes}
-pub use Rattle.section_work.specs.Sections.{IsEntered}
-pub use Rattle.section_work.specs.declared.causes.Cause.{Cause}
-pub use Rattle.section_work.specs.declared.place.Place.{Place}
-pub use Rattle.section_work.specs.declared.place.Place.TheVariants.{Commit as AtCommit, Read}
-pub use Rattle.set_script.specs.declared.commands.Command.{Command}
-pub use Rattle.set_script.specs.declared.commands.Reply.{Reply}
-pub use Rattle.set_script.specs.declared.script.TheConstants.{MOST_COMMANDS}
-pub use Rattle.set_script.specs.CatalogueOf.{catalogue_of}
-pub use Rattle.set_script.specs.Lawful.{IsOpening}
-pub use Rattle.set_script.specs.Replies.{reply, changes}
-pub use Rattle.set_script.specs.Rules.{capacity, IsSetCommit}
-pub use Rattle.run_report.specs.declared.line.Line.{Line}
-pub use Rattle.run_report.specs.Legal.{Follows, command_at}
-pub use Rattle.run_report.specs.Order.{time_of}
-pub use Rattle.run_report.specs.Worked.{Past, past_of, state_of_time, PlaceOf, Ran, BySeat}
-pub use Rattle.item_workers.specs.declared.runner.Answer.{Answer}
-pub use Rattle.item_workers.specs.Chains.{Chain, HaveNumbers, answered, DidAll, DidTo, EachDid}
-pub use Rattle.work_runner.specs.Tries.{CommitsNone, IsUnder, DoneBehind, IsEnteredBetween, none_begun}
+-- What the proofs of this crate speak of and cite, under one name.
+pub use Rattle.std.proofs.Common.{◌≡◌, ◌<◌, ◌+◌, ◌^◌, ◌≤◌, List, length, map, sum_by, All, Vec, refl, ap, ◌∙◌, arith, get_or, length-append, ℕ, ◌-◌, ◌==◌, eqb}
+pub use Rattle.std.proofs.Common.{Bool, true, false, if◌then◌else◌, [], ◌∷◌, ◌++◌, take, drop, sym, subst, suc, append_assoc, vec_capacity}
+pub use Rattle.std.specs.List.{sum}
+pub use Rattle.std.proofs.lemmas.List.{take_at, drop_at, length-map, append-nil, get_or_push, take-append-drop}
+pub use Rattle.item_workers.proofs.Each.{each_seat, chain_told, all_free, all_may}
+pub use Rattle.work_runner.proofs.Tries.{entered_fresh, seen_grows, entered_continues, entered_within, gave_up, under_still}
+pub use Rattle.run_report.proofs.history.Grown.{longer, place_longer}
+pub use Rattle.mv_history.specs.Calls.{IsEntryAt}
+pub use Rattle.mv_history.proofs.Steps.{Continues-Continues}
+pub use Rattle.script_workers.specs.Terms.{flat_map, MOST_COMMANDS, AllRan, Global, Seat, Command, Place, Reply, Causes, Line, Ran, BySeat, Answer, Chain}
+pub use Rattle.script_workers.specs.Terms.{DidTo, EachDid, answered, Read, IsEnteredBetween, Rest, Done, Attempted, Commit, Change, commits_of, InSection}
+pub use Rattle.script_workers.specs.Terms.{IsSeat, Continues, catalogue_of, IsOpening, capacity, IsSetCommit, AtCommit, Past, past_of, state_of_time}
+pub use Rattle.script_workers.specs.Terms.{CommitsNone, Follows, most_locks, Again, LinesOf, Continues-itself, time_of, PlaceOf, DidAll, HaveNumbers, IsUnder}
+pub use Rattle.script_workers.specs.Lines.{line_of, row_of, LinkedLine, AllLinked}
+pub use Rattle.script_workers.specs.Links.{LinkedDone, Linked}
+pub use Rattle.script_workers.specs.Workers.{items_of, command_count}
+pub use Rattle.script_workers.specs.Commands.{RanTo, RanAt}

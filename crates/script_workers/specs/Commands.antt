@@ -1,13 +1,6 @@
 -- Where something took place, and where a command did.
-use Rattle.std.specs.Prelude.{ℕ, ◌≡◌, ◌+◌, List, ◌++◌, length}
-use Rattle.mv_history.specs.declared.history.Commit.{Commit}
-use Rattle.mv_history.specs.Meaning.{Seat}
-use Rattle.mv_history.specs.Calls.{Continues}
-use Rattle.set_script.specs.declared.commands.Command.{Command}
-use Rattle.section_work.specs.declared.place.Place.{Place}
-use Rattle.set_script.specs.declared.commands.Reply.{Reply}
-use Rattle.run_report.specs.Legal.{Follows}
-use Rattle.run_report.specs.Worked.{Past, past_of, PlaceOf}
+use Rattle.std.specs.Prelude.{ℕ, ◌≡◌, ◌+◌, ◌≤◌, List, ◌++◌, length}
+use Rattle.script_workers.specs.Terms.{Commit, Seat, Continues, Command, Place, Reply, Follows, Past, past_of, PlaceOf, time_of}
 
 -- Something took place there in the history that the seat has seen, behind all that it had seen before, and the seat's commits grew by
 -- exactly those of it.
@@ -16,6 +9,7 @@ pub record RanTo (placed_in : Past → ℕ → List Commit → Type 0) (old new 
   pub commits : List Commit
   pub mine : new.mine ≡ old.mine ++ commits
   pub follows : Follows (old.base + length old.seen) place
+  pub seen : time_of place ≤ new.base + length new.seen
   pub placed : placed_in (past_of new) new.number commits
 
 -- the command took place there, with this reply

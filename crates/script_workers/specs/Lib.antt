@@ -1,3 +1,4 @@
+pub mod Terms
 pub mod Commands
 pub mod Links
 pub mod Lines

@@ -1,15 +1,6 @@
 -- The lines of answers, and the chain of a run's lines.
 use Rattle.std.specs.Prelude.{List, map, Vec}
-use Rattle.std.specs.declared.alloc.Global.{Global}
-use Rattle.mv_history.specs.Meaning.{Seat}
-use Rattle.set_script.specs.declared.commands.Command.{Command}
-use Rattle.section_work.specs.declared.place.Place.{Place}
-use Rattle.set_script.specs.declared.commands.Reply.{Reply}
-use Rattle.section_work.specs.Causes.{Causes}
-use Rattle.run_report.specs.declared.line.Line.{Line}
-use Rattle.run_report.specs.Worked.{BySeat}
-use Rattle.item_workers.specs.declared.runner.Answer.{Answer}
-use Rattle.item_workers.specs.Chains.{Chain}
+use Rattle.script_workers.specs.Terms.{Global, Seat, Command, Place, Reply, Causes, Line, BySeat, Answer, Chain}
 use Rattle.script_workers.specs.Links.{Linked}
 
 -- the line of an answer, and those of a row of answers

@@ -1,14 +1,5 @@
 -- How a command was done from one seat to another.
-use Rattle.mv_history.specs.Meaning.{Seat, IsSeat}
-use Rattle.set_script.specs.Lawful.{IsOpening}
-use Rattle.set_script.specs.Rules.{IsSetCommit}
-use Rattle.set_script.specs.declared.commands.Command.{Command}
-use Rattle.section_work.specs.declared.place.Place.{Place}
-use Rattle.set_script.specs.declared.commands.Reply.{Reply}
-use Rattle.section_work.specs.Causes.{Causes}
-use Rattle.set_catalog.specs.Attempts.{Attempted}
-use Rattle.set_catalog.specs.declared.answer.Attempt.TheVariants.{Done}
-use Rattle.work_runner.specs.Tries.{DoneBehind}
+use Rattle.script_workers.specs.Terms.{Seat, IsSeat, IsOpening, IsSetCommit, Command, Place, Reply, Causes, Attempted, Done, DoneBehind}
 
 -- Behind attempts that made no commit there was one of this command that was done: by a commit later than all that was seen, or at the time of
 -- a section that this very attempt entered, whose snapshot holds all that the seat had seen.

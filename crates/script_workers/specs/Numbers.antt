@@ -1,6 +1,6 @@
 -- The numbers of seats.
 use Rattle.std.specs.Prelude.{◌≡◌, ℕ, suc, List, [], ◌∷◌, ⊤}
-use Rattle.mv_history.specs.Meaning.{Seat}
+use Rattle.script_workers.specs.Terms.{Seat}
 
 -- the seats have the numbers from this one on, in order
 abbrev pub AreNumbered : ℕ → List Seat → Type 0

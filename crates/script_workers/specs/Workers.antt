@@ -1,7 +1,6 @@
 -- The scripts of a run.
 use Rattle.std.specs.Prelude.{ℕ, List, length, Vec}
-use Rattle.std.specs.declared.alloc.Global.{Global}
-use Rattle.set_script.specs.declared.commands.Command.{Command}
+use Rattle.script_workers.specs.Terms.{Global, Command}
 
 -- the commands of a script, and how many they are
 abbrev pub items_of : Vec Command Global → List Command

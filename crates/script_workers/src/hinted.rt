@@ -16,10 +16,7 @@ pub struct Hinted<S: Store<Rules = SetRules>> {
 
 impl<S: Store<Rules = SetRules>> Runner for Hinted<S> {
     ghost use Rattle.std.specs.Prelude.{⊤, ◌≤◌};
-    ghost use Rattle.mv_history.specs.Meaning.{Seat};
-    ghost use Rattle.set_catalog.specs.Steps.{most_locks};
-    ghost use Rattle.section_work.specs.Causes.{causes};
-    ghost use Rattle.work_runner.specs.Tries.{IsUnder, none_begun};
+    ghost use Rattle.script_workers.specs.Terms.{Seat, most_locks, causes, IsUnder, none_begun};
     ghost use Rattle.script_workers.specs.Links.{LinkedDone};
 
     type Item = Command;

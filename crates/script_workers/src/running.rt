@@ -1,9 +1,6 @@
 // The run of the scripts, each by a worker of its own.
 ghost use Rattle.std.specs.Prelude.{◌≡◌, ◌≤◌, length, map, All, IfOk, IfErr};
-ghost use Rattle.set_script.specs.declared.script.TheConstants.{MOST_COMMANDS};
-ghost use Rattle.section_work.specs.Causes.{causes};
-ghost use Rattle.set_catalog.specs.Steps.{most_locks};
-ghost use Rattle.run_report.specs.Worked.{AllRan};
+ghost use Rattle.script_workers.specs.Terms.{MOST_COMMANDS, causes, most_locks, AllRan};
 ghost use Rattle.script_workers.specs.Lines.{AllLinked};
 ghost use Rattle.script_workers.specs.Numbers.{AreNumbered};
 ghost use Rattle.script_workers.specs.Workers.{items_of};

@@ -1,10 +1,6 @@
 -- What a section reads that holds nothing, and sections at the last time.
-use Rattle.std.proofs.Common.{◌≡◌, ℕ, ◌+◌, ◌≤◌, ◌==◌, true, [], length, ap, arith}
-use Rattle.std.proofs.lemmas.Bool.Decides.{nat_tests}
-use Rattle.mv_history.specs.State.{written}
-use Rattle.mv_history.specs.Meaning.{Seat, InSection, IsWorn, snapshot_of, state_of}
-use Rattle.mv_history.specs.Calls.{Continues, IsAsBefore, Enters, Leaves}
-use Rattle.mv_history.proofs.Steps.{IsWorn-later}
+use Rattle.std.proofs.Common.{◌≡◌, ◌+◌, ◌≤◌, ◌==◌, ℕ, true, [], length, ap, arith}
+use Rattle.section_work.proofs.Terms.{nat_tests, written, Seat, InSection, IsWorn, snapshot_of, state_of, Continues, IsAsBefore, Enters, Leaves, IsWorn-later}
 
 -- a section that holds nothing reads its snapshot
 pub reads_snapshot : (s : InSection) → s.own ≡ [] → state_of s ≡ snapshot_of s

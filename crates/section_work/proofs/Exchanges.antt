@@ -1,13 +1,11 @@
 -- How many exchanges on CLOCK for a commit an attempt makes.
-use Rattle.std.proofs.Common.{◌≡◌, Bool, true, false, cond, List, [], ◌∷◌, ◌++◌, length, refl, sym, ap, ◌∙◌, arith, true≢false, length-append}
 use Rattle.mv_history.specs.declared.trail.Step.{Step}
 use Rattle.mv_history.specs.declared.trail.StepKind.{StepKind}
 use Rattle.mv_history.specs.declared.trail.StepKind.TheVariants.{NameCommit}
-use Rattle.mv_history.specs.Trail.{is_commit_exchange, is_clock_exchange, commit_exchanges, clock_exchanges}
-use Rattle.mv_history.specs.Meaning.{Seat, InSection}
-use Rattle.mv_history.specs.Calls.{call_trail, Continues, GoesOn, Prepares, Enters, Leaves, NamesNoCommit}
-use Rattle.section_work.specs.Sections.{TriesOne}
-use Rattle.mv_history.proofs.Steps.{Continues-Continues, NamesNoCommit-NamesNoCommit, commit_exchanges-call_trail}
+use Rattle.std.proofs.Common.{◌≡◌, ◌∷◌, ◌++◌}
+use Rattle.section_work.proofs.Terms.{Bool, true, false, cond, List, [], length, refl, sym, ap, ◌∙◌, arith, true≢false, length-append, is_commit_exchange}
+use Rattle.section_work.proofs.Terms.{is_clock_exchange, commit_exchanges, clock_exchanges, Seat, InSection, call_trail, Continues, GoesOn, Prepares, Enters}
+use Rattle.section_work.proofs.Terms.{Leaves, NamesNoCommit, TriesOne, Continues-Continues, NamesNoCommit-NamesNoCommit, commit_exchanges-call_trail}
 
 commit_is_clock : (k : StepKind) → is_commit_exchange k ≡ true → is_clock_exchange k ≡ true
 commit_is_clock NameCommit e = refl

@@ -1,16 +1,8 @@
 -- The writes of a section, after locks and writes.
-use Rattle.std.proofs.Common.{◌≡◌, ◌≢◌, ℕ, suc, ◌+◌, ◌<◌, Bool, true, false, cond, eqb, not, ◌||◌, List, [], ◌∷◌}
-use Rattle.std.proofs.Common.{◌++◌, length, get_or, take, drop, refl, sym, ap, ◌∙◌, arith, length-append, append_assoc, take-suc}
-use Rattle.std.proofs.lemmas.List.{take-append-drop}
-use Rattle.std.proofs.lemmas.Bool.{not-true, and_parts}
-use Rattle.std.proofs.lemmas.Bool.Decides.{nat_tests}
-use Rattle.mv_history.specs.State.{State, Writes, touches, rewritten}
-use Rattle.mv_history.specs.Legal.{are_distinct}
-use Rattle.mv_history.specs.Meaning.{words_at}
-use Rattle.mv_history.proofs.Writing.{touches-append, touches-rewritten}
-use Rattle.section_work.specs.OwnWrites.{with_lock, with_locks, with_writes, objects_of}
-use Rattle.section_work.proofs.OwnWrites.{touches-with_lock}
-use Rattle.section_work.specs.Held.{count_unheld}
+use Rattle.std.proofs.Common.{◌≡◌, ◌≢◌, ◌+◌, ◌<◌, ◌||◌, ◌∷◌, ◌++◌, ℕ, suc, Bool, true, false, cond, eqb, not, List, [], length, get_or, take, drop, refl, sym}
+use Rattle.section_work.proofs.Terms.{ap, ◌∙◌, arith, length-append, append_assoc, take-suc, take-append-drop, not-true, and_parts, nat_tests, State, Writes}
+use Rattle.section_work.proofs.Terms.{touches, rewritten, are_distinct, words_at, touches-append, with_lock, with_locks, with_writes, objects_of, count_unheld}
+pub use Rattle.section_work.proofs.OwnWrites.{touches-with_lock, touches-with_writes}
 
 or_assoc : (x y z : Bool) → (x || y) || z ≡ x || (y || z)
 or_assoc true y z = refl
@@ -25,10 +17,6 @@ touches-with_locks s own [] p = or_false (touches own p)
 touches-with_locks s own (x ∷ xs) p =
     touches-with_locks s (with_lock s own x.0) xs p ∙ ap (λ (b : Bool). b || touches xs p) (touches-with_lock s own x.0 p)
     ∙ or_assoc (touches own p) (eqb x.0 p) (touches xs p)
-
-pub touches-with_writes : (own xs : Writes) (p : ℕ) → touches (with_writes own xs) p ≡ touches own p
-touches-with_writes own [] p = refl
-touches-with_writes own (x ∷ xs) p = touches-with_writes (rewritten own x.0 x.1) xs p ∙ touches-rewritten own x.0 x.1 p
 
 pub length-with_lock : (s : State) (ws : Writes) (o : ℕ) → length (with_lock s ws o) ≡ length ws + count_unheld ws (o ∷ [])
 length-with_lock s ws o = go (touches ws o)

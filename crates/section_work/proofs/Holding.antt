@@ -1,24 +1,13 @@
 -- What a section's locks and writes do, one after another.
-use Rattle.std.proofs.Common.{◌≡◌, ℕ, suc, ◌+◌, ◌<◌, ◌≤◌, Bool, true, false, cond, ◌||◌, List, [], ◌∷◌, ◌++◌}
-use Rattle.std.proofs.Common.{length, get_or, take, drop, set, refl, sym, ap, ◌∙◌, subst, arith, Result, Ok, Err}
-use Rattle.std.proofs.lemmas.List.{take_all, take_more}
 use Rattle.std.specs.Result.{IsErrAnd, IfErr}
-use Rattle.mv_history.specs.State.{State, Writes, written, touches, rewritten}
-use Rattle.mv_history.specs.Legal.{are_distinct, AreWithin}
-use Rattle.mv_history.specs.Meaning.{InSection, words_at, snapshot_of, state_of, Holds, Lacks}
-use Rattle.mv_history.specs.Calls.{GoesOn, Locks, Rewrites}
-use Rattle.mv_history.specs.CallLaws.{GoesOn-itself}
-use Rattle.mv_history.proofs.Writing.{written-append, touches_at}
-use Rattle.mv_history.proofs.Steps.{GoesOn-GoesOn}
-use Rattle.mv_history.proofs.Holding.{state_of-as_before, state_of-rewrites}
-use Rattle.mv_history.proofs.Snapshots.{snapshot_of-goes_on}
-use Rattle.section_work.specs.OwnWrites.{with_lock, with_locks, with_writes, objects_of}
-use Rattle.section_work.specs.Held.{count_unheld, HasRoom, HoldsMore}
-use Rattle.section_work.specs.Locking.{Rewritten, IsRefused, Refuses}
-use Rattle.section_work.specs.declared.causes.Refusal.{Refusal}
+use Rattle.std.proofs.Common.{◌≡◌, ◌+◌, ◌<◌, ◌≤◌, ◌||◌, ◌∷◌, ◌++◌, ℕ, suc, Bool, true, false, cond, List, [], length, get_or, take, drop, set, refl, sym, ap}
+use Rattle.section_work.proofs.Terms.{◌∙◌, subst, arith, Result, Ok, Err, take_all, take_more, State, Writes, written, touches, rewritten, are_distinct}
+use Rattle.section_work.proofs.Terms.{AreWithin, InSection, words_at, snapshot_of, state_of, Holds, Lacks, GoesOn, Locks, Rewrites, GoesOn-itself}
+use Rattle.section_work.proofs.Terms.{written-append, touches_at, GoesOn-GoesOn, state_of-as_before, state_of-rewrites, snapshot_of-goes_on, with_lock}
+use Rattle.section_work.proofs.Terms.{with_locks, with_writes, objects_of, count_unheld, HasRoom, HoldsMore, Rewritten, IsRefused, Refuses, Refusal}
 use Rattle.section_work.proofs.OwnWrites.{written-with_locks}
-use Rattle.section_work.proofs.HeldWrites.{touches-with_locks, touches-with_writes, length-with_locks, count-with_locks, objects_of-append}
-use Rattle.section_work.proofs.HeldWrites.{with_locks-push, with_writes-push, count-append, at_place, distinct_front, distinct_apart}
+use Rattle.section_work.proofs.HeldWrites.{touches-with_locks, touches-with_writes, length-with_locks, count-with_locks, objects_of-append, with_locks-push}
+use Rattle.section_work.proofs.HeldWrites.{with_writes-push, count-append, at_place, distinct_front, distinct_apart}
 
 pub holds_nothing : (a : InSection) → HoldsMore a a [] a.own
 holds_nothing a = record { goes_on = GoesOn-itself a; spare = omega arith; own = refl; snapshot = refl }

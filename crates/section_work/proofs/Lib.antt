@@ -1,3 +1,4 @@
+pub mod Terms
 pub mod Objects
 pub mod OwnWrites
 pub mod HeldWrites

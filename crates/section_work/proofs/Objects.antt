@@ -1,10 +1,6 @@
 -- Which objects are written.
-use Rattle.std.proofs.Common.{◌≡◌, ◌≢◌, ℕ, List, ◌⊎◌, inl, inr, Bool, true, false, ◌||◌, eqb, [], ◌∷◌, ◌++◌, refl, sym}
-use Rattle.std.proofs.Common.{ap, ◌∙◌, arith, eq-eqb, eqb-true, true≢false}
-use Rattle.std.proofs.lemmas.Bool.Decides.{nat_tests}
-use Rattle.mv_history.specs.State.{Writes, touches}
-use Rattle.mv_history.specs.Legal.{are_distinct}
-use Rattle.section_work.specs.OwnWrites.{objects_of}
+use Rattle.std.proofs.Common.{◌≡◌, ◌≢◌, ◌⊎◌, ◌||◌, ◌∷◌, ◌++◌, ℕ, List, inl, inr, Bool, true, false, eqb, [], refl, sym, ap, ◌∙◌, arith, eq-eqb, eqb-true}
+use Rattle.section_work.proofs.Terms.{true≢false, nat_tests, Writes, touches, are_distinct, objects_of}
 
 -- the object is one of these, as a choice of one of them
 abbrev pub IsIn : ℕ → List ℕ → Type 0

@@ -1,29 +1,19 @@
 -- What an attempt of a work leaves, from what its calls do.
-use Rattle.std.proofs.Common.{◌≡◌, ◌≢◌, ℕ, ◌+◌, ◌-◌, ◌<◌, ◌≤◌, ◌==◌, ◌⊎◌, inl, inr, Bool, true}
-use Rattle.std.proofs.Common.{List, [], ◌∷◌, ◌++◌, length, suc, take}
-use Rattle.std.proofs.Common.{refl, sym, ap, ◌∙◌, subst, arith}
-use Rattle.std.proofs.lemmas.Bool.Decides.{nat_tests}
-use Rattle.mv_history.specs.Legal.{AreWithin}
-use Rattle.mv_history.specs.State.{State, Writes, written, touches, state_after, state_at}
 use Rattle.mv_history.specs.declared.answers.Holder.{Holder}
 use Rattle.mv_history.specs.declared.answers.Rival.{Rival as RivalEntry}
 use Rattle.mv_history.specs.declared.answers.Room.{Room}
 use Rattle.mv_history.specs.declared.answers.Room.TheVariants.{Enough, Short}
-use Rattle.mv_history.specs.Drift.{Drifts, IsFit}
-use Rattle.mv_history.specs.Meaning.{Seat, InSection, Holds, IsSeat, snapshot_of, state_of, state_of_time}
-use Rattle.mv_history.specs.Trail.{commit_exchanges, IsOneLost}
-use Rattle.mv_history.specs.Calls.{call_trail, Continues, IsAsBefore, GoesOn, Prepares, Enters as EntersAs, Leaves, Commits, Overtakes, commit_by}
-use Rattle.mv_history.proofs.Holding.{state_of-as_before}
-use Rattle.mv_history.proofs.Snapshots.{snapshot_of-goes_on}
-use Rattle.mv_history.proofs.Steps.{Continues-Continues, GoesOn-GoesOn, length-seen, state_at-later}
-use Rattle.section_work.specs.OwnWrites.{with_locks, with_writes, objects_of}
+use Rattle.mv_history.proofs.Committed.{before_is, after_is, allowed_there, drifts_there}
+use Rattle.std.proofs.Common.{◌≡◌, ◌≢◌, ◌+◌, ◌-◌, ◌<◌, ◌≤◌, ◌==◌, ◌⊎◌, ◌∷◌, ◌++◌}
+use Rattle.section_work.proofs.Terms.{ℕ, inl, inr, Bool, true, List, [], length, suc, take, refl, sym, ap, ◌∙◌, subst, arith, nat_tests, AreWithin, State}
+use Rattle.section_work.proofs.Terms.{Writes, written, touches, state_after, state_at, Drifts, IsFit, Seat, InSection, Holds, IsSeat, snapshot_of, state_of}
+use Rattle.section_work.proofs.Terms.{state_of_time, commit_exchanges, IsOneLost, call_trail, Continues, IsAsBefore, GoesOn, Prepares, EntersAs, Leaves}
+use Rattle.section_work.proofs.Terms.{Commits, Overtakes, commit_by, state_of-as_before, snapshot_of-goes_on, Continues-Continues, GoesOn-GoesOn, length-seen}
+use Rattle.section_work.proofs.Terms.{state_at-later, with_locks, with_writes, objects_of, Rewritten, RefusesWith, Stops, count_unheld, HasRoom, Refusal}
 use Rattle.section_work.specs.declared.place.Place.TheVariants.{Commit as AtCommit, Read}
 use Rattle.section_work.proofs.OwnWrites.{own_from_none}
 use Rattle.section_work.proofs.Objects.{IsIn, in_right, touches-in}
 use Rattle.section_work.proofs.HeldWrites.{objects_of-append}
-use Rattle.section_work.specs.Locking.{Rewritten, RefusesWith, Stops}
-use Rattle.section_work.specs.Held.{count_unheld, HasRoom}
-use Rattle.section_work.specs.declared.causes.Refusal.{Refusal}
 use Rattle.section_work.specs.declared.causes.Cause.{Cause}
 use Rattle.section_work.specs.declared.causes.Cause.TheVariants.{Lock, Rival, LogFull}
 use Rattle.section_work.specs.Causes.{Causes}
@@ -32,12 +22,10 @@ use Rattle.section_work.proofs.Stopping.{stops_after}
 use Rattle.section_work.specs.Works.{Meaning, IsPlanned, IsFound}
 use Rattle.section_work.specs.declared.work.Decision.{Decision}
 use Rattle.section_work.specs.declared.work.Decision.TheVariants.{Settled, Change}
-use Rattle.section_work.specs.Attempts.{IsDone, IsDoneIn, IsReadAt, IsWhy, GivesUpIn, GivesUp}
+use Rattle.section_work.specs.Attempts.{IsDone, IsDoneIn, IsReadAt, IsWhy, GivesUpIn, GivesUp, Attempted, AttemptedIn, HasSpace, NotedOnce, MayNote}
 use Rattle.section_work.specs.Steps.{IsPrepared, Follows, IsStepped}
-use Rattle.section_work.specs.Attempts.{Attempted, AttemptedIn, HasSpace, NotedOnce, MayNote}
 use Rattle.section_work.specs.declared.attempting.Attempt.{Attempt}
 use Rattle.section_work.specs.declared.attempting.Attempt.TheVariants.{Done, Again}
-use Rattle.mv_history.proofs.Committed.{before_is, after_is, allowed_there, drifts_there}
 
 -- a section that holds nothing has room for so many objects
 pub count_new : (os : List ℕ) → count_unheld [] os ≡ length os
@@ -55,16 +43,19 @@ room_for most s ws h le =
     let none : length s.own ≡ 0 = ap length h.own in
     record { spare = omega (arith, h.spare, le, new); held = omega (arith, h.held, le, new, none) }
 
--- what was found, by its kind
-pub found_settled : {R P : Type 0} (allowed : List ℕ → State → Writes → Type 0) (m : Meaning R) (tag_of : P → List ℕ) (writes_of : P → Writes) (s : State)
-    (d : Decision R P)
-    (r : R) → d ≡ Settled r → IsFound allowed m tag_of writes_of s d → (last : Bool) → m.settles s last r
-found_settled {R} {P} allowed m tag_of writes_of s d r e h = subst (λ (x : Decision R P). IsFound allowed m tag_of writes_of s x) e h
+module _ {R P : Type 0} (allowed : List ℕ → State → Writes → Type 0) (m : Meaning R) (tag_of : P → List ℕ) (writes_of : P → Writes) (s : State)
+    (d : Decision R P) where
+  -- what was found, by its kind
+  pub found_settled : (r : R) → d ≡ Settled r → IsFound allowed m tag_of writes_of s d → (last : Bool) → m.settles s last r
+  found_settled r e h = subst (λ (x : Decision R P). IsFound allowed m tag_of writes_of s x) e h
 
-pub found_change : {R P : Type 0} (allowed : List ℕ → State → Writes → Type 0) (m : Meaning R) (tag_of : P → List ℕ) (writes_of : P → Writes) (s : State)
-    (d : Decision R P)
-    (p : P) (r : R) → d ≡ Change p r → IsFound allowed m tag_of writes_of s d → m.changes s × IsPlanned allowed m s (tag_of p) (writes_of p) r
-found_change {R} {P} allowed m tag_of writes_of s d p r e h = subst (λ (x : Decision R P). IsFound allowed m tag_of writes_of s x) e h
+  pub found_change : (p : P) (r : R) → d ≡ Change p r → IsFound allowed m tag_of writes_of s d → m.changes s × IsPlanned allowed m s (tag_of p) (writes_of p) r
+  found_change p r e h = subst (λ (x : Decision R P). IsFound allowed m tag_of writes_of s x) e h
+
+  -- the reply at the last time of a change that was found
+  pub late_change : (p : P) (r r' : R) → d ≡ Change p r → ((s : State) (tag : List ℕ) (ws : Writes) → m.changes s → m.plans s tag ws r → m.settles s true r')
+      → IsFound allowed m tag_of writes_of s d → m.settles s true r'
+  late_change p r r' e late h = let f = found_change p r e h in late s (tag_of p) (writes_of p) f.0 f.1.plan
 
 -- a section at the last time
 pub at_last_is : (time last end : ℕ) → time ≡ last → last ≡ end → true ≡ (time == end)
@@ -73,21 +64,6 @@ at_last_is time last end e f = grind (arith, nat_tests)
 -- what is within for other writes that are the same
 pub room_as : (n : ℕ) (made ws : Writes) → made ≡ ws → AreWithin ws n → AreWithin made n
 room_as n made ws e h = subst (λ (w : Writes). AreWithin w n) (sym e) h
-
--- the reply at the last time of what was found
-pub late_settled : {R P : Type 0} (allowed : List ℕ → State → Writes → Type 0) (m : Meaning R) (tag_of : P → List ℕ) (writes_of : P → Writes) (s : State)
-    (d : Decision R P)
-    (r : R) → d ≡ Settled r → IsFound allowed m tag_of writes_of s d → m.settles s true r
-late_settled {R} {P} allowed m tag_of writes_of s d r e h =
-    let f : (last : Bool) → m.settles s last r = subst (λ (x : Decision R P). IsFound allowed m tag_of writes_of s x) e h in f true
-
-pub late_change : {R P : Type 0} (allowed : List ℕ → State → Writes → Type 0) (m : Meaning R) (tag_of : P → List ℕ) (writes_of : P → Writes) (s : State)
-    (d : Decision R P)
-    (p : P) (r r' : R) → d ≡ Change p r → ((s : State) (tag : List ℕ) (ws : Writes) → m.changes s → m.plans s tag ws r → m.settles s true r')
-    → IsFound allowed m tag_of writes_of s d → m.settles s true r'
-late_change {R} {P} allowed m tag_of writes_of s d p r r' e late h =
-    let f : m.changes s × IsPlanned allowed m s (tag_of p) (writes_of p) r = subst (λ (x : Decision R P). IsFound allowed m tag_of writes_of s x) e h in
-    late s (tag_of p) (writes_of p) f.0 f.1.plan
 
 -- nothing is held, and there is room, where enough was made
 pub space_found : (most : ℕ) (prepared : Seat) (entered found : InSection) → EntersAs prepared entered → IsAsBefore entered found → most ≤ prepared.write_max
@@ -103,8 +79,7 @@ prepared_by : (k : Causes) (old new : Seat) (room : Room) → Prepares old new �
     → ((holder : Holder) → room ≡ Short holder → k.may_refuse × (new.spare < new.write_max) × k.holds_back old new holder) → IsPrepared k old new
 prepared_by k old new room p enough short = record { prepares = p; room = by room refl }
   where
-    by : (r : Room) → room ≡ r
-        → (new.write_max ≤ new.spare) ⊎ ((holder : Holder) × k.may_refuse × (new.spare < new.write_max) × k.holds_back old new holder)
+    by : (r : Room) → room ≡ r → (new.write_max ≤ new.spare) ⊎ ((holder : Holder) × k.may_refuse × (new.spare < new.write_max) × k.holds_back old new holder)
     by Enough e = inl (enough e)
     by (Short holder) e = let held = short holder e in inr (holder, held.0, held.1, held.2)
 
@@ -124,9 +99,8 @@ module _ {Open : Type 0} (section : Open → InSection) (as_before : Open → Op
   }
 
 -- a section that is not at the last time is before it
-pub early_by : (entered : InSection) (time last : ℕ) → entered.at ≤ length entered.seat.seen
-    → entered.seat.base + length entered.seat.seen ≤ entered.seat.last → time ≡ entered.seat.base + entered.at → last ≡ entered.seat.last
-    → time ≢ last → entered.seat.base + entered.at < entered.seat.last
+pub early_by : (entered : InSection) (time last : ℕ) → entered.at ≤ length entered.seat.seen → entered.seat.base + length entered.seat.seen ≤ entered.seat.last
+    → time ≡ entered.seat.base + entered.at → last ≡ entered.seat.last → time ≢ last → entered.seat.base + entered.at < entered.seat.last
 early_by entered time last le most et el apart = omega arith
 
 -- what is remembered after one look
@@ -363,51 +337,49 @@ module _ {R : Type 0} (k : Causes) (m : Meaning R) where
       )
       go (LogFull holder) w = absurd w.1
 
-  -- What was answered in a section is the answer of the attempt that entered it.
-  pub attempted_by : (old prepared : Seat) (entered found : InSection) (new : Seat) (answer : Attempt R)
-      → Prepares old prepared → EntersAs prepared entered → k.took prepared entered → entered.at ≤ length entered.seat.seen → GoesOn entered found
-      → entered.seat.base + entered.at < entered.seat.last → m.changes (snapshot_of entered) → Continues found.seat new
-      → AttemptedIn k m found new answer → Attempted k m old new answer
-  unfolding done_after
-  attempted_by old prepared entered found new (Done reply (AtCommit time)) p e took le goes early changing on r = record {
-    done = done_after old found.seat new reply time (Continues-Continues p.continues (Continues-Continues e.seat.continues goes.continues))
-        (goes.mine ∙ e.seat.mine ∙ p.mine) r.done;
-    entered = entered;
-    enters = record {
-      before = prepared;
-      comes = p.continues;
-      mine = p.mine;
-      enters = record { enters = e; took = took; at = le; continues = Continues-Continues goes.continues on };
-    };
-    snapshot = r.snapshot ∙ goes.at;
-  }
-  attempted_by old prepared entered found new (Done reply (Read time)) p e took le goes early changing on r =
-      read_after old found.seat new reply time (Continues-Continues p.continues (Continues-Continues e.seat.continues goes.continues))
-      (goes.mine ∙ e.seat.mine ∙ p.mine) r
-  attempted_by old prepared entered found new (Again cause) p e took le goes early changing on r = record {
-    mine = r.mine ∙ goes.mine ∙ e.seat.mine ∙ p.mine;
-    prepared = prepared;
-    prepares = p;
-    entered = entered;
-    enters = record { enters = e; took = took; at = le; continues = Continues-Continues goes.continues on };
-    early = early;
-    changing = changing;
-    why = why_earlier _ entered found new cause goes le r.why;
-  }
+  -- A section that an attempt entered and looked into, where the work would change something.
+  module _ (old prepared : Seat) (entered found : InSection) (new : Seat) (p : Prepares old prepared) (e : EntersAs prepared entered)
+      (took : k.took prepared entered) (le : entered.at ≤ length entered.seat.seen) (goes : GoesOn entered found)
+      (early : entered.seat.base + entered.at < entered.seat.last) (changing : m.changes (snapshot_of entered)) where
+    came : Continues old found.seat
+    came = Continues-Continues p.continues (Continues-Continues e.seat.continues goes.continues)
 
-  -- no room was made
-  pub short_by : (old prepared : Seat) (entered found : InSection) (new : Seat) (holder : Holder)
-      → Prepares old prepared → EntersAs prepared entered → k.took prepared entered → entered.at ≤ length entered.seat.seen → GoesOn entered found
-      → entered.seat.base + entered.at < entered.seat.last → m.changes (snapshot_of entered)
-      → k.may_refuse × (prepared.spare < prepared.write_max) × k.holds_back old prepared holder → Leaves found new
-      → GivesUp k m old new (LogFull holder)
-  short_by old prepared entered found new holder p e took le goes early changing short gone = record {
-    mine = gone.mine ∙ goes.mine ∙ e.seat.mine ∙ p.mine;
-    prepared = prepared;
-    prepares = p;
-    entered = entered;
-    enters = record { enters = e; took = took; at = le; continues = Continues-Continues goes.continues gone.continues };
-    early = early;
-    changing = changing;
-    why = (short.0, (short.1, short.2));
-  }
+    -- What was answered in the section is the answer of the attempt.
+    pub attempted_by : (answer : Attempt R) → Continues found.seat new → AttemptedIn k m found new answer → Attempted k m old new answer
+    unfolding came done_after
+    attempted_by (Done reply (AtCommit time)) on r = record {
+      done = done_after old found.seat new reply time came (goes.mine ∙ e.seat.mine ∙ p.mine) r.done;
+      entered = entered;
+      enters = record {
+        before = prepared;
+        comes = p.continues;
+        mine = p.mine;
+        enters = record { enters = e; took = took; at = le; continues = Continues-Continues goes.continues on };
+      };
+      snapshot = r.snapshot ∙ goes.at;
+    }
+    attempted_by (Done reply (Read time)) on r = read_after old found.seat new reply time came (goes.mine ∙ e.seat.mine ∙ p.mine) r
+    attempted_by (Again cause) on r = record {
+      mine = r.mine ∙ goes.mine ∙ e.seat.mine ∙ p.mine;
+      prepared = prepared;
+      prepares = p;
+      entered = entered;
+      enters = record { enters = e; took = took; at = le; continues = Continues-Continues goes.continues on };
+      early = early;
+      changing = changing;
+      why = why_earlier _ entered found new cause goes le r.why;
+    }
+
+    -- no room was made
+    pub short_by : (holder : Holder) → k.may_refuse × (prepared.spare < prepared.write_max) × k.holds_back old prepared holder → Leaves found new
+        → GivesUp k m old new (LogFull holder)
+    short_by holder short gone = record {
+      mine = gone.mine ∙ goes.mine ∙ e.seat.mine ∙ p.mine;
+      prepared = prepared;
+      prepares = p;
+      entered = entered;
+      enters = record { enters = e; took = took; at = le; continues = Continues-Continues goes.continues gone.continues };
+      early = early;
+      changing = changing;
+      why = (short.0, (short.1, short.2));
+    }

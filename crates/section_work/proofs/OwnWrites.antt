@@ -1,16 +1,9 @@
 -- What a section's writes do, after more locks and more writes.
-use Rattle.std.proofs.Common.{◌≡◌, ◌≢◌, ℕ, ◌<◌, ◌≤◌, ◌⊎◌, inl, inr, Bool, true, false, cond, eqb, not, ◌||◌, List}
-use Rattle.std.proofs.Common.{[], ◌∷◌, ◌++◌, length, set, refl, sym, ap, ◌∙◌, arith, append_assoc, append-nil, length-set}
-use Rattle.std.proofs.Common.{true≢false, eq-eqb, get_or-set_same, get_or-set_other}
-use Rattle.std.proofs.lemmas.List.{set-get_or, get_or_past}
-use Rattle.std.proofs.lemmas.Bool.{cases_eq, cases_lt, not-true, and_parts}
-use Rattle.std.proofs.lemmas.Bool.Decides.{nat_tests}
-use Rattle.mv_history.specs.State.{State, Writes, written, touches, rewritten}
-use Rattle.mv_history.specs.Legal.{are_distinct}
-use Rattle.mv_history.specs.Meaning.{words_at}
-use Rattle.mv_history.proofs.Writing.{written-append, touches-append, touches-rewritten, are_distinct-push, are_distinct-rewritten}
-use Rattle.mv_history.proofs.Holding.{written-rewritten}
-use Rattle.section_work.specs.OwnWrites.{with_lock, with_locks, with_writes, objects_of}
+use Rattle.std.proofs.Common.{◌≡◌, ◌≢◌, ◌<◌, ◌≤◌, ◌⊎◌, ◌||◌, ◌∷◌, ◌++◌, ℕ, inl, inr, Bool, true, false, cond, eqb, not, List, [], length, set, refl, sym, ap}
+use Rattle.section_work.proofs.Terms.{◌∙◌, arith, append_assoc, append-nil, length-set, true≢false, eq-eqb, get_or-set_same, get_or-set_other, set-get_or}
+use Rattle.section_work.proofs.Terms.{get_or_past, cases_eq, cases_lt, not-true, and_parts, nat_tests, State, Writes, written, touches, rewritten, are_distinct}
+use Rattle.section_work.proofs.Terms.{words_at, written-append, touches-append, touches-rewritten, are_distinct-push, are_distinct-rewritten, written-rewritten}
+use Rattle.section_work.proofs.Terms.{with_lock, with_locks, with_writes, objects_of}
 use Rattle.section_work.proofs.Objects.{IsIn}
 
 -- a lock with the words that the object has changes no state

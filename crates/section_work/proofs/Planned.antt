@@ -1,19 +1,8 @@
 -- Objects are locked one after another in a section that held nothing, each with the words that are to be committed.
-use Rattle.std.proofs.Common.{◌≡◌, ℕ, suc, ◌+◌, ◌<◌, ◌≤◌, Bool, true, false, cond, List, [], ◌∷◌, ◌++◌}
-use Rattle.std.proofs.Common.{length, get_or, take, drop, refl, sym, ap, ◌∙◌, subst, arith}
-use Rattle.std.proofs.lemmas.List.{take_more}
-use Rattle.mv_history.specs.State.{State, Writes, written, touches}
-use Rattle.mv_history.specs.Legal.{are_distinct, AreWithin}
-use Rattle.mv_history.specs.Meaning.{InSection, snapshot_of, state_of, Lacks}
-use Rattle.mv_history.specs.Calls.{GoesOn, LocksWith}
-use Rattle.mv_history.specs.CallLaws.{GoesOn-itself}
-use Rattle.mv_history.proofs.Writing.{length-written, touches_at}
-use Rattle.mv_history.proofs.Steps.{GoesOn-GoesOn}
-use Rattle.mv_history.proofs.Snapshots.{snapshot_of-goes_on}
-use Rattle.section_work.specs.OwnWrites.{with_locks, with_writes, objects_of}
-use Rattle.section_work.specs.Held.{count_unheld, HasRoom, HoldsMore}
-use Rattle.section_work.specs.Locking.{Rewritten, IsRefused, RefusesWith}
-use Rattle.section_work.specs.declared.causes.Refusal.{Refusal}
+use Rattle.std.proofs.Common.{◌≡◌, ◌+◌, ◌<◌, ◌≤◌, ◌∷◌, ◌++◌, ℕ, suc, Bool, true, false, cond, List, [], length, get_or, take, drop, refl, sym, ap, ◌∙◌, subst}
+use Rattle.section_work.proofs.Terms.{arith, take_more, State, Writes, written, touches, are_distinct, AreWithin, InSection, snapshot_of, state_of, Lacks}
+use Rattle.section_work.proofs.Terms.{GoesOn, LocksWith, GoesOn-itself, length-written, touches_at, GoesOn-GoesOn, snapshot_of-goes_on, with_locks, with_writes}
+use Rattle.section_work.proofs.Terms.{objects_of, count_unheld, HasRoom, HoldsMore, Rewritten, IsRefused, RefusesWith, Refusal}
 use Rattle.section_work.proofs.OwnWrites.{own_from_none}
 use Rattle.section_work.proofs.HeldWrites.{count-append, at_place, distinct_apart}
 use Rattle.section_work.proofs.Outcomes.{count_new, length_objects}
@@ -22,8 +11,7 @@ pub planned_none : (a : InSection) → a.own ≡ [] → HoldsMore a a [] []
 planned_none a none = record { goes_on = GoesOn-itself a; spare = omega arith; own = none; snapshot = refl }
 
 -- From section `a`, which held nothing, by `b`, which holds `xs`, to one that holds `x` too.
-module _ (a b : InSection) (xs : Writes) (x : ℕ × List ℕ) (none : a.own ≡ []) (h : HoldsMore a b (objects_of xs) xs)
-    (apart : touches xs x.0 ≡ false) where
+module _ (a b : InSection) (xs : Writes) (x : ℕ × List ℕ) (none : a.own ≡ []) (h : HoldsMore a b (objects_of xs) xs) (apart : touches xs x.0 ≡ false) where
   lacks : Lacks b x.0
   lacks = ap (λ (u : Writes). touches u x.0) h.own ∙ apart
 

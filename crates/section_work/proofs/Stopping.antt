@@ -1,12 +1,6 @@
 -- A refused lock, seen from an earlier section; and what is held then.
-use Rattle.std.proofs.Common.{◌≡◌, ℕ, true, ◌||◌, ◌∷◌, sym, ap, ◌∙◌, subst}
-use Rattle.mv_history.specs.State.{Writes, touches}
-use Rattle.mv_history.specs.Meaning.{InSection, Holds}
-use Rattle.mv_history.specs.Calls.{GoesOn}
-use Rattle.mv_history.proofs.Writing.{touches-append}
-use Rattle.mv_history.proofs.Steps.{GoesOn-GoesOn}
-use Rattle.section_work.specs.Locking.{RefusesWith, Stops}
-use Rattle.section_work.specs.declared.causes.Refusal.{Refusal}
+use Rattle.std.proofs.Common.{◌≡◌, ◌||◌, ◌∷◌, ℕ, true, sym, ap, ◌∙◌, subst}
+use Rattle.section_work.proofs.Terms.{Writes, touches, InSection, Holds, GoesOn, touches-append, GoesOn-GoesOn, RefusesWith, Stops, Refusal}
 
 -- what came before goes on to it
 pub stops_after : (may_refuse : Type 0) (found_held : InSection → InSection → ℕ → ℕ → Type 0) (Named : ℕ → Type 0) (a b c : InSection) (refusal : Refusal)

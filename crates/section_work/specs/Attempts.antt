@@ -1,22 +1,15 @@
 -- What an attempt of a work leaves, by its answer.
-use Rattle.std.specs.Prelude.{ℕ, ◌≡◌, ◌+◌, ◌-◌, ◌<◌, ◌≤◌, ◌⊎◌, ◌==◌, true, List, [], ◌∷◌, ◌++◌, length}
-use Rattle.mv_history.specs.State.{State, Writes, touches, state_at}
 use Rattle.mv_history.specs.declared.history.Commit.{Commit}
 use Rattle.mv_history.specs.declared.history.Entry.TheVariants.{Change}
-use Rattle.mv_history.specs.declared.answers.Holder.{Holder}
-use Rattle.mv_history.specs.Meaning.{Seat, InSection, Holds, snapshot_of, state_of_time}
-use Rattle.mv_history.specs.Trail.{commit_exchanges, IsOneLost}
-use Rattle.mv_history.specs.Calls.{call_trail, Continues, IsAsBefore, GoesOn, Prepares, Leaves, IsEntryAt, Overtakes}
-use Rattle.section_work.specs.declared.place.Place.TheVariants.{Commit as AtCommit, Read}
-use Rattle.section_work.specs.declared.causes.Refusal.{Refusal}
+use Rattle.std.specs.Prelude.{◌≡◌, ◌+◌, ◌-◌, ◌<◌, ◌≤◌, ◌⊎◌, ◌==◌, ◌∷◌, ◌++◌}
+use Rattle.section_work.specs.Terms.{ℕ, true, List, [], length, State, Writes, touches, state_at, Holder, Seat, InSection, Holds, snapshot_of, state_of_time}
+use Rattle.section_work.specs.Terms.{commit_exchanges, IsOneLost, call_trail, Continues, IsAsBefore, GoesOn, Prepares, Leaves, IsEntryAt, Overtakes, AtCommit}
+use Rattle.section_work.specs.Terms.{Read, Refusal, Lock, Rival, LogFull, Attempt, Done, Again}
 use Rattle.section_work.specs.declared.causes.Cause.{Cause}
-use Rattle.section_work.specs.declared.causes.Cause.TheVariants.{Lock, Rival, LogFull}
 use Rattle.section_work.specs.Causes.{Causes}
 use Rattle.section_work.specs.Sections.{IsEntered}
 use Rattle.section_work.specs.Locking.{Stops}
 use Rattle.section_work.specs.Works.{Meaning}
-use Rattle.section_work.specs.declared.attempting.Attempt.{Attempt}
-use Rattle.section_work.specs.declared.attempting.Attempt.TheVariants.{Done, Again}
 
 -- The call entered this section from a seat to which the old one came without a commit: its snapshot holds all that the seat had seen.
 pub record Enters (k : Causes) (old : Seat) (entered : InSection) (new : Seat) : Type 0 where

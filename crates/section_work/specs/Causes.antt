@@ -1,7 +1,5 @@
 -- What only a store can show of its calls, which each store defines for itself.
-use Rattle.std.specs.Prelude.{ℕ}
-use Rattle.mv_history.specs.declared.answers.Holder.{Holder}
-use Rattle.mv_history.specs.Meaning.{Seat, InSection}
+use Rattle.section_work.specs.Terms.{ℕ, Holder, Seat, InSection}
 
 -- What a store's causes mean: that it may refuse, that its trail tells the steps, that an `enter` took the time of its
 -- snapshot, that a `prepare` found a holder, that a lock found its object held, and that a commit loaded a time.

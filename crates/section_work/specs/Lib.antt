@@ -1,3 +1,4 @@
+pub mod Terms
 pub mod OwnWrites
 pub mod Held
 pub mod Locking

@@ -1,11 +1,8 @@
 -- What the locks and writes of a section leave, by their answers.
-use Rattle.std.specs.Prelude.{ℕ, ◌≡◌, ◌≢◌, List, ◌∷◌, ◌++◌}
-use Rattle.mv_history.specs.State.{Writes, written}
-use Rattle.mv_history.specs.Meaning.{InSection, Lacks, state_of}
-use Rattle.mv_history.specs.Calls.{IsAsBefore, GoesOn, IsStale}
+use Rattle.std.specs.Prelude.{◌≡◌, ◌≢◌, ◌∷◌, ◌++◌}
+use Rattle.section_work.specs.Terms.{ℕ, List, Writes, written, InSection, Lacks, state_of, IsAsBefore, GoesOn, IsStale, Refusal}
 use Rattle.section_work.specs.OwnWrites.{with_locks, with_writes, objects_of}
 use Rattle.section_work.specs.Held.{HoldsMore}
-use Rattle.section_work.specs.declared.causes.Refusal.{Refusal}
 use Rattle.section_work.specs.declared.causes.Refusal.TheVariants.{Busy, Stale}
 
 -- The section holds these objects too, and has written these writes: they lead from its old state to its new one.

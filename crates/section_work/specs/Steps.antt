@@ -1,18 +1,11 @@
 -- Which calls of its store an attempt makes, one after another, by its answer.
-use Rattle.std.specs.Prelude.{ℕ, ◌≡◌, ◌+◌, ◌-◌, ◌<◌, ◌≤◌, ◌⊎◌, List}
-use Rattle.mv_history.specs.State.{Writes}
-use Rattle.mv_history.specs.declared.answers.Holder.{Holder}
 use Rattle.mv_history.specs.declared.answers.Rival.{Rival as RivalEntry}
-use Rattle.mv_history.specs.Meaning.{Seat, InSection, IsWorn}
-use Rattle.mv_history.specs.Calls.{IsAsBefore, Prepares, Enters, Leaves, Commits, Overtakes}
+use Rattle.std.specs.Prelude.{◌≡◌, ◌+◌, ◌-◌, ◌<◌, ◌≤◌, ◌⊎◌}
+use Rattle.section_work.specs.Terms.{ℕ, List, Writes, Holder, Seat, InSection, IsWorn, IsAsBefore, Prepares, Enters, Leaves, Commits, Overtakes, AtCommit, Read}
+use Rattle.section_work.specs.Terms.{Refusal, Lock, Rival, LogFull, Attempt, Done, Again}
 use Rattle.section_work.specs.OwnWrites.{objects_of}
 use Rattle.section_work.specs.Locking.{Rewritten, RefusesWith}
 use Rattle.section_work.specs.Causes.{Causes}
-use Rattle.section_work.specs.declared.place.Place.TheVariants.{Commit as AtCommit, Read}
-use Rattle.section_work.specs.declared.causes.Refusal.{Refusal}
-use Rattle.section_work.specs.declared.causes.Cause.TheVariants.{Lock, Rival, LogFull}
-use Rattle.section_work.specs.declared.attempting.Attempt.{Attempt}
-use Rattle.section_work.specs.declared.attempting.Attempt.TheVariants.{Done, Again}
 
 -- One `prepare` led from the one seat to the other: there is room for a write set, or it found what holds the oldest one.
 pub record IsPrepared (k : Causes) (old new : Seat) : Type 0 where

@@ -1,8 +1,7 @@
 // One work as one section of a store.
-ghost use Rattle.std.specs.Prelude.{◌≡◌, ◌≤◌, true};
-ghost use Rattle.mv_history.specs.State.{State};
-ghost use Rattle.mv_history.specs.Meaning.{state_of, IsWorn};
 ghost use Rattle.mv_history.specs.Calls.{Continues, NamesNoCommit};
+ghost use Rattle.std.specs.Prelude.{◌≡◌, ◌≤◌};
+ghost use Rattle.section_work.specs.Terms.{true, State, state_of, IsWorn};
 ghost use Rattle.section_work.specs.Sections.{TriesOne};
 ghost use Rattle.section_work.specs.Causes.{causes};
 ghost use Rattle.section_work.specs.Works.{IsFound, IsPlanned};

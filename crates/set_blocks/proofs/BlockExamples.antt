@@ -1,9 +1,7 @@
 -- The replies of short blocks, from empty sets or from some, as the definitions compute them. Name 0 is `l0`, 10 `h0` and 20 `t0`.
-use Rattle.std.proofs.Common.{◌≡◌, true, false, [], ◌∷◌, refl}
-use Rattle.set_script.specs.Catalogue.{empty, with_key, cost}
-use Rattle.set_script.specs.declared.commands.Command.TheVariants.{Add, Del, Has, Move, Pair}
-use Rattle.set_script.specs.declared.commands.Reply.TheVariants.{Yes, No, Full, Worn, Both}
-use Rattle.set_blocks.specs.BlockReplies.{block_replies, block_changes, block_next}
+use Rattle.set_script.specs.Catalogue.{cost}
+use Rattle.std.proofs.Common.{◌≡◌, ◌∷◌, true, false, [], refl}
+use Rattle.set_blocks.proofs.Terms.{empty, with_key, Add, Del, Has, Move, Pair, Yes, No, Full, Worn, Both, block_replies, block_changes, block_next}
 
 -- each command sees what those before it changed
 one_after_another : (block_replies (Add 0 5 ∷ Move 0 20 5 ∷ Pair 0 20 5 ∷ []) empty 3916 false ≡ Yes ∷ Yes ∷ Both false true ∷ [])

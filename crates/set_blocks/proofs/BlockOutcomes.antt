@@ -1,18 +1,12 @@
 -- What an attempt of a block leaves, from what it leaves as a work.
-use Rattle.std.proofs.Common.{ℕ, ◌≡◌, List, subst}
-use Rattle.mv_history.specs.Meaning.{Seat}
 use Rattle.section_work.specs.Attempts.{IsDoneAt, IsReadAt, Attempted}
-use Rattle.section_work.specs.declared.attempting.Attempt.{Attempt}
-use Rattle.section_work.specs.declared.attempting.Attempt.TheVariants.{Done as WorkDone, Again as WorkAgain}
-use Rattle.set_script.specs.declared.commands.Command.{Command}
+use Rattle.section_work.specs.declared.attempting.Attempt.TheVariants.{Done as WorkDone}
 use Rattle.section_work.specs.declared.place.Place.{Place}
 use Rattle.section_work.specs.declared.place.Place.TheVariants.{Commit as AtCommit, Read}
-use Rattle.set_script.specs.declared.commands.Reply.{Reply}
-use Rattle.section_work.specs.declared.causes.Cause.{Cause}
 use Rattle.section_work.specs.Causes.{Causes}
+use Rattle.set_blocks.proofs.Terms.{ℕ, List, Seat, Command, Reply, block_meaning}
 use Rattle.set_blocks.specs.BlockAttempts.{IsBlockDone, IsBlockRead, BlockAttempted}
-use Rattle.set_blocks.specs.BlockMeaning.{block_meaning}
-use Rattle.set_blocks.specs.declared.attempt.BlockAttempt.TheVariants.{Done, Again}
+use Rattle.set_blocks.specs.declared.attempt.BlockAttempt.TheVariants.{Done}
 
 module _ (k : Causes) (old new : Seat) (commands : List Command) where
   done : (answers : List Reply) (time : ℕ) → IsDoneAt k (block_meaning commands) old new answers time → IsBlockDone old new commands answers time
@@ -41,16 +35,8 @@ module _ (k : Causes) (old new : Seat) (commands : List Command) where
     unchanging = r.settles.1;
   }
 
-  -- What an attempt answers.
-  pub answered : (a : Attempt (List Reply)) (answers : List Reply) (place : Place) → a ≡ WorkDone answers place
-      → Attempted k (block_meaning commands) old new a → BlockAttempted k old new commands (Done answers place)
-  answered a answers place e h =
-      go place (subst (λ (x : Attempt (List Reply)). Attempted k (block_meaning commands) old new x) e h)
-    where
-      go : (p : Place) → Attempted k (block_meaning commands) old new (WorkDone answers p) → BlockAttempted k old new commands (Done answers p)
-      go (AtCommit time) h = done answers time h
-      go (Read time) h = read answers time h
-
-  pub refused : (a : Attempt (List Reply)) (cause : Cause) → a ≡ WorkAgain cause → Attempted k (block_meaning commands) old new a
-      → BlockAttempted k old new commands (Again cause)
-  refused a cause e h = subst (λ (x : Attempt (List Reply)). Attempted k (block_meaning commands) old new x) e h
+  -- What an attempt answers that is done.
+  pub answered : (answers : List Reply) (place : Place) → Attempted k (block_meaning commands) old new (WorkDone answers place)
+      → BlockAttempted k old new commands (Done answers place)
+  answered answers (AtCommit time) h = done answers time h
+  answered answers (Read time) h = read answers time h

@@ -1,31 +1,15 @@
 -- What is planned for a command that changes something does the same in every state that others may lead to meanwhile.
-use Rattle.std.proofs.Common.{◌≡◌, ◌≢◌, ℕ, ◌^◌, ◌<◌, inl, inr, Bool, true, false, cond, not, ◌&&◌, ◌||◌}
-use Rattle.std.proofs.Common.{refl, sym, ap, ◌∙◌, subst}
-use Rattle.mv_history.specs.State.{State, Writes, written, touches}
-use Rattle.mv_history.specs.Legal.{are_distinct}
-use Rattle.mv_history.proofs.Drifting.{allowed_at_once}
-use Rattle.set_script.specs.declared.commands.Command.{Command}
-use Rattle.set_script.specs.declared.commands.Command.TheVariants.{Add, Put, Del, Has, Get, Move, Pair, Size, Next}
-use Rattle.set_script.specs.declared.commands.Reply.TheVariants.{Yes, No, Full, Worn}
-use Rattle.set_script.specs.Catalogue.{Maps, map_of, has_key, has_entry, take_out}
-use Rattle.set_script.specs.CatalogueOf.{catalogue_of}
-use Rattle.set_script.specs.Objects.{value}
-use Rattle.set_script.specs.Lawful.{IsLawful}
-use Rattle.set_script.specs.Replies.{applies, overflows, reply, changes}
-use Rattle.set_script.specs.Rules.{capacity, IsInRange, Makes, IsSetCommit}
 use Rattle.set_script.specs.Tags.{tag_of}
-use Rattle.set_script.proofs.Ways as ways
-use Rattle.set_catalog.specs.Merges.{merged}
-use Rattle.set_catalog.specs.Plans.{head_of, DelPlan, AddPlan, PutPlan, MovePlan, PlanOf}
-use Rattle.set_catalog.specs.Replies.{changes_in}
-use Rattle.set_catalog.proofs.HeadNames.{head_below}
-use Rattle.set_catalog.proofs.Merging.{merged-is, touches-merged}
 use Rattle.set_catalog.proofs.MoveFacts.{move_fits}
-use Rattle.set_catalog.proofs.PlanWays.{AddedBy, RemovedBy, fit_add, fit_put_new, fit_put, fit_del, by_distinct}
-use Rattle.set_blocks.specs.BlockRules.{Remains}
+use Rattle.std.proofs.Common.{◌≡◌, ◌≢◌, ◌^◌, ◌<◌, ◌&&◌, ◌||◌, ℕ, inl, inr, Bool, true, false, cond, not, refl, sym, ap, ◌∙◌, subst}
+use Rattle.set_blocks.proofs.Terms.{State, Writes, written, touches, are_distinct, allowed_at_once, Command, Add, Put, Del, Has, Get, Move, Pair, Size, Next}
+use Rattle.set_blocks.proofs.Terms.{Yes, No, Full, Worn, Maps, map_of, has_key, has_entry, take_out, catalogue_of, value, IsLawful, applies, overflows, reply}
+use Rattle.set_blocks.proofs.Terms.{changes, capacity, IsInRange, Makes, IsSetCommit, merged, head_of, DelPlan, AddPlan, PutPlan, MovePlan, PlanOf, changes_in}
+use Rattle.set_blocks.proofs.Terms.{head_below, merged-is, touches-merged, AddedBy, RemovedBy, fit_add, fit_put_new, fit_put, fit_del, by_distinct, Remains}
 use Rattle.set_blocks.proofs.Remaining.{remains_itself}
 use Rattle.set_blocks.proofs.Stepping.{Covers, Spares, spares_both, written-merged, Stepped, StepAt}
 use Rattle.set_blocks.proofs.TrackedPlans.{ByTracked, by_way_there, tracked_remains, tracked_spares, added_tracked, removed_tracked, updated_tracked}
+use Rattle.set_script.proofs.Ways as ways
 
 -- a command that may change something and replies yes changes something
 yes_changes : (does over : Bool) → cond does (cond over Full (cond false Worn Yes)) No ≡ Yes → does && not over && not false ≡ true

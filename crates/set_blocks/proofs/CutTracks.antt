@@ -1,23 +1,10 @@
 -- The way to cut a leaf and its parent out of a tree is one that others don't disturb.
-use Rattle.std.proofs.Common.{◌≡◌, ◌≢◌, ℕ, suc, ◌<◌, ◌≤◌, inl, inr, true, [], ◌∷◌, refl, sym, ap, ◌∙◌, subst, arith}
-use Rattle.mv_history.specs.State.{State, Writes, written, touches}
-use Rattle.mv_history.specs.Meaning.{words_at}
-use Rattle.set_script.specs.Objects.{owner}
-use Rattle.set_script.specs.Trees.{IsGrown, seek, EndsAt}
-use Rattle.set_script.specs.Trees.Tree.{leaf}
-use Rattle.set_script.specs.Lawful.{IsLawful}
-use Rattle.set_script.proofs.ObjectWords.{word}
-use Rattle.section_work.proofs.Objects.{IsIn, in-touches}
-use Rattle.set_script.proofs.TreeShape.{seek_in, Stands-owner}
-use Rattle.tree_set.specs.Paths.{Turn, Path, plug}
-use Rattle.tree_set.specs.Places.{IsCutPlace, cut_writes, sibling}
-use Rattle.tree_set.proofs.Plugging.{distinct_part, stands_part, seek_plug, seek_beside}
-use Rattle.tree_set.proofs.Replacing.{redirect_keeps}
-use Rattle.tree_set.proofs.Turns.{beside, seek_turn}
 use Rattle.tree_set.proofs.Cutting.{IsTwig, Prunes, grown_less, cut_ends}
-use Rattle.tree_set.proofs.CutFit.{cut_twig, cut_prunes}
-use Rattle.tree_set.proofs.TreeWays.{inner_same, leaf_same, child_same, parent_same, cut_way}
-use Rattle.set_blocks.specs.BlockRules.{IsOfLists, Remains}
+use Rattle.tree_set.proofs.TreeWays.{cut_way}
+use Rattle.std.proofs.Common.{◌≡◌, ◌≢◌, ◌<◌, ◌≤◌, ◌∷◌, ℕ, suc, inl, inr, true, [], refl, sym, ap, ◌∙◌, subst, arith}
+use Rattle.set_blocks.proofs.Terms.{State, Writes, written, touches, words_at, owner, IsGrown, seek, EndsAt, leaf, IsLawful, word, IsIn, in-touches, seek_in}
+use Rattle.set_blocks.proofs.Terms.{Stands-owner, Turn, Path, plug, IsCutPlace, cut_writes, sibling, distinct_part, stands_part, seek_plug, seek_beside}
+use Rattle.set_blocks.proofs.Terms.{redirect_keeps, beside, seek_turn, cut_twig, cut_prunes, inner_same, leaf_same, child_same, parent_same, IsOfLists, Remains}
 use Rattle.set_blocks.proofs.Tracking.{Tracks}
 use Rattle.set_blocks.proofs.ListTracks.{vacant_of_none}
 use Rattle.set_blocks.proofs.TreeTracks.{parent_of_none, ends_once}

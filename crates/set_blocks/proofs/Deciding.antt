@@ -1,27 +1,11 @@
 -- What a block comes to in a state, as a work.
-use Rattle.std.proofs.Common.{◌≡◌, ℕ, ◌*◌, ◌≤◌, Bool, true, false, cond, List, [], length, refl, sym, ap, ◌∙◌, subst}
-use Rattle.std.proofs.Common.{take, drop}
-use Rattle.std.proofs.lemmas.List.{take-append-drop}
-use Rattle.mv_history.specs.State.{State, Writes, written, state_at}
-use Rattle.mv_history.specs.Drift.{Drifts}
-use Rattle.mv_history.specs.Legal.{IsAllowed}
-use Rattle.mv_history.specs.Meaning.{Seat, InSection, IsSeat}
 use Rattle.mv_history.proofs.Histories.{IsAllowed-front}
 use Rattle.section_work.specs.Works.{IsPlanned, IsHere}
-use Rattle.set_script.specs.declared.commands.Command.{Command}
-use Rattle.set_script.specs.declared.commands.Reply.{Reply}
-use Rattle.set_script.specs.CatalogueOf.{catalogue_of}
-use Rattle.set_script.specs.Lawful.{IsLawful, IsOpening}
-use Rattle.set_script.specs.Rules.{capacity}
 use Rattle.section_work.proofs.Entering.{reads_snapshot}
-use Rattle.set_blocks.specs.Blocks.{IsBlock}
-use Rattle.set_blocks.specs.BlockMeaning.{replies_in, block_changes_in}
-use Rattle.set_blocks.specs.BlockFindings.{IsBlockFound}
-use Rattle.set_blocks.specs.declared.finding.BlockFinding.TheVariants.{Settled, Open}
-use Rattle.set_blocks.specs.BlockMeaning.{MakesBlock, block_meaning}
-use Rattle.set_blocks.specs.BlockPlans.{BlockPlan}
-use Rattle.set_blocks.specs.BlockReplies.{after_turns}
-use Rattle.set_blocks.specs.BlockRules.{IsBlockCommit, block_tag}
+use Rattle.std.proofs.Common.{◌≡◌, ◌*◌, ◌≤◌, ℕ, Bool, true, false, cond, List, [], length, refl, sym, ap, ◌∙◌, subst, take, drop, take-append-drop}
+use Rattle.set_blocks.proofs.Terms.{State, Writes, written, state_at, Drifts, IsAllowed, Seat, InSection, IsSeat, Command, Reply, catalogue_of, IsLawful}
+use Rattle.set_blocks.proofs.Terms.{IsOpening, capacity, IsBlock, replies_in, block_changes_in, IsBlockFound, Settled, Open, MakesBlock, block_meaning}
+use Rattle.set_blocks.proofs.Terms.{BlockPlan, after_turns, IsBlockCommit, block_tag}
 use Rattle.set_blocks.proofs.Planning.{plan_runs, plan_ran}
 use Rattle.set_blocks.proofs.PlannedWrites.{plan_within, plan_writes}
 use Rattle.set_blocks.proofs.Remaining.{lawful_after}

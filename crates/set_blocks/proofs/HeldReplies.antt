@@ -1,44 +1,17 @@
 -- A command that changes nothing replies the same in every state that others may lead to while what its reply depends on is held.
-use Rattle.std.proofs.Common.{◌≡◌, ◌≢◌, ℕ, ◌^◌, ◌<◌, ◌≤◌, inl, inr, Bool, true, false, cond, not, ◌&&◌, List, [], ◌∷◌, ◌++◌}
-use Rattle.std.proofs.Common.{refl, sym, ap, ◌∙◌, subst, arith, true≢false, Option, Some, None, set}
-use Rattle.std.proofs.lemmas.List.{set-get_or}
-use Rattle.std.proofs.lemmas.Bool.{false_from_ne_true}
-use Rattle.mv_history.specs.State.{State, Writes, written}
-use Rattle.mv_history.specs.Meaning.{words_at}
-use Rattle.set_script.specs.declared.commands.Command.{Command}
-use Rattle.set_script.specs.declared.commands.Command.TheVariants.{Add, Put, Del, Has, Get, Move, Pair}
-use Rattle.set_script.specs.declared.commands.Reply.{Reply}
-use Rattle.set_script.specs.declared.commands.Reply.TheVariants.{Yes, No, Full, Worn, Both, NoKey, Value}
-use Rattle.set_script.specs.Catalogue.{Map, Maps, map_of, has_key, value_of}
-use Rattle.set_script.specs.CatalogueOf.{name_of, catalogue_of}
-use Rattle.set_script.specs.Objects.{key, value}
-use Rattle.set_script.specs.Lawful.{IsLawful}
-use Rattle.section_work.specs.OwnWrites.{objects_of}
-use Rattle.set_script.specs.Replies.{changed, applies, overflows, value_reply, reply, changes, next}
-use Rattle.set_script.specs.Rules.{capacity, IsInRange}
-use Rattle.set_script.specs.Trees.{EndsAt, seek}
-use Rattle.set_script.proofs.ObjectWords.{word}
-use Rattle.set_script.proofs.Entries.{has_entry-there}
-use Rattle.set_script.proofs.Heads.{name_bound, is_key_at-from}
 use Rattle.set_script.proofs.ListMaps.{map_at-holds}
 use Rattle.set_script.proofs.MapLemmas.{has_key-some}
 use Rattle.set_script.proofs.Mapped.{map_of-catalogue_of}
 use Rattle.set_script.proofs.TreeMaps.{map_of-root, seek_leaf}
-use Rattle.section_work.proofs.Objects.{IsIn, in_left, in_right, touches-in}
-use Rattle.set_script.proofs.TreeShape.{only_in}
-use Rattle.list_set.proofs.Adding.{add_absent}
-use Rattle.list_set.proofs.ListHalves.{node_has}
-use Rattle.list_set.proofs.Removing.{removal}
-use Rattle.tree_set.proofs.Found.{found_none}
-use Rattle.tree_set.proofs.TreeWays.{leaf_same, leaf_has}
-use Rattle.set_catalog.specs.Plans.{head_of}
-use Rattle.set_catalog.proofs.HeadNames.{low_head, low_fits, root_from, root_below, head_named}
-use Rattle.set_blocks.specs.BlockRules.{Remains}
-use Rattle.set_blocks.specs.BlockPlans.{LacksAt, HasAt, ValueAt, TellsAt, HoldPlan, holding}
-use Rattle.set_blocks.specs.BlockPlans.LacksAt.{before_gap, no_tree, other_leaf}
-use Rattle.set_blocks.specs.BlockPlans.HasAt.{before_node, own_leaf}
-use Rattle.set_blocks.specs.BlockPlans.ValueAt.{in_node, in_leaf}
-use Rattle.set_blocks.specs.BlockPlans.HoldPlan.{has_yes, has_no, del_no, add_no, get_none, get_value, put_no, move_from_none, move_to_one, pair_tells}
+use Rattle.std.proofs.Common.{◌≡◌, ◌≢◌, ◌^◌, ◌<◌, ◌≤◌, ◌&&◌, ◌∷◌, ◌++◌}
+use Rattle.set_blocks.proofs.Terms.{ℕ, inl, inr, Bool, true, false, cond, not, List, [], refl, sym, ap, ◌∙◌, subst, arith, true≢false, Option, Some, None, set}
+use Rattle.set_blocks.proofs.Terms.{set-get_or, false_from_ne_true, State, Writes, written, words_at, Command, Add, Put, Del, Has, Get, Move, Pair, Reply, Yes}
+use Rattle.set_blocks.proofs.Terms.{No, Full, Worn, Both, NoKey, Value, Map, Maps, map_of, has_key, value_of, name_of, catalogue_of, key, value, IsLawful}
+use Rattle.set_blocks.proofs.Terms.{objects_of, changed, applies, overflows, value_reply, reply, changes, next, capacity, IsInRange, EndsAt, seek, word}
+use Rattle.set_blocks.proofs.Terms.{has_entry-there, name_bound, is_key_at-from, IsIn, in_left, in_right, touches-in, only_in, add_absent, node_has, removal}
+use Rattle.set_blocks.proofs.Terms.{found_none, leaf_same, leaf_has, head_of, low_head, low_fits, root_from, root_below, head_named, Remains, LacksAt, HasAt}
+use Rattle.set_blocks.proofs.Terms.{ValueAt, TellsAt, HoldPlan, holding, before_gap, no_tree, other_leaf, before_node, own_leaf, in_node, in_leaf, has_yes}
+use Rattle.set_blocks.proofs.Terms.{has_no, del_no, add_no, get_none, get_value, put_no, move_from_none, move_to_one, pair_tells}
 use Rattle.set_blocks.proofs.Tracking.{AreHeld}
 use Rattle.set_blocks.proofs.ListTracks.{add_place_tracks, del_place_tracks}
 use Rattle.set_blocks.proofs.Stepping.{Covers, spares_none, Stepped, StepAt}

@@ -1,3 +1,4 @@
+pub mod Terms
 pub mod SingleBlocks
 pub mod Remaining
 pub mod Tracking

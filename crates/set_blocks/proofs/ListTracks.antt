@@ -1,23 +1,14 @@
 -- The ways to change a list are ones that others don't disturb: they commit nothing that these hold, and keep the keys of the nodes behind.
-use Rattle.std.proofs.Common.{◌≡◌, ℕ, suc, ◌<◌, ◌≤◌, ◌⊎◌, inl, inr, true, List, [], ◌∷◌, ◌++◌, length, refl, sym, ap, ◌∙◌, subst, arith}
-use Rattle.mv_history.specs.State.{State, Writes, written, touches}
-use Rattle.mv_history.specs.Meaning.{words_at}
-use Rattle.set_script.specs.Objects.{owner, key, link, no_words, relink, revalue}
 use Rattle.set_script.specs.Lists.{Nodes, first_of, FitsHead, Links, IsList}
-use Rattle.set_script.specs.Lawful.{IsLawful}
-use Rattle.set_script.proofs.ObjectWords.{word}
 use Rattle.set_script.proofs.Chains.{Links-right}
-use Rattle.set_script.proofs.Heads.{owned_kind}
-use Rattle.section_work.proofs.Objects.{IsIn, touches-in, in-touches}
-use Rattle.list_set.specs.Places.{IsInList, IsAddPlace, add_writes, IsDelPlace, del_writes, IsPutPlace, put_writes}
 use Rattle.list_set.proofs.Changes.{Added, Taken}
 use Rattle.list_set.proofs.Parts.{part_at, whole_list, place_in_range, place_not_vacant}
-use Rattle.list_set.proofs.Adding.{add_writes_do}
-use Rattle.list_set.proofs.Removing.{Removal, removal, del_writes_do}
 use Rattle.list_set.proofs.Putting.{Revalued, put_writes_do, put_in_range}
-use Rattle.list_set.proofs.ListHalves.{still_in}
 use Rattle.list_set.proofs.ListWays.{list_add_way, list_del_way, list_put_way}
-use Rattle.set_blocks.specs.BlockRules.{IsOfLists, Remains}
+use Rattle.std.proofs.Common.{◌≡◌, ◌<◌, ◌≤◌, ◌⊎◌, ◌∷◌, ◌++◌, ℕ, suc, inl, inr, true, List, [], length, refl, sym, ap, ◌∙◌, subst, arith}
+use Rattle.set_blocks.proofs.Terms.{State, Writes, written, touches, words_at, owner, key, link, no_words, relink, revalue, IsLawful, word, owned_kind, IsIn}
+use Rattle.set_blocks.proofs.Terms.{touches-in, in-touches, IsInList, IsAddPlace, add_writes, IsDelPlace, del_writes, IsPutPlace, put_writes, add_writes_do}
+use Rattle.set_blocks.proofs.Terms.{Removal, removal, del_writes_do, still_in, IsOfLists, Remains}
 use Rattle.set_blocks.proofs.Tracking.{IsReached, Tracks}
 
 -- an object of a list is the head or a node of one

@@ -1,11 +1,7 @@
 -- One write more over a view.
-use Rattle.std.proofs.Common.{◌≡◌, ℕ, Bool, true, false, cond, List, [], ◌∷◌, ◌++◌}
-use Rattle.std.proofs.lemmas.List.Elements.{All-push}
-use Rattle.mv_history.specs.State.{Writes, touches, rewritten}
-use Rattle.mv_history.specs.Legal.{IsWords, AreWrites, are_distinct}
 use Rattle.mv_history.specs.WordsLaws.{AreWrites-rewritten}
-use Rattle.set_catalog.specs.Merges.{merged_one}
-use Rattle.set_catalog.proofs.Merging.{merged-distinct}
+use Rattle.std.proofs.Common.{◌≡◌, ◌∷◌, ◌++◌, ℕ, Bool, true, false, cond, List, []}
+use Rattle.set_blocks.proofs.Terms.{All-push, Writes, touches, rewritten, IsWords, AreWrites, are_distinct, merged_one, merged-distinct}
 
 -- a write keeps the objects different, and has the width of words
 pub distinct-merged_one : (own : Writes) (o : ℕ) (w : List ℕ) → are_distinct own ≡ true → are_distinct (merged_one own o w) ≡ true

@@ -1,24 +1,8 @@
 -- What is planned for commands one after another, by a turn more.
-use Rattle.std.proofs.Common.{◌≡◌, ℕ, suc, ◌+◌, ◌<◌, Bool, true, false, ◌||◌}
-use Rattle.std.proofs.Common.{List, [], ◌∷◌, ◌++◌, length, take, drop, get_or}
-use Rattle.std.proofs.Common.{sym, ap, ◌∙◌, subst, true≢false, Some, None}
 use Rattle.std.proofs.Math.Seq.{split_at}
-use Rattle.std.proofs.lemmas.Bool.{false_from_ne_true}
-use Rattle.std.proofs.lemmas.List.{take_more}
-use Rattle.std.proofs.lemmas.List.Folds.{list_any_at}
-use Rattle.std.specs.List.{list_any}
-use Rattle.mv_history.specs.State.{State, Writes, written}
-use Rattle.set_script.specs.declared.commands.Command.{Command}
-use Rattle.set_script.specs.declared.commands.Reply.{Reply}
-use Rattle.set_script.specs.CatalogueOf.{catalogue_of}
-use Rattle.set_script.specs.Lawful.{IsLawful}
-use Rattle.set_script.specs.Rules.{capacity, IsInRange}
-use Rattle.set_catalog.specs.Merges.{merged}
-use Rattle.set_blocks.specs.Blocks.{stands_alone}
-use Rattle.set_blocks.specs.BlockPlans.{StepPlan, BlockPlan}
-use Rattle.set_blocks.specs.BlockPlans.BlockPlan.{nothing_yet, one_more}
-use Rattle.set_blocks.specs.BlockReplies.{some_full}
-use Rattle.set_blocks.specs.Turns.{TurnsTo}
+use Rattle.std.proofs.Common.{◌≡◌, ◌+◌, ◌<◌, ◌||◌, ◌∷◌, ◌++◌, ℕ, suc, Bool, true, false, List, [], length, take, drop, get_or, sym, ap, ◌∙◌, subst, true≢false}
+use Rattle.set_blocks.proofs.Terms.{Some, None, false_from_ne_true, take_more, list_any_at, list_any, State, Writes, written, Command, Reply, catalogue_of}
+use Rattle.set_blocks.proofs.Terms.{IsLawful, capacity, IsInRange, merged, stands_alone, StepPlan, BlockPlan, nothing_yet, one_more, some_full, TurnsTo}
 use Rattle.set_blocks.specs.declared.turns.Turn.{Turn}
 use Rattle.set_blocks.proofs.WholeTurns.{ran_here, full_at}
 

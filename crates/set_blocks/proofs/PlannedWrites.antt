@@ -1,37 +1,12 @@
 -- What a block locks and writes: objects of the state alone, and something where it changes something.
-use Rattle.std.proofs.Common.{◌≡◌, ℕ, ◌^◌, ◌<◌, inl, inr, Bool, true, false, ◌||◌}
-use Rattle.std.proofs.Common.{List, [], ◌∷◌, length}
-use Rattle.std.proofs.Common.{refl, sym, ap, ◌∙◌, subst, arith}
-use Rattle.mv_history.specs.State.{State, Writes, written, touches}
-use Rattle.mv_history.specs.Legal.{AreWithin}
-use Rattle.mv_history.proofs.Writing.{length-written}
-use Rattle.set_script.specs.declared.commands.Command.{Command}
-use Rattle.set_script.specs.declared.commands.Command.TheVariants.{Add, Put, Del, Has, Get, Move, Pair, Size, Next}
-use Rattle.set_script.specs.declared.commands.Reply.{Reply}
-use Rattle.set_script.specs.Lawful.{IsLawful}
-use Rattle.set_script.specs.Objects.{value}
-use Rattle.section_work.specs.OwnWrites.{objects_of}
-use Rattle.set_script.specs.Rules.{IsInRange}
-use Rattle.section_work.proofs.Objects.{IsIn, in_either, in-touches, touches-in}
-use Rattle.set_script.proofs.Ways.{IsAt}
-use Rattle.list_set.specs.Places.{del_writes, put_writes}
-use Rattle.tree_set.proofs.Around.{at_in_range}
-use Rattle.tree_set.proofs.TreeWays.{ends_at_root}
-use Rattle.set_catalog.specs.Merges.{merged}
-use Rattle.set_catalog.specs.Plans.{head_of, DelPlan, AddPlan, PutPlan, MovePlan, PlanOf}
-use Rattle.set_catalog.specs.Plans.AddPlan.{links, plants, grows}
-use Rattle.set_catalog.specs.Plans.DelPlan.{unlinks, bares, cuts}
-use Rattle.set_catalog.specs.Plans.PutPlan.{in_list, in_tree}
-use Rattle.set_catalog.proofs.HeadNames.{head_below}
-use Rattle.set_catalog.proofs.Merging.{merged-is, touches-merged, length-merged}
-use Rattle.set_catalog.proofs.PlanWays.{added_by, removed_by, by_within}
-use Rattle.set_blocks.specs.BlockPlans.{LacksAt, HasAt, ValueAt, TellsAt, HoldPlan, StepPlan, BlockPlan, holding}
-use Rattle.set_blocks.specs.BlockPlans.LacksAt.{before_gap, no_tree, other_leaf}
-use Rattle.set_blocks.specs.BlockPlans.HasAt.{before_node, own_leaf}
-use Rattle.set_blocks.specs.BlockPlans.ValueAt.{in_node, in_leaf}
-use Rattle.set_blocks.specs.BlockPlans.HoldPlan.{has_yes, has_no, del_no, add_no, get_none, get_value, put_no, move_from_none, move_to_one, pair_tells}
-use Rattle.set_blocks.specs.BlockPlans.StepPlan.{changing, keeping}
-use Rattle.set_blocks.specs.BlockPlans.BlockPlan.{nothing_yet, one_more}
+use Rattle.std.proofs.Common.{◌≡◌, ◌^◌, ◌<◌, ◌||◌, ◌∷◌, ℕ, inl, inr, Bool, true, false, List, [], length, refl, sym, ap, ◌∙◌, subst, arith}
+use Rattle.set_blocks.proofs.Terms.{State, Writes, written, touches, AreWithin, length-written, Command, Add, Put, Del, Has, Get, Move, Pair, Size, Next, Reply}
+use Rattle.set_blocks.proofs.Terms.{IsLawful, value, objects_of, IsInRange, IsIn, in_either, in-touches, touches-in, IsAt, del_writes, put_writes, at_in_range}
+use Rattle.set_blocks.proofs.Terms.{ends_at_root, merged, head_of, DelPlan, AddPlan, PutPlan, MovePlan, PlanOf, links, plants, grows, unlinks, bares, cuts}
+use Rattle.set_blocks.proofs.Terms.{in_list, in_tree, head_below, merged-is, touches-merged, length-merged, added_by, removed_by, by_within, LacksAt, HasAt}
+use Rattle.set_blocks.proofs.Terms.{ValueAt, TellsAt, HoldPlan, StepPlan, BlockPlan, holding, before_gap, no_tree, other_leaf, before_node, own_leaf, in_node}
+use Rattle.set_blocks.proofs.Terms.{in_leaf, has_yes, has_no, del_no, add_no, get_none, get_value, put_no, move_from_none, move_to_one, pair_tells, changing}
+use Rattle.set_blocks.proofs.Terms.{keeping, nothing_yet, one_more}
 use Rattle.set_blocks.proofs.WholeTurns.{ran_here}
 
 -- of merged writes each is of the one or of the other

@@ -1,15 +1,6 @@
 -- What a block plans in a state, command by command, is what it does in every state that others may lead to.
-use Rattle.std.proofs.Common.{Bool, List}
-use Rattle.mv_history.specs.State.{State, Writes, written}
-use Rattle.mv_history.specs.Drift.{Drifts}
-use Rattle.set_script.specs.declared.commands.Command.{Command}
-use Rattle.set_script.specs.declared.commands.Reply.{Reply}
-use Rattle.set_script.specs.Lawful.{IsLawful}
-use Rattle.set_script.specs.Rules.{IsInRange}
-use Rattle.set_blocks.specs.BlockPlans.{StepPlan, BlockPlan}
-use Rattle.set_blocks.specs.BlockPlans.StepPlan.{changing, keeping}
-use Rattle.set_blocks.specs.BlockPlans.BlockPlan.{nothing_yet, one_more}
-use Rattle.set_blocks.specs.BlockRules.{IsBlockCommit}
+use Rattle.set_blocks.proofs.Terms.{Bool, List, State, Writes, written, Drifts, Command, Reply, IsLawful, IsInRange, StepPlan, BlockPlan, changing, keeping}
+use Rattle.set_blocks.proofs.Terms.{nothing_yet, one_more, IsBlockCommit}
 use Rattle.set_blocks.proofs.Remaining.{remains_itself, remains_drifts}
 use Rattle.set_blocks.proofs.Stepping.{StepAt, RunsAt, Ran, runs_none, runs_more}
 use Rattle.set_blocks.proofs.Changing.{change_step}

@@ -1,20 +1,11 @@
 -- What the rules of the blocks say of each time of a store, and what remains while others commit.
-use Rattle.std.proofs.Common.{◌≡◌, ℕ, ◌≤◌, inl, inr, true, false, List, [], ◌∷◌, ◌++◌, refl, sym, ap, ◌∙◌, subst}
-use Rattle.std.proofs.Common.{arith, append_assoc, append-nil}
 use Rattle.mv_history.specs.declared.history.Entry.{Entry}
 use Rattle.mv_history.specs.declared.history.Entry.TheVariants.{Rest, Change}
-use Rattle.mv_history.specs.State.{State, Writes, written, touches, writes_of, state_after}
-use Rattle.mv_history.specs.Legal.{AreApart, NoneWrites, IsAllowed}
-use Rattle.mv_history.specs.Meaning.{words_at}
-use Rattle.mv_history.specs.Drift.{Drifts}
-use Rattle.std.proofs.lemmas.List.Elements.{All-head, All-tail}
-use Rattle.mv_history.proofs.Writing.{state_after-append, length-written, words-written_other}
-use Rattle.mv_history.proofs.Drifting.{drift_keeps_apart}
-use Rattle.set_script.specs.Objects.{key, link}
-use Rattle.set_script.specs.Lawful.{IsLawful, IsOpening}
-use Rattle.set_script.proofs.ObjectWords.{word}
 use Rattle.set_script.proofs.Opening.{opening_lawful}
-use Rattle.set_blocks.specs.BlockRules.{IsOfLists, IsBlockCommit, Remains}
+use Rattle.std.proofs.Common.{◌≡◌, ◌≤◌, ◌∷◌, ◌++◌, ℕ, inl, inr, true, false, List, [], refl, sym, ap, ◌∙◌, subst, arith, append_assoc, append-nil}
+use Rattle.set_blocks.proofs.Terms.{State, Writes, written, touches, writes_of, state_after, AreApart, NoneWrites, IsAllowed, words_at, Drifts, All-head}
+use Rattle.set_blocks.proofs.Terms.{All-tail, state_after-append, length-written, words-written_other, drift_keeps_apart, key, link, IsLawful, IsOpening, word}
+use Rattle.set_blocks.proofs.Terms.{IsOfLists, IsBlockCommit, Remains}
 
 lawful_on : (start : State) (front es : List Entry) → IsLawful (state_after start front) → IsAllowed IsBlockCommit start (front ++ es)
     → IsLawful (state_after start (front ++ es))

@@ -1,24 +1,12 @@
 -- The ways to plant and to bare a tree, and to put another value at a leaf, are ones that others don't disturb.
-use Rattle.std.proofs.Common.{◌≡◌, ℕ, ◌^◌, ◌<◌, ◌≤◌, inl, inr, true, List, [], ◌∷◌, refl, sym, ap, ◌∙◌, subst, arith}
-use Rattle.mv_history.specs.State.{State, Writes, written, touches}
-use Rattle.mv_history.specs.Meaning.{words_at}
-use Rattle.mv_history.proofs.Writing.{words-written_same}
-use Rattle.set_script.specs.Objects.{kind, link, value, leaf_words, no_words, relink, revalue}
-use Rattle.set_script.specs.Trees.{top, IsGrown, seek, EndsAt}
-use Rattle.set_script.specs.Trees.Tree.{leaf}
-use Rattle.set_script.specs.TreeLaws.{top_is_node}
-use Rattle.set_script.specs.Lawful.{IsLawful}
-use Rattle.set_script.proofs.ObjectWords.{word, kind-revalue, owned_in_range}
-use Rattle.section_work.proofs.Objects.{IsIn, in-touches}
-use Rattle.set_script.proofs.Ways.{IsVacant}
-use Rattle.list_set.specs.Places.{put_writes}
-use Rattle.tree_set.specs.Paths.{Path, plug, Follows}
-use Rattle.tree_set.specs.Places.{IsLeaf, plant_writes, IsBarePlace, bare_writes}
 use Rattle.tree_set.proofs.Ends.{no_tree, plant_distinct, plant_half, bare_tree, bare_distinct}
-use Rattle.tree_set.proofs.CutFit.{tree_with, path_to_leaf}
 use Rattle.tree_set.proofs.Putting.{put_grown, put_ends}
-use Rattle.tree_set.proofs.TreeWays.{leaf_same, plant_way, bare_way, put_way}
-use Rattle.set_blocks.specs.BlockRules.{IsOfLists, Remains}
+use Rattle.tree_set.proofs.TreeWays.{plant_way, bare_way, put_way}
+use Rattle.std.proofs.Common.{◌≡◌, ◌^◌, ◌<◌, ◌≤◌, ◌∷◌}
+use Rattle.set_blocks.proofs.Terms.{ℕ, inl, inr, true, List, [], refl, sym, ap, ◌∙◌, subst, arith, State, Writes, written, touches, words_at}
+use Rattle.set_blocks.proofs.Terms.{words-written_same, kind, link, value, leaf_words, no_words, relink, revalue, top, IsGrown, seek, EndsAt, leaf, top_is_node}
+use Rattle.set_blocks.proofs.Terms.{IsLawful, word, kind-revalue, owned_in_range, IsIn, in-touches, IsVacant, put_writes, Path, plug, Follows, IsLeaf}
+use Rattle.set_blocks.proofs.Terms.{plant_writes, IsBarePlace, bare_writes, tree_with, path_to_leaf, leaf_same, IsOfLists, Remains}
 use Rattle.set_blocks.proofs.Tracking.{Tracks}
 use Rattle.set_blocks.proofs.ListTracks.{vacant_of_none}
 use Rattle.set_blocks.proofs.TreeTracks.{tree_of_none, ends_once}

@@ -1,14 +1,8 @@
 -- A block of one command does what the command does; and how many replies a block has.
-use Rattle.std.proofs.Common.{◌≡◌, ℕ, suc, Bool, true, false, cond, not, ◌&&◌, ◌||◌, List, [], ◌∷◌, length, replicate}
-use Rattle.std.proofs.Common.{refl, ap, ◌∙◌, Option, Some, None}
-use Rattle.std.proofs.lemmas.List.{length-replicate}
-use Rattle.set_script.specs.Catalogue.{Maps, map_of, has_key, value_of, next_key}
-use Rattle.set_script.specs.Replies.{changed, applies, overflows, value_reply, key_reply, reply, changes, next}
-use Rattle.set_script.specs.declared.commands.Command.{Command}
-use Rattle.set_script.specs.declared.commands.Command.TheVariants.{Add, Put, Del, Has, Get, Move, Pair, Size, Next}
-use Rattle.set_script.specs.declared.commands.Reply.{Reply}
-use Rattle.set_script.specs.declared.commands.Reply.TheVariants.{Yes, No, Full, Worn}
-use Rattle.set_blocks.specs.BlockReplies.{turn_replies, is_full, some_full, would_change, block_replies, block_changes, block_next}
+use Rattle.std.proofs.Common.{◌≡◌, ◌&&◌, ◌||◌, ◌∷◌, ℕ, suc, Bool, true, false, cond, not, List, [], length, replicate, refl, ap, ◌∙◌, Option, Some, None}
+use Rattle.set_blocks.proofs.Terms.{length-replicate, Maps, map_of, has_key, value_of, next_key, changed, applies, overflows, value_reply, key_reply, reply}
+use Rattle.set_blocks.proofs.Terms.{changes, next, Command, Add, Put, Del, Has, Get, Move, Pair, Size, Next, Reply, Yes, No, Full, Worn, turn_replies, is_full}
+use Rattle.set_blocks.proofs.Terms.{some_full, would_change, block_replies, block_changes, block_next}
 
 -- the reply to a change that applies or not, overflows or not, at the last time or not
 abbrev answer : Bool → Bool → Bool → Reply

@@ -1,32 +1,11 @@
 -- One command more of a block, in the state that those before it leave, and in every state that others may lead to meanwhile.
-use Rattle.std.proofs.Common.{◌≡◌, ◌≢◌, ℕ, suc, ◌<◌, ◌≤◌, ◌-◌, ◌⊎◌, inl, inr, Bool, true, false, ◌||◌, List, [], ◌∷◌, ◌++◌, length}
-use Rattle.std.proofs.Common.{refl, sym, ap, ◌∙◌, subst, arith, Option, Some, None}
-use Rattle.std.proofs.lemmas.Bool.{cases_lt}
-use Rattle.mv_history.specs.State.{State, Writes, written, touches}
-use Rattle.mv_history.specs.Legal.{are_distinct}
-use Rattle.mv_history.specs.Meaning.{words_at}
-use Rattle.mv_history.specs.Drift.{IsFit}
-use Rattle.mv_history.proofs.Writing.{length-written, words-written_other}
-use Rattle.set_script.specs.declared.commands.Command.{Command}
-use Rattle.set_script.specs.declared.commands.Reply.{Reply}
-use Rattle.set_script.specs.Catalogue.{Maps}
-use Rattle.set_script.specs.CatalogueOf.{catalogue_of}
-use Rattle.set_script.specs.Replies.{reply, changes, next}
-use Rattle.set_script.specs.Rules.{capacity, Keeps}
-use Rattle.set_script.specs.Objects.{first_node, first_root, owner, kind, key, link}
-use Rattle.section_work.specs.OwnWrites.{with_locks, objects_of}
-use Rattle.set_script.specs.Trees.{Tree, objects_in, Stands, IsTree, EndsAt}
-use Rattle.set_script.specs.Trees.Tree.{leaf, inner}
-use Rattle.set_script.specs.Lawful.{IsLawful}
-use Rattle.set_script.proofs.ObjectWords.{word}
-use Rattle.section_work.proofs.OwnWrites.{touches-with_locks, distinct-with_locks, written-with_locks, written-with_writes}
-use Rattle.section_work.proofs.Objects.{IsIn, in_either}
-use Rattle.set_script.proofs.TreeShape.{only_in}
-use Rattle.list_set.specs.Places.{IsInList}
-use Rattle.set_catalog.specs.Merges.{merged}
-use Rattle.set_catalog.proofs.Merging.{merged-is, merged-distinct, touches-merged}
-use Rattle.set_blocks.specs.BlockReplies.{turn_replies, after_turns, some_changes}
-use Rattle.set_blocks.specs.BlockRules.{block_tag, IsOfLists, IsBlockCommit, Remains}
+use Rattle.std.proofs.Common.{◌≡◌, ◌≢◌, ◌<◌, ◌≤◌, ◌-◌, ◌⊎◌, ◌||◌, ◌∷◌, ◌++◌}
+use Rattle.set_blocks.proofs.Terms.{ℕ, suc, inl, inr, Bool, true, false, List, [], length, refl, sym, ap, ◌∙◌, subst, arith, Option, Some, None, cases_lt}
+use Rattle.set_blocks.proofs.Terms.{State, Writes, written, touches, are_distinct, words_at, IsFit, length-written, words-written_other, Command, Reply, Maps}
+use Rattle.set_blocks.proofs.Terms.{catalogue_of, reply, changes, next, capacity, Keeps, first_node, first_root, owner, kind, key, link, with_locks, objects_of}
+use Rattle.set_blocks.proofs.Terms.{Tree, objects_in, Stands, IsTree, EndsAt, leaf, inner, IsLawful, word, touches-with_locks, distinct-with_locks}
+use Rattle.set_blocks.proofs.Terms.{written-with_locks, written-with_writes, IsIn, in_either, only_in, IsInList, merged, merged-is, merged-distinct}
+use Rattle.set_blocks.proofs.Terms.{touches-merged, turn_replies, after_turns, some_changes, block_tag, IsOfLists, IsBlockCommit, Remains}
 use Rattle.set_blocks.proofs.Remaining.{of_lists-same, remains_drifts}
 use Rattle.set_blocks.proofs.ListTracks.{behind}
 

@@ -1,22 +1,10 @@
 -- What a search found tells whether the key is there.
-use Rattle.std.proofs.Common.{◌≡◌, ◌≢◌, ℕ, ◌<◌, ◌≤◌, Bool, true, false, not, ◌&&◌, eqb, List, [], ◌∷◌, refl, sym, ap, arith, inl, inr}
-use Rattle.std.proofs.lemmas.Bool.{cases_lt}
 use Rattle.std.proofs.lemmas.Bool.Decides.{nat_tests}
-use Rattle.mv_history.specs.State.{State}
-use Rattle.mv_history.specs.Meaning.{words_at}
-use Rattle.set_script.proofs.ObjectWords.{word}
-use Rattle.list_set.specs.Walks.{IsSpot}
-use Rattle.list_set.specs.Places.{add_writes, del_writes}
 use Rattle.list_set.proofs.Spots.{add_found, del_found}
-use Rattle.tree_set.specs.Walks.{IsFork}
-use Rattle.tree_set.proofs.Found.{found_leaf, found_grow, found_words}
 use Rattle.set_catalog.specs.Needs.{first_tree}
-use Rattle.set_catalog.specs.Plans.{head_of}
-use Rattle.set_catalog.proofs.HeadNames.{low_head, root_from}
-use Rattle.set_blocks.specs.BlockPlans.{TellsAt, ValueAt}
-use Rattle.set_blocks.specs.BlockPlans.ValueAt.{in_node, in_leaf}
-use Rattle.set_blocks.specs.BlockPlans.LacksAt.{before_gap, other_leaf}
-use Rattle.set_blocks.specs.BlockPlans.HasAt.{before_node, own_leaf}
+use Rattle.std.proofs.Common.{◌≡◌, ◌≢◌, ◌<◌, ◌≤◌, ◌&&◌, ◌∷◌, ℕ, Bool, true, false, not, eqb, List, [], refl, sym, ap, arith, inl, inr}
+use Rattle.set_blocks.proofs.Terms.{cases_lt, State, words_at, word, IsSpot, add_writes, del_writes, IsFork, found_leaf, found_grow, found_words, head_of}
+use Rattle.set_blocks.proofs.Terms.{low_head, root_from, TellsAt, ValueAt, in_node, in_leaf, before_gap, other_leaf, before_node, own_leaf}
 
 -- a search in a list
 pub list_tells : (s : State) (name k p : ℕ) (words : List ℕ) (node : ℕ) (node_words : List ℕ) (b : Bool) → name < first_tree

@@ -1,23 +1,12 @@
 -- What is planned for a change is written by a way that others don't disturb.
-use Rattle.std.proofs.Common.{◌≡◌, ℕ, ◌^◌, ◌<◌, true, false, ◌++◌, Some, refl, sym, ap, ◌∙◌, subst}
-use Rattle.mv_history.specs.State.{State, Writes, written, touches}
-use Rattle.set_script.specs.Catalogue.{Map, map_of, has_entry, value_of, put, take_out}
-use Rattle.set_script.specs.CatalogueOf.{name_of, catalogue_of}
-use Rattle.set_script.specs.Objects.{value}
-use Rattle.set_script.specs.Lawful.{IsLawful}
-use Rattle.set_script.specs.Rules.{Keeps}
-use Rattle.section_work.proofs.Objects.{IsIn, in_left, in_right, touches-in}
-use Rattle.set_script.proofs.Ways.{AreVacant, Way, Lacks, Has, HasOther}
-use Rattle.list_set.proofs.ListHalves.{node_has}
+use Rattle.set_script.proofs.Ways.{Has}
 use Rattle.list_set.proofs.ListWays.{list_add_way, list_del_way, list_put_way}
-use Rattle.tree_set.proofs.TreeWays.{grow_way, plant_way, cut_way, bare_way, put_way, leaf_has}
-use Rattle.set_catalog.specs.Plans.{head_of, DelPlan, AddPlan, PutPlan}
-use Rattle.set_catalog.specs.Plans.DelPlan.{unlinks, bares, cuts}
-use Rattle.set_catalog.specs.Plans.AddPlan.{links, plants, grows}
-use Rattle.set_catalog.specs.Plans.PutPlan.{in_list, in_tree}
-use Rattle.set_catalog.proofs.HeadNames.{low_head, low_fits, root_from, root_below, head_named}
-use Rattle.set_catalog.proofs.PlanWays.{ByWay, vacant_one, vacant_two, other_than}
-use Rattle.set_blocks.specs.BlockRules.{Remains}
+use Rattle.tree_set.proofs.TreeWays.{grow_way, plant_way, cut_way, bare_way, put_way}
+use Rattle.std.proofs.Common.{◌≡◌, ◌^◌, ◌<◌, ◌++◌}
+use Rattle.set_blocks.proofs.Terms.{ℕ, true, false, Some, refl, sym, ap, ◌∙◌, subst, State, Writes, written, touches, Map, map_of, has_entry, value_of, put}
+use Rattle.set_blocks.proofs.Terms.{take_out, name_of, catalogue_of, value, IsLawful, Keeps, IsIn, in_left, in_right, touches-in, AreVacant, Way, Lacks}
+use Rattle.set_blocks.proofs.Terms.{HasOther, node_has, leaf_has, head_of, DelPlan, AddPlan, PutPlan, unlinks, bares, cuts, links, plants, grows, in_list}
+use Rattle.set_blocks.proofs.Terms.{in_tree, low_head, low_fits, root_from, root_below, head_named, ByWay, vacant_one, vacant_two, other_than, Remains}
 use Rattle.set_blocks.proofs.Stepping.{Covers, Spares, spares_keeps}
 use Rattle.set_blocks.proofs.Tracking.{Both, Tracks, tracked_place, tracked_vacant, tracked_writes, tracked_half, remains_after}
 use Rattle.set_blocks.proofs.ListTracks.{list_add_tracks, list_del_tracks, list_put_tracks}

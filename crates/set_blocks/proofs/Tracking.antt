@@ -1,20 +1,9 @@
 -- What remains of a state while others commit still remains once the same change is made in both states.
-use Rattle.std.proofs.Common.{◌≡◌, ◌≢◌, ℕ, ◌<◌, ◌≤◌, ◌⊎◌, inl, inr, Bool, true, false, List, refl, sym, ap, ◌∙◌, subst, arith}
-use Rattle.std.proofs.lemmas.Bool.{cases_eq}
-use Rattle.mv_history.specs.State.{State, Writes, written, touches}
-use Rattle.mv_history.specs.Meaning.{words_at}
-use Rattle.mv_history.proofs.Writing.{length-written, words-written_other}
-use Rattle.set_script.specs.Catalogue.{Map}
-use Rattle.set_script.specs.Objects.{key, link}
-use Rattle.set_script.specs.Trees.{EndsAt}
-use Rattle.set_script.specs.Lawful.{IsLawful}
-use Rattle.set_script.proofs.ObjectWords.{word}
-use Rattle.section_work.proofs.Objects.{IsIn, in_either, in-touches}
-use Rattle.section_work.proofs.OwnWrites.{words-written_as}
 use Rattle.set_script.proofs.Frames.{ends_stay}
 use Rattle.set_script.proofs.Halves.{Half, within_back}
-use Rattle.set_script.proofs.Ways.{AreVacant, Way, vacant_same}
-use Rattle.set_blocks.specs.BlockRules.{IsOfLists, Remains}
+use Rattle.std.proofs.Common.{◌≡◌, ◌≢◌, ◌<◌, ◌≤◌, ◌⊎◌, ℕ, inl, inr, Bool, true, false, List, refl, sym, ap, ◌∙◌, subst, arith}
+use Rattle.set_blocks.proofs.Terms.{cases_eq, State, Writes, written, touches, words_at, length-written, words-written_other, Map, key, link, EndsAt, IsLawful}
+use Rattle.set_blocks.proofs.Terms.{word, IsIn, in_either, in-touches, words-written_as, AreVacant, Way, vacant_same, IsOfLists, Remains}
 use Rattle.set_blocks.proofs.Remaining.{of_lists-same}
 
 -- all of these objects are held

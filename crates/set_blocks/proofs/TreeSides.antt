@@ -1,17 +1,9 @@
 -- Where a search ends that ended at a leaf, once the leaf is cut out of its tree: where another key's search ended before.
-use Rattle.std.proofs.Common.{◌≡◌, ℕ, suc, ◌-◌, ◌<◌, ◌≤◌, ◌⊎◌, inl, inr, [], ◌∷◌, ◌++◌, refl, sym, ap, ◌∙◌, subst, arith}
-use Rattle.mv_history.specs.State.{State}
-use Rattle.mv_history.specs.Meaning.{words_at}
-use Rattle.set_script.specs.Trees.{Tree, top, objects_in, IsDistinct, AllBelow, AllFrom, IsOrdered, Stands, seek}
-use Rattle.set_script.specs.Trees.Tree.{leaf, inner}
-use Rattle.set_script.proofs.ObjectWords.{word}
-use Rattle.section_work.proofs.Objects.{IsIn}
-use Rattle.set_script.proofs.TreeShape.{seek_in, seek_left, seek_right, top_in}
-use Rattle.tree_set.specs.Paths.{Turn, Path, plug, node_of, Follows, around}
 use Rattle.tree_set.specs.Paths.Turn.{left, right}
-use Rattle.tree_set.proofs.Plugging.{plug_in, plug_apart, ordered_part, ordered_within, IsWithin, seek_plug}
-use Rattle.tree_set.proofs.Plugging.{seek_beside}
-use Rattle.tree_set.proofs.Turns.{beside, plug_last, follows_front, follows_back, beside_not_leaf}
+use Rattle.std.proofs.Common.{◌≡◌, ◌-◌, ◌<◌, ◌≤◌, ◌⊎◌, ◌∷◌, ◌++◌, ℕ, suc, inl, inr, [], refl, sym, ap, ◌∙◌, subst, arith}
+use Rattle.set_blocks.proofs.Terms.{State, words_at, Tree, top, objects_in, IsDistinct, AllBelow, AllFrom, IsOrdered, Stands, seek, leaf, inner, word, IsIn}
+use Rattle.set_blocks.proofs.Terms.{seek_in, seek_left, seek_right, top_in, Turn, Path, plug, node_of, Follows, around, plug_in, plug_apart, ordered_part}
+use Rattle.set_blocks.proofs.Terms.{ordered_within, IsWithin, seek_plug, seek_beside, beside, plug_last, follows_front, follows_back, beside_not_leaf}
 
 -- a search that ends at the leaf takes the path to it
 pub follows_end : (ps : Path) (l j x i : ℕ) → IsDistinct (objects_in (plug ps (leaf l j x))) → seek i (plug ps (leaf l j x)) ≡ l → Follows i ps

@@ -1,26 +1,12 @@
 -- The ways to change a tree are ones that others don't disturb: they commit nothing that these hold, and leave the searches that end at held leaves.
-use Rattle.std.proofs.Common.{◌≡◌, ◌≢◌, ℕ, suc, ◌^◌, ◌<◌, ◌≤◌, ◌⊎◌, inl, inr, Bool, true, false, cond, nat_lt}
-use Rattle.std.proofs.Common.{[], ◌∷◌, refl, sym, ap, ◌∙◌, subst, arith}
-use Rattle.std.proofs.lemmas.Bool.{cases_eq}
-use Rattle.mv_history.specs.State.{State, Writes, written, touches}
-use Rattle.mv_history.specs.Meaning.{words_at}
-use Rattle.set_script.specs.Objects.{owner, kind, key, leaf_words, inner_words}
-use Rattle.set_script.specs.Trees.{Tree, Stands, IsGrown, seek, EndsAt}
-use Rattle.set_script.specs.Trees.Tree.{leaf}
-use Rattle.set_script.specs.TreeLaws.{grown_once}
-use Rattle.set_script.specs.Lawful.{IsLawful}
-use Rattle.set_script.proofs.ObjectWords.{word}
-use Rattle.section_work.proofs.Objects.{IsIn, in-touches}
-use Rattle.set_script.proofs.Ways.{IsVacant}
-use Rattle.tree_set.specs.Paths.{Path, plug, Follows}
-use Rattle.tree_set.specs.Places.{IsParent, IsGrowPlace, grow_writes}
-use Rattle.tree_set.proofs.Plugging.{stands_part, seek_plug, seek_beside}
-use Rattle.tree_set.proofs.Around.{part_not_parent, owned_not_vacant}
-use Rattle.tree_set.proofs.Replacing.{redirect_keeps}
 use Rattle.tree_set.proofs.Growing.{IsSite, Sprouts, sprout, grown_more, grow_ends}
 use Rattle.tree_set.proofs.GrowFit.{grow_site, grow_sprouts}
-use Rattle.tree_set.proofs.TreeWays.{parent_same, grow_way}
-use Rattle.set_blocks.specs.BlockRules.{IsOfLists, Remains}
+use Rattle.tree_set.proofs.TreeWays.{grow_way}
+use Rattle.std.proofs.Common.{◌≡◌, ◌≢◌, ◌^◌, ◌<◌, ◌≤◌, ◌⊎◌, ◌∷◌}
+use Rattle.set_blocks.proofs.Terms.{ℕ, suc, inl, inr, Bool, true, false, cond, nat_lt, [], refl, sym, ap, ◌∙◌, subst, arith, cases_eq, State, Writes, written}
+use Rattle.set_blocks.proofs.Terms.{touches, words_at, owner, kind, key, leaf_words, inner_words, Tree, Stands, IsGrown, seek, EndsAt, leaf, grown_once}
+use Rattle.set_blocks.proofs.Terms.{IsLawful, word, IsIn, in-touches, IsVacant, Path, plug, Follows, IsParent, IsGrowPlace, grow_writes, stands_part, seek_plug}
+use Rattle.set_blocks.proofs.Terms.{seek_beside, part_not_parent, owned_not_vacant, redirect_keeps, parent_same, IsOfLists, Remains}
 use Rattle.set_blocks.proofs.Tracking.{Tracks}
 use Rattle.set_blocks.proofs.TreeSides.{follows_end}
 

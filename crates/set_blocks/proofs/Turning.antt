@@ -1,32 +1,13 @@
 -- What a command comes to at its turn, from what was found and held.
-use Rattle.std.proofs.Common.{◌≡◌, ℕ, ◌+◌, ◌-◌, ◌^◌, ◌==◌, suc, min, ◌<◌, ◌≤◌}
-use Rattle.std.proofs.Common.{Bool, true, false, not, ◌&&◌, eqb, eqb-true, cond}
-use Rattle.std.proofs.Common.{List, [], ◌∷◌, ◌++◌, length, drop, take, slice_index_or}
-use Rattle.std.proofs.Common.{refl, sym, ap, ◌∙◌, subst, arith, true≢false, Option, Some, None}
-use Rattle.std.proofs.lemmas.List.{length-drop, length-take, length-take-le}
-use Rattle.mv_history.specs.State.{State, Writes, written}
-use Rattle.mv_history.specs.Legal.{are_distinct}
-use Rattle.mv_history.specs.Meaning.{words_at}
-use Rattle.set_script.specs.declared.commands.Command.{Command}
-use Rattle.set_script.specs.declared.commands.Command.TheVariants.{Add, Put, Del, Has, Get, Move, Pair, Size, Next}
-use Rattle.set_script.specs.declared.commands.Reply.{Reply}
-use Rattle.set_script.specs.declared.commands.Reply.TheVariants.{Yes, No, Full, Worn, Both, Count, Key, NoKey, Value}
-use Rattle.set_script.specs.Catalogue.{map_of, has_key, value_of, has_entry}
-use Rattle.set_script.specs.CatalogueOf.{catalogue_of}
-use Rattle.set_script.specs.Lawful.{IsLawful}
-use Rattle.set_script.specs.Replies.{applies, overflows, value_reply}
-use Rattle.set_script.specs.Rules.{capacity}
-use Rattle.set_script.proofs.Entries.{has_entry-value, has_entry-absent}
-use Rattle.section_work.proofs.Objects.{touches-in}
-use Rattle.set_catalog.specs.Merges.{merged, merged_one}
-use Rattle.set_catalog.specs.Picks.{count_vacant, vacant_nodes}
-use Rattle.set_catalog.specs.Replies.{reply_in, changes_in}
-use Rattle.set_blocks.specs.BlockPlans.{ValueAt, TellsAt, StepPlan, holding}
-use Rattle.set_blocks.specs.BlockPlans.HoldPlan.{has_yes, has_no, del_no, add_no, get_none, get_value, put_no, move_from_none, move_to_one, pair_tells}
-use Rattle.set_blocks.specs.BlockPlans.StepPlan.{keeping}
-use Rattle.set_blocks.specs.BlockReplies.{is_full}
+use Rattle.std.proofs.lemmas.List.{length-take}
+use Rattle.std.proofs.Common.{◌≡◌, ◌+◌, ◌-◌, ◌^◌, ◌==◌, ◌<◌, ◌≤◌, ◌&&◌, ◌∷◌, ◌++◌, ℕ, suc, min, Bool, true, false, not, eqb, eqb-true, cond, List, [], length}
+use Rattle.set_blocks.proofs.Terms.{drop, take, slice_index_or, refl, sym, ap, ◌∙◌, subst, arith, true≢false, Option, Some, None, length-drop, length-take-le}
+use Rattle.set_blocks.proofs.Terms.{State, Writes, written, are_distinct, words_at, Command, Add, Put, Del, Has, Get, Move, Pair, Size, Next, Reply, Yes, No}
+use Rattle.set_blocks.proofs.Terms.{Full, Worn, Both, Count, Key, NoKey, Value, map_of, has_key, value_of, has_entry, catalogue_of, IsLawful, applies}
+use Rattle.set_blocks.proofs.Terms.{overflows, value_reply, capacity, has_entry-value, has_entry-absent, touches-in, merged, merged_one, count_vacant}
+use Rattle.set_blocks.proofs.Terms.{vacant_nodes, reply_in, changes_in, ValueAt, TellsAt, StepPlan, holding, has_yes, has_no, del_no, add_no, get_none}
+use Rattle.set_blocks.proofs.Terms.{get_value, put_no, move_from_none, move_to_one, pair_tells, keeping, is_full, HoldsReply}
 use Rattle.set_blocks.specs.Holds.{HoldsKey, HoldsValue}
-use Rattle.set_blocks.specs.Turns.{HoldsReply}
 use Rattle.set_blocks.proofs.HeldReplies.{tells_there, value_there, objects-holding, written-holding}
 use Rattle.set_blocks.proofs.Remaining.{remains_itself}
 use Rattle.set_blocks.proofs.Stepping.{written-merged}

@@ -1,30 +1,10 @@
 -- What a block replies and changes in a state, from the turns of its commands.
-use Rattle.std.proofs.Common.{◌≡◌, ℕ, ◌-◌, Bool, true, false, not, ◌&&◌, ◌||◌, cond}
-use Rattle.std.proofs.Common.{List, [], ◌∷◌, ◌++◌, length, replicate, get_or}
-use Rattle.std.proofs.Common.{refl, sym, ap, ap₂, ◌∙◌, subst, true≢false, arith}
-use Rattle.std.specs.List.{list_any}
-use Rattle.std.proofs.lemmas.List.Folds.{list_any-append}
-use Rattle.mv_history.specs.State.{State, Writes, written}
-use Rattle.mv_history.proofs.Writing.{length-written}
-use Rattle.set_script.specs.declared.commands.Command.{Command}
-use Rattle.set_script.specs.declared.commands.Command.TheVariants.{Size, Next}
-use Rattle.set_script.specs.declared.commands.Reply.{Reply}
-use Rattle.set_script.specs.declared.commands.Reply.TheVariants.{Full, Worn}
-use Rattle.set_script.specs.Catalogue.{Maps}
-use Rattle.set_script.specs.CatalogueOf.{catalogue_of}
-use Rattle.set_script.specs.Lawful.{IsLawful}
-use Rattle.set_script.specs.Replies.{reply, next}
-use Rattle.set_script.specs.Rules.{capacity}
-use Rattle.set_catalog.specs.Replies.{reply_in, changes_in}
-use Rattle.set_blocks.specs.Blocks.{stands_alone, IsBlock}
-use Rattle.set_blocks.specs.BlockMeaning.{replies_in, block_changes_in}
-use Rattle.set_blocks.specs.BlockFindings.{IsBlockFound, found_by}
-use Rattle.set_blocks.specs.BlockPlans.{HoldPlan, StepPlan, BlockPlan}
-use Rattle.set_blocks.specs.BlockPlans.HoldPlan.{has_yes, has_no, del_no, add_no, get_none, get_value, put_no, move_from_none, move_to_one, pair_tells}
-use Rattle.set_blocks.specs.BlockPlans.StepPlan.{changing, keeping}
-use Rattle.set_blocks.specs.BlockPlans.BlockPlan.{nothing_yet, one_more}
-use Rattle.set_blocks.specs.BlockReplies.{turn_replies, after_turns, some_changes, is_full, some_full, would_change}
-use Rattle.set_blocks.specs.declared.finding.BlockFinding.TheVariants.{Settled, Open}
+use Rattle.std.proofs.Common.{◌≡◌, ◌-◌, ◌&&◌, ◌||◌, ◌∷◌, ◌++◌, ℕ, Bool, true, false, not, cond, List, [], length, replicate, get_or, refl, sym, ap, ap₂, ◌∙◌}
+use Rattle.set_blocks.proofs.Terms.{subst, true≢false, arith, list_any, list_any-append, State, Writes, written, length-written, Command, Size, Next, Reply}
+use Rattle.set_blocks.proofs.Terms.{Full, Worn, Maps, catalogue_of, IsLawful, reply, next, capacity, reply_in, changes_in, stands_alone, IsBlock, replies_in}
+use Rattle.set_blocks.proofs.Terms.{block_changes_in, IsBlockFound, found_by, HoldPlan, StepPlan, BlockPlan, has_yes, has_no, del_no, add_no, get_none}
+use Rattle.set_blocks.proofs.Terms.{get_value, put_no, move_from_none, move_to_one, pair_tells, changing, keeping, nothing_yet, one_more, turn_replies}
+use Rattle.set_blocks.proofs.Terms.{after_turns, some_changes, is_full, some_full, would_change, Settled, Open}
 use Rattle.set_blocks.specs.declared.finding.Turns.{Turns}
 use Rattle.set_blocks.proofs.Planning.{plan_runs}
 use Rattle.set_blocks.proofs.Remaining.{remains_itself}

@@ -1,9 +1,6 @@
 -- What an attempt of a block leaves, by its answer.
-use Rattle.std.specs.Prelude.{ℕ, ◌≡◌, ◌+◌, ◌-◌, ◌<◌, ◌==◌, true, false, List, [], ◌∷◌, ◌++◌, length}
-use Rattle.mv_history.specs.State.{state_at}
 use Rattle.mv_history.specs.declared.history.Commit.{Commit}
 use Rattle.mv_history.specs.declared.history.Entry.TheVariants.{Change}
-use Rattle.mv_history.specs.Meaning.{Seat, InSection, state_of_time}
 use Rattle.mv_history.specs.Calls.{Continues, IsEntryAt}
 use Rattle.section_work.specs.Attempts.{GivesUp}
 use Rattle.section_work.specs.Causes.{Causes}
@@ -11,11 +8,9 @@ use Rattle.section_work.specs.Sections.{IsEntered}
 use Rattle.section_work.specs.declared.attempting.Attempt.{Attempt}
 use Rattle.section_work.specs.declared.attempting.Attempt.TheVariants.{Done as WorkDone, Again as WorkAgain}
 use Rattle.section_work.specs.declared.place.Place.TheVariants.{Commit as AtCommit, Read}
-use Rattle.set_script.specs.CatalogueOf.{catalogue_of}
-use Rattle.set_script.specs.Rules.{capacity}
-use Rattle.set_script.specs.declared.commands.Command.{Command}
-use Rattle.set_script.specs.declared.commands.Reply.{Reply}
-pub use Rattle.set_blocks.specs.BlockMeaning.{block_meaning, replies_in, block_changes_in}
+use Rattle.std.specs.Prelude.{◌≡◌, ◌+◌, ◌-◌, ◌<◌, ◌==◌, ◌∷◌, ◌++◌}
+use Rattle.set_blocks.specs.Terms.{ℕ, true, false, List, [], length, state_at, Seat, InSection, state_of_time, catalogue_of, capacity, Command, Reply}
+use Rattle.set_blocks.specs.BlockMeaning.{block_meaning, replies_in, block_changes_in}
 use Rattle.set_blocks.specs.BlockPlans.{BlockPlan}
 use Rattle.set_blocks.specs.BlockReplies.{block_next}
 use Rattle.set_blocks.specs.BlockRules.{block_tag}

@@ -1,20 +1,11 @@
 -- What a block locks and writes in a state, by its commands one after another, each in the state that those before it leave.
-use Rattle.std.specs.Prelude.{ℕ, ◌≡◌, ◌≢◌, ◌<◌, ◌≤◌, ◌||◌, Bool, true, false, List, [], ◌∷◌, ◌++◌}
-use Rattle.mv_history.specs.State.{State, Writes, written}
-use Rattle.mv_history.specs.Meaning.{words_at}
-use Rattle.set_script.specs.declared.commands.Command.{Command}
-use Rattle.set_script.specs.declared.commands.Command.TheVariants.{Add, Put, Del, Has, Get, Move, Pair}
-use Rattle.set_script.specs.declared.commands.Reply.{Reply}
-use Rattle.set_script.specs.declared.commands.Reply.TheVariants.{Yes, No, Both, NoKey, Value}
-use Rattle.set_script.specs.Objects.{key, link, value}
-use Rattle.set_script.specs.Trees.{EndsAt}
-use Rattle.set_script.specs.Rules.{IsInRange}
 use Rattle.list_set.specs.Places.{IsAddPlace, IsDelPlace}
 use Rattle.tree_set.specs.Places.{IsLeaf}
-use Rattle.set_catalog.specs.Merges.{merged}
 use Rattle.set_catalog.specs.Needs.{first_tree}
 use Rattle.set_catalog.specs.Plans.{head_of, PlanOf}
-use Rattle.set_catalog.specs.Replies.{changes_in}
+use Rattle.std.specs.Prelude.{◌≡◌, ◌≢◌, ◌<◌, ◌≤◌, ◌||◌, ◌∷◌, ◌++◌}
+use Rattle.set_blocks.specs.Terms.{ℕ, Bool, true, false, List, [], State, Writes, written, words_at, Command, Add, Put, Del, Has, Get, Move, Pair, Reply, Yes}
+use Rattle.set_blocks.specs.Terms.{No, Both, NoKey, Value, key, link, value, EndsAt, IsInRange, merged, changes_in}
 
 -- The set of the name lacks the key, as these objects show while they are held: in a list the last node before the key, or
 -- the head; in a tree the leaf where the search ends, or the root of an empty tree.

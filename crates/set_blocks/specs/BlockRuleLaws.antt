@@ -1,11 +1,9 @@
 -- That a commit of a block is allowed in one way at most.
-use Rattle.std.specs.Prelude.{ℕ, ◌≡◌, ◌<◌, ◌≤◌, false, List, [], ◌∷◌}
 use Rattle.std.proofs.Props.{props}
-use Rattle.mv_history.specs.State.{State, Writes, written, touches}
-use Rattle.set_script.specs.Objects.{first_node, first_root, key, link}
-use Rattle.set_script.specs.Trees.{EndsAt}
 use Rattle.set_script.specs.TreeLaws.{EndsAt-prop}
 use Rattle.set_script.specs.LawfulLaws.{IsLawful-prop}
+use Rattle.std.specs.Prelude.{◌≡◌, ◌<◌, ◌≤◌, ◌∷◌}
+use Rattle.set_blocks.specs.Terms.{ℕ, false, List, [], State, Writes, written, touches, first_node, first_root, key, link, EndsAt}
 use Rattle.set_blocks.specs.BlockRules.{IsBlockTag, IsOfLists, IsBlockCommit}
 
 IsBlockTag-prop : (tag : List ℕ) → IsProp (IsBlockTag tag)

@@ -1,11 +1,7 @@
 -- Which commits of blocks are allowed.
-use Rattle.std.specs.Prelude.{ℕ, ◌≡◌, ◌≢◌, ◌<◌, ◌≤◌, ◌⊎◌, true, false, List, [], ◌∷◌, length}
-use Rattle.mv_history.specs.State.{State, Writes, written, touches}
-use Rattle.mv_history.specs.Meaning.{words_at}
-use Rattle.set_script.specs.Objects.{first_node, first_root, owner, kind, key, link}
-use Rattle.set_script.specs.Trees.{EndsAt}
 use Rattle.set_script.specs.Lawful.{IsLawful}
-use Rattle.set_blocks.specs.declared.block.TheConstants.{MOST_IN_BLOCK}
+use Rattle.std.specs.Prelude.{◌≡◌, ◌≢◌, ◌<◌, ◌≤◌, ◌⊎◌, ◌∷◌, ℕ, true, false, List, [], length}
+use Rattle.set_blocks.specs.Terms.{State, Writes, written, touches, words_at, first_node, first_root, owner, kind, key, link, EndsAt, MOST_IN_BLOCK}
 
 -- the tag of the commit of a block of so many commands
 abbrev pub block_tag : ℕ → List ℕ

@@ -1,9 +1,6 @@
 -- Which commands are a block.
-use Rattle.std.specs.Prelude.{◌≡◌, ◌<◌, ◌≤◌, Bool, true, false, List, length}
-use Rattle.std.specs.List.{list_any}
-use Rattle.set_script.specs.declared.commands.Command.{Command}
-use Rattle.set_script.specs.declared.commands.Command.TheVariants.{Size, Next}
-use Rattle.set_blocks.specs.declared.block.TheConstants.{MOST_IN_BLOCK}
+use Rattle.std.specs.Prelude.{◌≡◌, ◌<◌, ◌≤◌}
+use Rattle.set_blocks.specs.Terms.{Bool, true, false, List, length, list_any, Command, Size, Next, MOST_IN_BLOCK}
 
 -- whether the command reads a whole set, and so is alone
 abbrev pub stands_alone : Command → Bool

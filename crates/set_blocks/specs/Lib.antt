@@ -1,3 +1,4 @@
+pub mod Terms
 pub mod Blocks
 pub mod BlockReplies
 pub mod BlockRules

@@ -1,11 +1,6 @@
 -- What a command of a block comes to at its turn.
-use Rattle.std.specs.Prelude.{ℕ, ◌≡◌, false, List, Option, None, Some}
-use Rattle.mv_history.specs.State.{State, Writes}
-use Rattle.set_script.specs.declared.commands.Command.{Command}
-use Rattle.set_script.specs.declared.commands.Reply.{Reply}
-use Rattle.set_script.specs.declared.commands.Reply.TheVariants.{Full}
-use Rattle.set_catalog.specs.Merges.{merged}
-use Rattle.set_catalog.specs.Replies.{reply_in}
+use Rattle.std.specs.Prelude.{◌≡◌}
+use Rattle.set_blocks.specs.Terms.{ℕ, false, List, Option, None, Some, State, Writes, Command, Reply, Full, merged, reply_in}
 use Rattle.set_blocks.specs.BlockPlans.{HoldPlan, StepPlan, holding}
 use Rattle.set_blocks.specs.declared.turns.Turn.{Turn}
 

@@ -18,8 +18,7 @@ pub struct Block {
 }
 
 impl Model for Block {
-    ghost use Rattle.std.specs.Prelude.{List};
-    ghost use Rattle.set_script.specs.declared.commands.Command.{Command};
+    ghost use Rattle.set_blocks.specs.Terms.{List, Command};
     ghost use Rattle.set_blocks.specs.Blocks.{IsBlock};
 
     ghost Value = { List Command };

@@ -1,10 +1,7 @@
 // What a block comes to in a state, before anything is locked.
 ghost use Rattle.std.specs.Prelude.{◌≡◌, ◌*◌, ◌^◌, ◌<◌, ◌≤◌, true, false, length, take, MatchOption};
-ghost use Rattle.set_script.specs.CatalogueOf.{catalogue_of};
 ghost use Rattle.set_script.specs.Lawful.{IsLawful};
-ghost use Rattle.set_script.specs.Rules.{capacity, IsInRange};
-ghost use Rattle.set_catalog.specs.Replies.{reply_in};
-ghost use Rattle.std.specs.List.{list_any};
+ghost use Rattle.set_blocks.specs.Terms.{catalogue_of, capacity, IsInRange, reply_in, list_any};
 ghost use Rattle.set_blocks.specs.Blocks.{stands_alone, IsBlock};
 ghost use Rattle.set_blocks.specs.BlockPlans.{BlockPlan};
 ghost use Rattle.set_blocks.specs.BlockReplies.{some_full};

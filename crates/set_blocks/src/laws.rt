@@ -1,16 +1,13 @@
 // Laws of the replies of blocks and of their rules, over all commands and states.
-ghost use Rattle.std.specs.Prelude.{◌≡◌, ◌≤◌, ℕ, Bool, List, [], ◌∷◌, length};
 ghost use Rattle.mv_history.specs.declared.history.Entry.{Entry};
 ghost use Rattle.mv_history.specs.State.{State, Writes, written, state_after};
 ghost use Rattle.mv_history.specs.Legal.{IsAllowed};
 ghost use Rattle.mv_history.specs.Drift.{Drifts, IsFit};
 ghost use Rattle.set_script.specs.Catalogue.{Maps};
-ghost use Rattle.set_script.specs.CatalogueOf.{catalogue_of};
 ghost use Rattle.set_script.specs.Lawful.{IsLawful, IsOpening};
-ghost use Rattle.set_script.specs.Rules.{capacity};
 ghost use Rattle.set_script.specs.Replies.{reply, changes, next};
-ghost use Rattle.set_script.specs.declared.commands.Command.{Command};
-ghost use Rattle.set_script.specs.declared.commands.Reply.{Reply};
+ghost use Rattle.std.specs.Prelude.{◌≡◌, ◌≤◌, ◌∷◌};
+ghost use Rattle.set_blocks.specs.Terms.{ℕ, Bool, List, [], length, catalogue_of, capacity, Command, Reply};
 ghost use Rattle.set_blocks.specs.BlockPlans.{BlockPlan};
 ghost use Rattle.set_blocks.specs.BlockReplies.{block_replies, block_changes, block_next, turn_replies, after_turns, some_changes};
 ghost use Rattle.set_blocks.specs.BlockRules.{IsBlockCommit, Remains, block_tag};

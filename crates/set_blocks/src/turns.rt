@@ -1,12 +1,9 @@
 // One command of a block at its turn.
 ghost use Rattle.std.specs.Prelude.{◌≡◌, ◌+◌, ◌<◌, ◌≤◌, ℕ, true, false, take, if◌then◌else◌, Some};
-ghost use Rattle.mv_history.specs.State.{written};
-ghost use Rattle.set_script.specs.CatalogueOf.{catalogue_of};
 ghost use Rattle.set_script.specs.Lawful.{IsLawful};
 ghost use Rattle.set_script.specs.Replies.{applies, value_reply};
-ghost use Rattle.set_script.specs.declared.commands.Command.TheVariants.{Add, Put, Del, Has, Get, Move, Pair};
-ghost use Rattle.set_script.specs.declared.commands.Reply.TheVariants.{Yes, No};
 ghost use Rattle.set_catalog.specs.Needs.{may_change};
+ghost use Rattle.set_blocks.specs.Terms.{written, catalogue_of, Add, Put, Del, Has, Get, Move, Pair, Yes, No};
 ghost use Rattle.set_blocks.specs.BlockReplies.{is_full};
 ghost use Rattle.set_blocks.specs.Blocks.{stands_alone};
 ghost use Rattle.set_blocks.specs.Turns.{HoldsReply, TurnsTo};

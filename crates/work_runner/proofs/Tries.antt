@@ -1,11 +1,7 @@
 -- Attempts that made no commit, one behind another, and what comes behind them.
-use Rattle.std.proofs.Common.{◌≡◌, ℕ, ◌+◌, ◌≤◌, length, ◌∙◌, subst, arith}
-use Rattle.mv_history.specs.Meaning.{Seat, InSection}
-use Rattle.mv_history.specs.Calls.{Continues, Prepares}
-use Rattle.mv_history.proofs.Steps.{Continues-Continues, length-seen}
-use Rattle.section_work.specs.Causes.{Causes}
+use Rattle.std.proofs.Common.{◌≡◌, ℕ, ◌+◌, ◌≤◌, length, ◌∙◌, arith}
 use Rattle.section_work.specs.Sections.{IsEntered}
-use Rattle.work_runner.specs.Tries.{CommitsNone, IsUnder, DoneBehind, IsEnteredBetween}
+use Rattle.work_runner.proofs.Terms.{Seat, InSection, Continues, Prepares, Continues-Continues, length-seen, Causes, CommitsNone, IsUnder, IsEnteredBetween}
 
 -- one more attempt that was given up
 pub none_still : (s t u : Seat) → CommitsNone s t → CommitsNone t u → CommitsNone s u
@@ -19,12 +15,6 @@ pub gave_up : (k : Causes) (s t prepared : Seat) (entered : InSection) → t.min
     → CommitsNone s t
 gave_up k s t prepared entered mine prepares enters =
     record { continues = Continues-Continues prepares.continues (Continues-Continues enters.enters.seat.continues enters.continues); mine = mine }
-
--- an attempt with this answer, behind those that made no commit
-pub done_behind : {A : Type 0} (leaves : Seat → Seat → A → Type 0) (law : Seat → Type 0) (s t u : Seat) (answer named : A) → answer ≡ named → CommitsNone s t
-    → law u → leaves t u answer → DoneBehind (λ old new. leaves old new named) law s u
-done_behind {A} leaves law s t u answer named is none lawful left =
-    record { from = t; none = none; attempted = subst (λ (a : A). leaves t u a) is left; lawful = lawful }
 
 -- the printed time of all that was seen doesn't fall
 pub seen_grows : (s t : Seat) → Continues s t → s.base + length s.seen ≤ t.base + length t.seen

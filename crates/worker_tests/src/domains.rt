@@ -50,7 +50,7 @@ fn let_meet(domain: Domain<SetRules>, seats: Vec<Seat<SetRules>>)
     let _ = domain.meet(seats);
 }
 
-type Ran = (Closing<SetRules>, Vec<Line>, Vec<LogTable>);
+type Ran = (Closing<SetRules>, Vec<Line>);
 
 // Runs a script for each seat over a new domain of these numbers.
 fn run_each<R: Threads + Wait + Sync>(
@@ -193,9 +193,9 @@ fn expect_tables(rt: &impl Abort, tables: &[LogTable]) {
 #[test]
 fn two_scripts_make_one_history(rt: HostRuntime) -> Result<(), Fail> {
     let scripts = two_scripts(rt.alloc())?;
-    let (closing, lines, tables) = run_each(&rt, rt.alloc(), TWO, &scripts)?;
+    let (closing, lines) = run_each(&rt, rt.alloc(), TWO, &scripts)?;
     assert_eq!(rt; closing.time(), 42);
     expect_lines(&rt, &lines);
-    expect_tables(&rt, &tables);
+    expect_tables(&rt, closing.tables());
     Ok(())
 }

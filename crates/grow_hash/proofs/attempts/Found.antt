@@ -1,26 +1,14 @@
 -- What a command on a growing hash set comes to, from what its searches found.
-use Rattle.std.proofs.Common.{◌≡◌, ◌≢◌, ℕ, ◌^◌, ◌<◌, Bool, true, false, cond, not, ◌&&◌, eqb, length, set}
-use Rattle.std.proofs.Common.{refl, sym, ap, ◌∙◌, subst}
-use Rattle.mv_history.specs.State.{State, Writes}
-use Rattle.mv_history.specs.Legal.{are_distinct, AreWithin}
-use Rattle.set_script.specs.Catalogue.{empty, has_key}
-use Rattle.set_script.specs.Replies.{applies, overflows}
-use Rattle.set_script.specs.declared.commands.Command.{Command}
-use Rattle.set_script.specs.declared.commands.Command.TheVariants.{Add, Put, Del, Has, Get, Move, Pair, Size, Next}
 use Rattle.set_script.specs.declared.commands.Reply.{Reply}
-use Rattle.set_script.specs.declared.commands.Reply.TheVariants.{Yes, No, Full, Worn}
-use Rattle.set_script.proofs.ObjectWords.{word, owned_in_range}
-use Rattle.list_set.specs.Places.{add_writes}
 use Rattle.list_set.specs.Spots.{EndsHere, AreAddWrites, AreDelWrites}
 use Rattle.list_set.specs.declared.search.Spot.{Spot}
 use Rattle.list_set.proofs.Spots.{two_within, two_distinct, add_found, del_found}
-use Rattle.grow_hash.specs.Tables.{bucket}
-use Rattle.grow_hash.specs.Grown.{IsGrown, grown_map, grown_name, grown_catalogue, grown_capacity}
-use Rattle.grow_hash.specs.GrowPlans.{head_of, IsFree, GrowPlan, IsOfGrown}
+use Rattle.std.proofs.Common.{◌≡◌, ◌≢◌, ◌^◌, ◌<◌, ◌&&◌, ℕ, Bool, true, false, cond, not, eqb, length, set, refl, sym, ap, ◌∙◌, subst}
+use Rattle.grow_hash.proofs.Terms.{State, Writes, are_distinct, AreWithin, empty, has_key, applies, overflows, Command, Add, Put, Del, Has, Get, Move, Pair}
+use Rattle.grow_hash.proofs.Terms.{Size, Next, Yes, No, Full, Worn, word, owned_in_range, add_writes, bucket, IsGrown, grown_map, grown_name, grown_catalogue}
+use Rattle.grow_hash.proofs.Terms.{grown_capacity, head_of, IsFree, GrowPlan, IsOfGrown, IsGrowFound, reply_at_last, Settled, Open}
 use Rattle.grow_hash.specs.GrowReplies.{reply_grown, changes_grown}
-use Rattle.grow_hash.specs.GrowFindings.{IsGrowFound, reply_at_last}
 use Rattle.grow_hash.specs.declared.deciding.Finding.{Finding}
-use Rattle.grow_hash.specs.declared.deciding.Finding.TheVariants.{Settled, Open}
 use Rattle.grow_hash.proofs.Committing.{commit_room}
 use Rattle.grow_hash.proofs.GrowFits.{plan_fit}
 use Rattle.grow_hash.proofs.GrownAdds.{list_in_range, add_apart, add_allowed, add_map}

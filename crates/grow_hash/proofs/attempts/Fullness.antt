@@ -1,15 +1,8 @@
 -- A set that has as many keys as there are nodes has no room for another.
-use Rattle.std.proofs.Common.{◌≡◌, ◌≢◌, ℕ, suc, ◌+◌, ◌-◌, ◌<◌, Bool, true, false, cond, List, [], ◌∷◌}
-use Rattle.std.proofs.Common.{length, drop, refl, ap, ◌∙◌, arith, length-drop, get_or-drop, lt-ltb}
-use Rattle.mv_history.specs.State.{State}
-use Rattle.mv_history.specs.Meaning.{words_at}
-use Rattle.set_script.specs.Catalogue.{has_key, put, with_key, cost}
-use Rattle.set_script.specs.Objects.{owner}
-use Rattle.set_script.specs.Replies.{overflows}
-use Rattle.set_script.specs.declared.commands.Command.TheVariants.{Add}
-use Rattle.set_script.proofs.Tally.{tally, length-put}
-use Rattle.grow_hash.specs.Grown.{IsGrown, is_used, grown_map, grown_name, grown_catalogue, grown_capacity}
-use Rattle.grow_hash.specs.GrowPlans.{IsFree}
+use Rattle.set_script.specs.Catalogue.{cost}
+use Rattle.std.proofs.Common.{◌≡◌, ◌≢◌, ◌+◌, ◌-◌, ◌<◌, ◌∷◌, ℕ, suc, Bool, true, false, cond, List, [], length, drop, refl, ap, ◌∙◌, arith, length-drop, lt-ltb}
+use Rattle.grow_hash.proofs.Terms.{get_or-drop, State, words_at, has_key, put, with_key, owner, overflows, Add, tally, length-put, IsGrown, is_used, grown_map}
+use Rattle.grow_hash.proofs.Terms.{grown_name, grown_catalogue, grown_capacity, IsFree}
 use Rattle.grow_hash.proofs.GrownMaps.{used_owned, cost-grown}
 use Rattle.grow_hash.proofs.Sizes.{set_counted}
 

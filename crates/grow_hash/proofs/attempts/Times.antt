@@ -1,13 +1,7 @@
 -- What a store of a growing hash set was at each time.
-use Rattle.std.proofs.Common.{◌≡◌, ℕ, [], take, drop, sym, subst}
-use Rattle.std.proofs.lemmas.List.{take-append-drop}
-use Rattle.mv_history.specs.State.{state_at}
-use Rattle.mv_history.specs.Legal.{IsAllowed}
-use Rattle.mv_history.specs.Meaning.{Seat, InSection, IsSeat, IsSection, state_of}
-use Rattle.mv_history.proofs.Histories.{IsAllowed-front}
 use Rattle.section_work.proofs.Entering.{reads_snapshot}
-use Rattle.grow_hash.specs.Grown.{IsGrown, IsGrownOpening}
-use Rattle.grow_hash.specs.GrowRules.{IsGrowCommit}
+use Rattle.std.proofs.Common.{◌≡◌, ℕ, [], take, drop, sym, subst, take-append-drop}
+use Rattle.grow_hash.proofs.Terms.{state_at, IsAllowed, Seat, InSection, IsSeat, IsSection, state_of, IsAllowed-front, IsGrown, IsGrownOpening, IsGrowCommit}
 use Rattle.grow_hash.proofs.Splitting.{grown_after}
 
 -- the state of each time that a seat has seen is lawful

@@ -1,17 +1,8 @@
 -- A split stays allowed whatever others commit meanwhile that writes nothing of it.
-use Rattle.std.proofs.Common.{◌≡◌, ℕ, suc, ◌+◌, ◌%◌, ◌<◌, ◌==◌, inl, inr, cond, true, List, [], ◌∷◌, refl, sym, ap, ◌∙◌}
-use Rattle.std.proofs.Common.{subst}
-use Rattle.mv_history.specs.State.{State, Writes, written, touches}
-use Rattle.mv_history.specs.Drift.{IsFit}
-use Rattle.mv_history.specs.Meaning.{words_at}
-use Rattle.mv_history.proofs.Drifting.{drift_keeps_apart, words-drifts, allowed_at_once}
-use Rattle.set_script.specs.Objects.{key, value, head_words, list_words}
-use Rattle.set_script.proofs.ObjectWords.{word}
-use Rattle.section_work.proofs.Objects.{IsIn, touches-in}
-use Rattle.grow_hash.specs.Tables.{level, split_place, buckets_at, next_table}
-use Rattle.grow_hash.specs.Grown.{IsGrown, head_at, grown_catalogue}
-use Rattle.grow_hash.specs.GrowRules.{split_tag, IsGrowCommit}
-use Rattle.grow_hash.specs.SplitPlans.{SplitPlan, IsPath, new_bucket, split_bucket, first_to, parted_nodes, split_writes}
+use Rattle.std.proofs.Common.{◌≡◌, ◌+◌, ◌%◌, ◌<◌, ◌==◌, ◌∷◌, ℕ, suc, inl, inr, cond, true, List, [], refl, sym, ap, ◌∙◌, subst}
+use Rattle.grow_hash.proofs.Terms.{State, Writes, written, touches, IsFit, words_at, drift_keeps_apart, words-drifts, allowed_at_once, key, value, head_words}
+use Rattle.grow_hash.proofs.Terms.{list_words, word, IsIn, touches-in, level, split_place, buckets_at, next_table, IsGrown, head_at, grown_catalogue, split_tag}
+use Rattle.grow_hash.proofs.Terms.{IsGrowCommit, SplitPlan, IsPath, new_bucket, split_bucket, first_to, parted_nodes, split_writes}
 use Rattle.grow_hash.proofs.split.Paths.{path_kept}
 use Rattle.grow_hash.proofs.split.PartedStates.{parted_objects}
 use Rattle.grow_hash.proofs.split.States.{split_allowed}

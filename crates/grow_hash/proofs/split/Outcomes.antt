@@ -1,19 +1,12 @@
 -- What a call that tries to split leaves, from what it leaves as a work.
-use Rattle.std.proofs.Common.{◌≡◌, ℕ, ◌≤◌, Bool, length, take, sym, ap, subst, arith, length-take}
-use Rattle.mv_history.specs.State.{State, Writes, state_at}
-use Rattle.mv_history.specs.Drift.{IsFit}
-use Rattle.mv_history.specs.Meaning.{Seat, IsSeat}
 use Rattle.section_work.specs.declared.place.Place.TheVariants.{Commit as AtCommit, Read}
-use Rattle.section_work.specs.declared.causes.Cause.TheVariants.{Lock, Rival, LogFull}
 use Rattle.section_work.specs.Causes.{Causes}
-use Rattle.section_work.specs.Works.{IsPlanned}
 use Rattle.section_work.specs.Attempts.{IsDoneAt, Attempted}
 use Rattle.section_work.specs.declared.attempting.Attempt.{Attempt}
 use Rattle.section_work.specs.declared.attempting.Attempt.TheVariants.{Done as WorkDone, Again as WorkAgain}
-use Rattle.grow_hash.specs.Tables.{split_place}
-use Rattle.grow_hash.specs.Grown.{IsGrown, IsGrownOpening}
-use Rattle.grow_hash.specs.GrowRules.{split_tag, IsGrowCommit}
-use Rattle.grow_hash.specs.SplitSteps.{IsPlannedSplit, IsClosed}
+use Rattle.std.proofs.Common.{◌≤◌}
+use Rattle.grow_hash.proofs.Terms.{ℕ, Bool, take, sym, ap, subst, arith, length-take, State, Writes, state_at, IsFit, Seat, IsSeat, IsPlanned, split_place}
+use Rattle.grow_hash.proofs.Terms.{IsGrown, IsGrownOpening, split_tag, IsGrowCommit, IsPlannedSplit, IsClosed}
 use Rattle.grow_hash.specs.SplitMeaning.{SettlesSplit, split_meaning, split_of}
 use Rattle.grow_hash.specs.SplitAttempts.{IsSplitDone, SplitTried}
 use Rattle.grow_hash.specs.declared.split_work.Looked.{Looked}

@@ -1,18 +1,7 @@
 -- The two lists into which a split parts the nodes of a bucket.
-use Rattle.std.proofs.Common.{◌≡◌, ◌≢◌, ℕ, suc, ◌^◌, ◌<◌, ◌≤◌, inl, inr, Bool, cond, List, [], ◌∷◌, length, refl, sym, ap}
-use Rattle.std.proofs.Common.{◌∙◌, subst, arith, eq-eqb, ne_eqb}
-use Rattle.std.specs.Prelude.{⊤}
-use Rattle.std.proofs.lemmas.Bool.{cases_eq}
-use Rattle.mv_history.specs.State.{State}
-use Rattle.mv_history.specs.Meaning.{words_at}
-use Rattle.set_script.specs.Objects.{owner, key, link, value, list_words}
-use Rattle.set_script.proofs.ObjectWords.{word}
-use Rattle.section_work.proofs.Objects.{IsIn}
-use Rattle.list_set.specs.Places.{IsInList}
-use Rattle.list_set.specs.Linked.{IsNodeOf, IsAfter, IsLinked}
-use Rattle.list_set.proofs.Linking.{head_no_node}
-use Rattle.grow_hash.specs.Grown.{head_at}
-use Rattle.grow_hash.specs.SplitPlans.{split_bucket, first_to}
+use Rattle.std.proofs.Common.{◌≡◌, ◌≢◌, ◌^◌, ◌<◌, ◌≤◌, ◌∷◌, ℕ, suc, inl, inr, Bool, cond, List, [], length, refl, sym, ap, ◌∙◌, subst, arith, eq-eqb, ne_eqb}
+use Rattle.grow_hash.proofs.Terms.{⊤, cases_eq, State, words_at, owner, key, link, value, list_words, word, IsIn, IsInList, IsNodeOf, IsAfter, IsLinked}
+use Rattle.grow_hash.proofs.Terms.{head_no_node, head_at, split_bucket, first_to}
 use Rattle.grow_hash.proofs.split.Paths.{AreRising, rising_node}
 
 -- the first node is the first of the bucket, or not

@@ -1,21 +1,10 @@
 -- The steps of parting what was read of a bucket.
-use Rattle.std.proofs.Common.{◌≡◌, ◌≢◌, ℕ, suc, ◌+◌, ◌%◌, ◌<◌, ◌≤◌, ◌==◌, ◌⊎◌, inl, inr, Bool, cond}
-use Rattle.std.proofs.Common.{true, false, List, [], ◌∷◌}
-use Rattle.std.proofs.Common.{length, get_or, take, drop, set, refl, sym, ap, ◌∙◌, subst, arith, eq-eqb, ne_eqb, length-take}
 use Rattle.std.proofs.Math.Seq.{take-set-lt, drop-cons}
 use Rattle.std.proofs.Math.ListN.{drop_of_length-le}
-use Rattle.std.proofs.lemmas.List.{drop-set, get_or-take}
-use Rattle.mv_history.specs.State.{State, Writes}
-use Rattle.mv_history.specs.Meaning.{words_at}
-use Rattle.set_script.specs.Objects.{key, link, value, head_words, list_words}
-use Rattle.section_work.specs.OwnWrites.{objects_of}
-use Rattle.set_script.proofs.ObjectWords.{word}
-use Rattle.section_work.proofs.Objects.{IsIn}
-use Rattle.list_set.specs.Linked.{IsNodeOf, IsLinked}
-use Rattle.grow_hash.specs.Tables.{level, split_place, buckets_at, bucket, next_table}
-use Rattle.grow_hash.specs.Grown.{IsGrown, head_at}
-use Rattle.grow_hash.specs.BucketReads.{IsRead, IsMoved}
-use Rattle.grow_hash.specs.SplitPlans.{split_bucket, first_to, parted_nodes, split_writes}
+use Rattle.std.proofs.Common.{◌≡◌, ◌≢◌, ◌+◌, ◌%◌, ◌<◌, ◌≤◌, ◌==◌, ◌⊎◌, ◌∷◌, ℕ, suc, inl, inr, Bool, cond, true, false, List, [], length, get_or, take, drop, ap}
+use Rattle.grow_hash.proofs.Terms.{set, refl, sym, ◌∙◌, subst, arith, eq-eqb, ne_eqb, length-take, drop-set, get_or-take, State, Writes, words_at, key, link}
+use Rattle.grow_hash.proofs.Terms.{value, head_words, list_words, objects_of, word, IsIn, IsNodeOf, IsLinked, level, split_place, buckets_at, bucket}
+use Rattle.grow_hash.proofs.Terms.{next_table, IsGrown, head_at, IsRead, IsMoved, split_bucket, first_to, parted_nodes, split_writes}
 use Rattle.grow_hash.proofs.Buckets.{some_buckets, few_buckets, split_to}
 use Rattle.grow_hash.proofs.GrownStates.{node_high, node_bucket}
 use Rattle.grow_hash.proofs.split.Paths.{rising_node, head_path_rises}

@@ -1,15 +1,7 @@
 -- The words that a split leaves.
-use Rattle.std.proofs.Common.{◌≡◌, ◌≢◌, ℕ, suc, ◌<◌, ◌≤◌, inl, inr, List, [], ◌∷◌, length, set, refl, sym, ap, ◌∙◌, subst}
-use Rattle.std.proofs.Common.{arith, length-set, get_or-set_same, get_or-set_other}
-use Rattle.mv_history.specs.State.{State, written}
-use Rattle.mv_history.specs.Meaning.{words_at}
-use Rattle.mv_history.proofs.Writing.{words-written_other}
-use Rattle.set_script.specs.Objects.{owner, key, value, list_words}
-use Rattle.section_work.specs.OwnWrites.{objects_of}
-use Rattle.set_script.proofs.ObjectWords.{word}
-use Rattle.section_work.proofs.Objects.{IsIn, touches-out}
-use Rattle.grow_hash.specs.Grown.{head_at, grown_map}
-use Rattle.grow_hash.specs.SplitPlans.{split_bucket, first_to, parted_nodes}
+use Rattle.std.proofs.Common.{◌≡◌, ◌≢◌, ◌<◌, ◌≤◌, ◌∷◌, ℕ, suc, inl, inr, List, [], length, set, refl, sym, ap, ◌∙◌, subst, arith, length-set, get_or-set_same}
+use Rattle.grow_hash.proofs.Terms.{get_or-set_other, State, written, words_at, words-written_other, owner, key, value, list_words, objects_of, word, IsIn}
+use Rattle.grow_hash.proofs.Terms.{touches-out, head_at, grown_map, split_bucket, first_to, parted_nodes}
 use Rattle.grow_hash.proofs.GrownMaps.{grown_map-same, used_owned}
 use Rattle.grow_hash.proofs.split.Paths.{AreRising}
 use Rattle.grow_hash.proofs.split.PartedLists.{AreParted}

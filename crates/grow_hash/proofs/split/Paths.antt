@@ -1,14 +1,6 @@
 -- The nodes through which the links of a list lead.
-use Rattle.std.proofs.Common.{◌≡◌, ℕ, ◌<◌, ◌≤◌, inl, inr, List, [], ◌∷◌, refl, sym, ◌∙◌, subst, arith}
-use Rattle.std.specs.Prelude.{⊤}
-use Rattle.std.proofs.lemmas.Bool.{cases_eq}
-use Rattle.mv_history.specs.State.{State}
-use Rattle.set_script.specs.Objects.{key, link}
-use Rattle.section_work.proofs.Objects.{IsIn}
-use Rattle.list_set.specs.Places.{IsInList}
-use Rattle.list_set.specs.Linked.{IsNodeOf, IsAfter, IsLinked}
-use Rattle.list_set.proofs.Linking.{head_no_node}
-use Rattle.grow_hash.specs.SplitPlans.{IsPath}
+use Rattle.std.proofs.Common.{◌≡◌, ◌<◌, ◌≤◌, ◌∷◌, ℕ, inl, inr, List, [], refl, sym, ◌∙◌, subst, arith}
+use Rattle.grow_hash.proofs.Terms.{⊤, cases_eq, State, key, link, IsIn, IsInList, IsNodeOf, IsAfter, IsLinked, head_no_node, IsPath}
 
 -- nodes of the head, with strictly rising keys
 abbrev pub AreRising : State → ℕ → List ℕ → Type 0

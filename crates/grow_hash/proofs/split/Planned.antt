@@ -1,17 +1,10 @@
 -- What is known of the writes of a split.
-use Rattle.std.proofs.Common.{◌≡◌, ℕ, suc, ◌+◌, ◌<◌, ◌≤◌, ◌⊎◌, inl, inr, true, List, [], ◌∷◌}
-use Rattle.std.proofs.Common.{length, refl, sym, ap, ◌∙◌, subst, arith}
-use Rattle.mv_history.specs.State.{State, Writes, touches}
-use Rattle.mv_history.specs.Legal.{are_distinct, AreWithin}
-use Rattle.section_work.specs.OwnWrites.{objects_of}
 use Rattle.set_script.specs.Trees.{IsDistinct}
-use Rattle.set_script.proofs.ObjectWords.{owned_in_range}
-use Rattle.section_work.proofs.Objects.{IsIn, in-touches}
 use Rattle.set_script.proofs.TreeShape.{is_in-none}
 use Rattle.set_script.proofs.Written.{distinct-objects_of}
-use Rattle.grow_hash.specs.Tables.{level, split_place, buckets_at}
-use Rattle.grow_hash.specs.Grown.{IsGrown, head_at}
-use Rattle.grow_hash.specs.SplitPlans.{SplitPlan, new_bucket, split_writes}
+use Rattle.std.proofs.Common.{◌≡◌, ◌+◌, ◌<◌, ◌≤◌, ◌⊎◌, ◌∷◌, ℕ, suc, inl, inr, true, List, [], length, refl, sym, ap, ◌∙◌, subst, arith}
+use Rattle.grow_hash.proofs.Terms.{State, Writes, touches, are_distinct, AreWithin, objects_of, owned_in_range, IsIn, in-touches, level, split_place}
+use Rattle.grow_hash.proofs.Terms.{buckets_at, IsGrown, head_at, SplitPlan, new_bucket, split_writes}
 use Rattle.grow_hash.proofs.Buckets.{some_buckets, more_buckets, twice_buckets}
 use Rattle.grow_hash.proofs.GrownStates.{node_high}
 use Rattle.grow_hash.proofs.split.Paths.{AreRising, rising_node, head_path_rises}

@@ -1,16 +1,6 @@
 -- What is read along the list of a bucket.
-use Rattle.std.proofs.Common.{◌≡◌, ◌≢◌, ℕ, zero, suc, ◌+◌, ◌<◌, ◌≤◌, inl, inr, List, [], ◌∷◌, ◌++◌, length, get_or, take}
-use Rattle.std.proofs.Common.{drop, set, length-drop, refl, sym, ap, subst, arith}
-use Rattle.std.proofs.lemmas.List.{take_more_set}
-use Rattle.mv_history.specs.State.{State, Writes}
-use Rattle.mv_history.specs.Meaning.{words_at}
-use Rattle.section_work.specs.OwnWrites.{objects_of}
-use Rattle.set_script.proofs.ObjectWords.{word}
-use Rattle.section_work.proofs.Objects.{IsIn}
-use Rattle.set_script.proofs.Tally.{tally-bound}
-use Rattle.list_set.proofs.Counting.{IsCount}
-use Rattle.grow_hash.specs.BucketReads.{IsRead}
-use Rattle.grow_hash.specs.SplitPlans.{IsPath}
+use Rattle.std.proofs.Common.{◌≡◌, ◌≢◌, ◌+◌, ◌<◌, ◌≤◌, ◌∷◌, ◌++◌, ℕ, zero, suc, inl, inr, List, [], length, get_or, take, drop, set, length-drop, refl, sym, ap}
+use Rattle.grow_hash.proofs.Terms.{subst, arith, take_more_set, State, Writes, words_at, objects_of, word, IsIn, tally-bound, IsCount, IsRead, IsPath}
 
 pub read_first : (s : State) (o : ℕ) (w : List ℕ) → w ≡ words_at s o → IsRead s o [] (word 3 w)
 read_first s o w e = sym (ap (word 3) e)

@@ -1,15 +1,8 @@
 -- What a look at the bucket at the split place finds.
-use Rattle.std.proofs.Common.{◌≡◌, ◌≢◌, ℕ, ◌+◌, ◌<◌, ◌≤◌, length, sym, ap, ◌∙◌, subst, arith}
-use Rattle.mv_history.specs.State.{State, Writes}
-use Rattle.set_script.specs.CatalogueOf.{map_at}
-use Rattle.section_work.specs.OwnWrites.{objects_of}
-use Rattle.list_set.specs.Linked.{IsLinked}
-use Rattle.grow_hash.specs.Tables.{level, split_place, buckets_at}
-use Rattle.grow_hash.specs.Grown.{IsGrown, head_at}
-use Rattle.grow_hash.specs.BucketReads.{IsRead, ArePartedWrites}
-use Rattle.grow_hash.specs.SplitPlans.{IsPath}
+use Rattle.std.proofs.Common.{◌≡◌, ◌≢◌, ◌+◌, ◌<◌, ◌≤◌}
+use Rattle.grow_hash.proofs.Terms.{ℕ, length, sym, ap, ◌∙◌, subst, arith, State, Writes, map_at, objects_of, IsLinked, level, split_place, buckets_at, IsGrown}
+use Rattle.grow_hash.proofs.Terms.{head_at, IsRead, ArePartedWrites, IsPath, IsPlannedSplit}
 use Rattle.grow_hash.specs.SplitCalls.{keys_at_place}
-use Rattle.grow_hash.specs.SplitSteps.{IsPlannedSplit}
 use Rattle.grow_hash.proofs.Buckets.{few_buckets}
 use Rattle.grow_hash.proofs.split.ReadBuckets.{read_path}
 

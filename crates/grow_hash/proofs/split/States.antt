@@ -1,19 +1,9 @@
 -- A split keeps a grown state lawful, and leaves its set.
-use Rattle.std.proofs.Common.{◌≡◌, ◌≢◌, ℕ, zero, suc, ◌+◌, ◌<◌, ◌≤◌, ◌⊎◌, inl, inr, List, [], length, set, refl, sym, ap}
-use Rattle.std.proofs.Common.{◌∙◌, subst, arith, length-set, get_or-set_same, get_or-set_other}
-use Rattle.std.proofs.lemmas.Bool.{cases_eq, cases_lt}
-use Rattle.mv_history.specs.State.{State, written}
-use Rattle.mv_history.specs.Meaning.{words_at}
-use Rattle.mv_history.proofs.Writing.{length-written}
-use Rattle.set_script.specs.Catalogue.{empty}
-use Rattle.set_script.specs.Objects.{owner, key, link, value, head_words, list_words}
-use Rattle.set_script.proofs.ObjectWords.{word, owned_in_range}
-use Rattle.section_work.proofs.Objects.{IsIn, touches-in}
-use Rattle.list_set.specs.Linked.{IsNodeOf, IsLinked}
-use Rattle.grow_hash.specs.Tables.{level, split_place, buckets_at, bucket, next_table}
-use Rattle.grow_hash.specs.Grown.{IsGrown, head_at, grown_map, grown_name}
-use Rattle.grow_hash.specs.GrowRules.{split_tag, IsGrowCommit}
-use Rattle.grow_hash.specs.SplitPlans.{IsPath, new_bucket, split_bucket, first_to, split_writes}
+use Rattle.std.proofs.Common.{◌≡◌, ◌≢◌, ◌+◌, ◌<◌, ◌≤◌, ◌⊎◌}
+use Rattle.grow_hash.proofs.Terms.{ℕ, zero, suc, inl, inr, List, [], length, set, refl, sym, ap, ◌∙◌, subst, arith, length-set, get_or-set_same}
+use Rattle.grow_hash.proofs.Terms.{get_or-set_other, cases_eq, cases_lt, State, written, words_at, length-written, empty, owner, key, link, value, head_words}
+use Rattle.grow_hash.proofs.Terms.{list_words, word, owned_in_range, IsIn, touches-in, IsNodeOf, IsLinked, level, split_place, buckets_at, bucket, next_table}
+use Rattle.grow_hash.proofs.Terms.{IsGrown, head_at, grown_map, grown_name, split_tag, IsGrowCommit, IsPath, new_bucket, split_bucket, first_to, split_writes}
 use Rattle.grow_hash.proofs.Buckets.{twice_buckets, more_buckets, split_mod, split_to, bucket_present}
 use Rattle.grow_hash.proofs.KeptLists.{list_kept}
 use Rattle.grow_hash.proofs.GrownMaps.{grown_map-low}

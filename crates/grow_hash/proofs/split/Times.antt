@@ -1,18 +1,10 @@
 -- What a store of a growing hash set was at each time, and what the commit of a split did there.
-use Rattle.std.proofs.Common.{◌≡◌, ℕ, suc, ◌+◌, ◌-◌, take, drop, sym, ap, ◌∙◌, subst}
-use Rattle.std.proofs.lemmas.List.{take-append-drop}
 use Rattle.mv_history.specs.declared.history.Commit.{Commit}
-use Rattle.mv_history.specs.declared.history.Entry.TheVariants.{Change}
-use Rattle.mv_history.specs.State.{State, written, state_at}
-use Rattle.mv_history.specs.Legal.{IsAllowed}
-use Rattle.mv_history.specs.Meaning.{Seat, IsSeat, state_of_time}
 use Rattle.mv_history.specs.Calls.{IsEntryAt}
 use Rattle.mv_history.proofs.Committed.{before_is, after_is, allowed_there}
-use Rattle.mv_history.proofs.Histories.{IsAllowed-front}
-use Rattle.grow_hash.specs.Tables.{split_place, buckets}
-use Rattle.grow_hash.specs.Grown.{IsGrownOpening, grown_catalogue}
-use Rattle.grow_hash.specs.GrowRules.{SplitsGrown, split_tag, IsGrowCommit}
-use Rattle.grow_hash.specs.Splits.{count_splits}
+use Rattle.std.proofs.Common.{◌≡◌, ◌+◌, ◌-◌, ℕ, suc, take, drop, sym, ap, ◌∙◌, subst, take-append-drop}
+use Rattle.grow_hash.proofs.Terms.{Change, State, written, state_at, IsAllowed, Seat, IsSeat, state_of_time, IsAllowed-front, split_place, buckets}
+use Rattle.grow_hash.proofs.Terms.{IsGrownOpening, grown_catalogue, SplitsGrown, split_tag, IsGrowCommit, count_splits}
 use Rattle.grow_hash.proofs.Splitting.{buckets_after, bucket_more}
 
 seen_allowed : (s : Seat) → IsSeat IsGrownOpening IsGrowCommit s → (t : ℕ) → IsAllowed IsGrowCommit s.start (take t s.seen)

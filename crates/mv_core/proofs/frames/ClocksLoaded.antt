@@ -4,8 +4,7 @@ use Rattle.std.proofs.Common.{◌≡◌, ◌≢◌, ◌⊎◌, ℕ, ◌<◌, ◌
 use Rattle.std.specs.Prelude.{Contains}
 use Rattle.std.proofs.lemmas.List.Elements.{Contains-append_left, Contains-append_cases}
 use Rattle.mv_core.proofs.Terms.{dite, ℕ_discrete, Entry, State, Writes, Config, Clock, Master, Stamp, Checked, Memory, clock_time_of, clock_seat_of}
-use Rattle.mv_core.proofs.Terms.{clock_slot_of, unset_of, Ring, Version, Committed, CommitNote, Section, LoadedClocks, FoundStamp, index_of, Lives}
-use Rattle.mv_core.proofs.Terms.{ViewParts}
+use Rattle.mv_core.proofs.Terms.{clock_slot_of, unset_of, Ring, Version, Committed, CommitNote, Section, LoadedClocks, FoundStamp, index_of, Lives, ViewParts}
 use Rattle.mv_layout.proofs.Unpacking.{time_back, seat_back, slot_back}
 use Rattle.mv_core.specs.declared.view.Walk.TheVariants.{Nowhere}
 use Rattle.mv_core.proofs.FactTerms.{stamp_of, Stamps, Positions, IsPastHelp, StampedPastHelp, WasClock, IsDone, IsNamedCommit, IsFound, HelpedWords}

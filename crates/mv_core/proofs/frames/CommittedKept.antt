@@ -1,8 +1,7 @@
 -- A step that changes logs but no committed version, and frees no slot: what it keeps of the facts that speak of committed versions.
 use Rattle.std.proofs.Common.{◌≡◌, ◌⊎◌, ℕ, ◌≤◌, List, sym, ◌∙◌, ⊎_elim, inl, inr, le_trans, arith, Option, Some}
 use Rattle.mv_core.proofs.Terms.{Entry, State, Config, link_of, clock_seat_of, clock_slot_of, Ring, Version, Status, Committed, CommitNote, EmptyHead}
-use Rattle.mv_core.proofs.Terms.{LoadedClocks, Section, Named, Naming, WriteBack, HoldsNothing, Lives, Names, IsGone, IsVersion, NoneUncut, IsTop}
-use Rattle.mv_core.proofs.Terms.{latest}
+use Rattle.mv_core.proofs.Terms.{LoadedClocks, Section, Named, Naming, WriteBack, HoldsNothing, Lives, Names, IsGone, IsVersion, NoneUncut, IsTop, latest}
 use Rattle.mv_core.proofs.FactTerms.{CommitOf, NamedCommit, IsNamedCommit, StampedPastHelp, CommitLink, PresentMaster, ChainFoot, FreedIsOld}
 use Rattle.mv_core.proofs.FactTerms.{SuccessorFlag, WriteBacks, MasterServes, SucceededHasSuper}
 use Rattle.mv_core.proofs.frames.KeptRecords.{same_back, same_named}

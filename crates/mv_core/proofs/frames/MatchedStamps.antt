@@ -1,8 +1,7 @@
 -- What holds of STAMP and SUPER, and of walks, stays where each live version stays what it is to the other seats, and the words of live versions stay.
 use Rattle.std.proofs.Common.{◌≡◌, ◌≢◌, ◌⊎◌, ℕ, ◌<◌, ◌≤◌, List, sym, ◌∙◌, subst, Option}
-use Rattle.mv_core.proofs.Terms.{Entry, Config, clock_of, clock_seat_of, clock_slot_of, unset_of, Ring, Built, Build, Version, Status, Held, Aborted}
-use Rattle.mv_core.proofs.Terms.{Committed, CommitNote, Section, LoadedClocks, EmptyHead, WriteBack, slot_at, index_of, Lives, Names, IsNextWrite}
-use Rattle.mv_core.proofs.Terms.{NotAboveAny, time_in}
+use Rattle.mv_core.proofs.Terms.{Entry, Config, clock_of, clock_seat_of, clock_slot_of, unset_of, Ring, Built, Build, Version, Status, Held, Aborted, Committed}
+use Rattle.mv_core.proofs.Terms.{CommitNote, Section, LoadedClocks, EmptyHead, WriteBack, slot_at, index_of, Lives, Names, IsNextWrite, NotAboveAny, time_in}
 use Rattle.mv_core.proofs.FactTerms.{IsStored, StampedAs, stamp_of, Stamps, Successors, BelowIsStamped, UnstampedIsUnfinished, StampedPastHelp}
 use Rattle.mv_core.proofs.FactTerms.{FoundStamps, NamedCommit, SucceededHasSuper, WriteBacks}
 use Rattle.mv_core.proofs.frames.KeptRecords.{same_back, same_named}

@@ -1,7 +1,6 @@
 -- A watermark rises: what keeps all facts where one seat's watermark becomes a greater one that no section is below.
 use Rattle.std.proofs.Common.{ℕ, ◌≤◌, max, List, le_refl, le_trans, inl, inr, ⊎_elim, arith, Option, Some, None}
-use Rattle.mv_core.proofs.Terms.{Entry, State, Writes, maker_of, Config, Clock, Grace, Master, clock_time_of, Memory, put, NotAbove, NotAboveAny}
-use Rattle.mv_core.proofs.Terms.{ViewParts}
+use Rattle.mv_core.proofs.Terms.{Entry, State, Writes, maker_of, Config, Clock, Grace, Master, clock_time_of, Memory, put, NotAbove, NotAboveAny, ViewParts}
 use Rattle.mv_core.proofs.FactTerms.{FreedIsOld, WriteBacks, PositionsAndGrace, Facts}
 use Rattle.mv_core.proofs.frames.KeptRecords.{same_back}
 use Rattle.mv_core.proofs.frames.FrameLaw.{set_at_all, unchanged, changed}

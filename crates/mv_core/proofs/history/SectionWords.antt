@@ -5,8 +5,7 @@ use Rattle.mv_history.specs.WordsLaws.{AreWords-state_after}
 use Rattle.mv_history.proofs.Histories.{IsLegal-front}
 use Rattle.mv_history.proofs.Writing.{length-state_after}
 use Rattle.std.proofs.lemmas.List.{take-append-le}
-use Rattle.mv_core.proofs.Terms.{Entry, State, Writes, state_after, Config, Memory, View, Inside, Section, words_of, time_in, section_of, time_of}
-use Rattle.mv_core.proofs.Terms.{parts_of}
+use Rattle.mv_core.proofs.Terms.{Entry, State, Writes, state_after, Config, Memory, View, Inside, Section, words_of, time_in, section_of, time_of, parts_of}
 use Rattle.mv_history.specs.Meaning.{words_at}
 use Rattle.mv_core.proofs.FactTerms.{BeginsWith, Facts}
 

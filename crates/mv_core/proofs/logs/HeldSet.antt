@@ -1,14 +1,13 @@
 -- The versions that an open section holds: those of the last positions, from the first one of its write set on. So their number
 -- is known, and which writes they are.
-use Rattle.std.proofs.Common.{◌≡◌, ◌≢◌, ℕ, zero, suc, ◌+◌, ◌-◌, ◌*◌, ◌/◌, ◌%◌, ◌<◌, ◌≤◌, Bool, true, cond}
-use Rattle.std.proofs.Common.{count_by, List, [], ◌∷◌, length, refl, sym, ap, ◌∙◌, subst, arith, mul-le-mul, mod-lt, set, Option, Some}
+use Rattle.std.proofs.Common.{◌≡◌, ◌≢◌, ℕ, zero, suc, ◌+◌, ◌-◌, ◌*◌, ◌/◌, ◌%◌, ◌<◌, ◌≤◌, Bool, true, cond, count_by, List, [], ◌∷◌, length, refl, sym, ap, ◌∙◌}
+use Rattle.std.proofs.Common.{subst, arith, mul-le-mul, mod-lt, set, Option, Some}
 use Rattle.std.specs.Prelude.{slice_get, slice_index_or}
 use Rattle.std.proofs.Math.Nat.{div-add-mod}
 use Rattle.std.proofs.lemmas.List.{get_or-set_other, get_or-set_same, length-set}
 use Rattle.std.proofs.lemmas.List.Sums.{sum_by-set}
-use Rattle.mv_core.proofs.Terms.{dite, dec_le, Entry, Writes, touches, Config, Checked, Ring, Slot, Free, Built, Live, Freeing, Version, Held}
-use Rattle.mv_core.proofs.Terms.{Aborted, Committed, Section, Open, slot_at, index_of, is_held, held_count, set_first, write_of, writes_from, own_of}
-use Rattle.mv_core.proofs.Terms.{Lives}
+use Rattle.mv_core.proofs.Terms.{dite, dec_le, Entry, Writes, touches, Config, Checked, Ring, Slot, Free, Built, Live, Freeing, Version, Held, Aborted}
+use Rattle.mv_core.proofs.Terms.{Committed, Section, Open, slot_at, index_of, is_held, held_count, set_first, write_of, writes_from, own_of, Lives}
 use Rattle.mv_core.proofs.FactTerms.{WriteSets, Positions, OpenSection}
 use Rattle.mv_core.proofs.kinds.entering.LoadTime.{holds_none}
 use Rattle.mv_core.proofs.logs.Written.{write_there, write_touches}

@@ -2,9 +2,8 @@
 -- reached it: no section reads the object's master, and the object's later writes hang from it. Shared by the steps of a
 -- write-back.
 use Rattle.std.proofs.Common.{◌≡◌, ◌≢◌, ℕ, ◌+◌, ◌-◌, ◌<◌, ◌≤◌, length, true, false, List, refl, sym, ap, ◌∙◌, subst, ⊎_elim, arith, Some}
-use Rattle.mv_core.proofs.Terms.{dite, dec_le, Entry, State, Writes, maker_of, Config, link_of, Memory, Version, Status, Committed, CommitNote}
-use Rattle.mv_core.proofs.Terms.{WriteBack, Section, Lives, Names, IsVersion, NoneUncut, writes_to, latest, latest_at, IsEntry, NotAboveAny}
-use Rattle.mv_core.proofs.Terms.{ViewParts, time_in}
+use Rattle.mv_core.proofs.Terms.{dite, dec_le, Entry, State, Writes, maker_of, Config, link_of, Memory, Version, Status, Committed, CommitNote, WriteBack}
+use Rattle.mv_core.proofs.Terms.{Section, Lives, Names, IsVersion, NoneUncut, writes_to, latest, latest_at, IsEntry, NotAboveAny, ViewParts, time_in}
 use Rattle.mv_core.specs.Rule.{Facts}
 use Rattle.mv_core.proofs.history.Latest.{latest_at-whole, latest_at-entry, latest_at-reaches}
 use Rattle.mv_core.proofs.logs.Written.{version_writes, commit_within}

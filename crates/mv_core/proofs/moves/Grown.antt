@@ -1,7 +1,6 @@
 -- The history after a step, from what its seat has seen then: as before where it has seen no more, and with one entry more where it has seen that.
-use Rattle.std.proofs.Common.{◌≡◌, ◌≢◌, ◌⊎◌, ℕ, ◌+◌, ◌-◌, ◌<◌, ◌≤◌, ◌^◌, max, leb, Bool, true, false}
-use Rattle.std.proofs.Common.{if◌then◌else◌, List, [], ◌∷◌, ◌++◌, length, take, sym, refl, ap, ◌∙◌, subst, ⊎_elim, arith}
-use Rattle.std.proofs.Common.{append-nil, append_assoc, length-append, leb-true, leb-false}
+use Rattle.std.proofs.Common.{◌≡◌, ◌≢◌, ◌⊎◌, ℕ, ◌+◌, ◌-◌, ◌<◌, ◌≤◌, ◌^◌, max, leb, Bool, true, false, if◌then◌else◌, List, [], ◌∷◌, ◌++◌, length, take, sym}
+use Rattle.std.proofs.Common.{refl, ap, ◌∙◌, subst, ⊎_elim, arith, append-nil, append_assoc, length-append, leb-true, leb-false}
 use Rattle.std.proofs.Math.Seq.{take-append_seam}
 use Rattle.mv_core.proofs.Terms.{dite, ℕ_discrete, Entry, State, Writes, Config, Clock, Memory, View, Past, parts_of, set_at}
 use Rattle.mv_core.specs.HistoryFacts.{BeginsWith}

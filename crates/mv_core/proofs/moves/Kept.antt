@@ -1,6 +1,5 @@
 -- What a kind shows of loads, stores, exchanges and fetch_max, as what its step shows: all facts over the very words, history and view after it.
-use Rattle.std.proofs.Common.{◌≡◌, ◌≢◌, ℕ, ◌<◌, ◌^◌, max, Bool, if◌then◌else◌, List, sym, ap, ◌∙◌, subst, eq-eqb}
-use Rattle.std.proofs.Common.{ne_eqb, Option, Some, None}
+use Rattle.std.proofs.Common.{◌≡◌, ◌≢◌, ℕ, ◌<◌, ◌^◌, max, Bool, if◌then◌else◌, List, sym, ap, ◌∙◌, subst, eq-eqb, ne_eqb, Option, Some, None}
 use Rattle.mv_core.proofs.Terms.{dite, ℕ_discrete, Entry, State, Writes, Config, Place, Clock, Memory, put, View, parts_of, set_at}
 use Rattle.mv_core.specs.EnterSteps.{IsWhole}
 use Rattle.mv_core.specs.Rule.{Facts, IsSeated, IsKept}

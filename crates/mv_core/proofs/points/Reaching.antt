@@ -1,8 +1,7 @@
 -- Each link that a section reaches is 0 or names a live version, with no death noted up to the section's time.
 use Rattle.std.proofs.Common.{◌≡◌, ◌≢◌, ◌⊎◌, ℕ, ◌-◌, List, [], ◌∷◌, Some, None, sym, refl, ap, ◌∙◌, subst, inl, inr, ⊎_elim, arith}
-use Rattle.mv_core.proofs.Terms.{dite, dec_lt, ℕ_discrete, State, Writes, Entry, Config, Head, Master, First, Stamp, Prev, Data, Memory, Version}
-use Rattle.mv_core.proofs.Terms.{Status, Held, Aborted, Committed, CommitNote, View, Stand, Lives, Names, index_of, latest_at, ViewParts, parts_of}
-use Rattle.mv_core.proofs.Terms.{time_in}
+use Rattle.mv_core.proofs.Terms.{dite, dec_lt, ℕ_discrete, State, Writes, Entry, Config, Head, Master, First, Stamp, Prev, Data, Memory, Version, Status, Held}
+use Rattle.mv_core.proofs.Terms.{Aborted, Committed, CommitNote, View, Stand, Lives, Names, index_of, latest_at, ViewParts, parts_of, time_in}
 use Rattle.mv_core.specs.declared.view.Walk.TheVariants.{At}
 use Rattle.mv_core.proofs.FactTerms.{stamp_of, HoldsVersion, HoldsSlot, IsBeforeDeath, MayStandAt, StandsRight, Facts, Placed, IsLinked, prev_of}
 use Rattle.mv_core.proofs.FactTerms.{LeadsBy, GoesOn, ReachesLink}

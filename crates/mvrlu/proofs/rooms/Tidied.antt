@@ -17,7 +17,7 @@ use Rattle.log_reclaim.specs.Parts.{Reclaims, Shrinks}
 use Rattle.log_reclaim.specs.Holders.{TidyHolds, HeldSo}
 use Rattle.log_reclaim.specs.Rounds.{FreesFirst, SweptSo}
 use Rattle.log_reclaim.specs.Tidies.{RestsOnce, RestsWhereDue, WritesBackSo}
-use Rattle.log_reclaim.proofs.EndCause.{time_in_range}
+use Rattle.log_reclaim.proofs.causes.EndCause.{time_in_range}
 use Rattle.mvrlu.specs.Placed.{Placed, seat_from, IsIdle}
 use Rattle.mvrlu.specs.Holding.{Tidies, TidiesAlone}
 use Rattle.mvrlu.proofs.rooms.Left.{trail_is, idle_after, prepared, freed_is, spare_is, live_is, some_step, few_steps}

@@ -1,8 +1,9 @@
 -- Joining the seats of a list from its end.
 use Rattle.std.proofs.Common.{◌≡◌, List, [], ◌∷◌, ◌++◌, All, refl, sym, ap, ◌∙◌, append_assoc, length-append, arith}
 use Rattle.std.proofs.lemmas.List.{append-nil}
-use Rattle.std.proofs.lemmas.List.Elements.{All-nil, All-cons, All-head, All-tail, All-weaker}
+use Rattle.std.proofs.lemmas.List.Elements.{All-nil, All-cons, All-head, All-tail, All-weaker, All-append}
 use Rattle.std.specs.Prelude.{None}
+use Rattle.mv_history.specs.declared.Step.{Step}
 use Rattle.mv_history.specs.declared.StepKind.TheVariants.{JoinSeat}
 use Rattle.mv_layout.specs.declared.Config.{Config}
 use Rattle.mv_core.specs.declared.view.View.{View}
@@ -25,33 +26,37 @@ module _ {P : Type 0} {rules : _} where
   joining_first all left first v split view_is = record {
     met = first ∷ [];
     split = split;
-    each = All-cons (λ (s : Seat P rules). IsKept v (seat_of s)) first []
-        (kept_own v (seat_of first) (ap (λ (u : View). u.number) view_is) (sym (ap (λ (u : View). u.start) view_is)) (sym (ap (λ (u : View). u.base) view_is))
-        (ap (λ (u : View). u.past.seen) view_is) (ap (λ (u : View). u.past.mine) view_is) (ap (λ (u : View). u.past.rests) view_is))
-        (All-nil (λ (s : Seat P rules). IsKept v (seat_of s)));
     first = first;
     there = (0, omega arith, refl);
+    each = All-cons (λ (s : Seat P rules). IsKept (seat_of first).trail v (seat_of s)) first []
+        (kept_own v (seat_of first) (ap (λ (u : View). u.number) view_is) (sym (ap (λ (u : View). u.start) view_is)) (sym (ap (λ (u : View). u.base) view_is))
+        (ap (λ (u : View). u.past.seen) view_is) (ap (λ (u : View). u.past.mine) view_is) (ap (λ (u : View). u.past.rests) view_is))
+        (All-nil (λ (s : Seat P rules). IsKept (seat_of first).trail v (seat_of s)));
     steps = [];
     trail = ap (λ (u : View). u.trail) view_is ∙ sym (append-nil first.idle.view.trail);
     count = refl;
+    kinds = All-nil (λ (s : Step). s.kind ≡ JoinSeat);
   }
 
   -- and one more
   pub joining_next : (c : Config) (all left rest : List (Seat P rules)) (other : Seat P rules) (v u : View) → AreJoining all left v
       → left ≡ rest ++ other ∷ [] → u ≡ other.idle.view → u.start ≡ v.start → u.base ≡ v.base → AreJoining all rest (joined c v u)
   joining_next c all left rest other v u k split view_is start base =
-      let w : View = joined c v u in record {
+      let w : View = joined c v u in
+      let t : List Step = (seat_of k.first).trail in
+      let join : Step = record { kind = JoinSeat; word = 0; found = None; stored = None } in record {
         met = other ∷ k.met;
         split = k.split ∙ ap (λ xs. xs ++ k.met) split ∙ append_assoc rest (other ∷ []) k.met;
-        each = All-cons (λ (s : Seat P rules). IsKept w (seat_of s)) other k.met
-            (kept_other c v u (seat_of other) (sym (ap (λ (x : View). x.start) view_is) ∙ start) (sym (ap (λ (x : View). x.base) view_is) ∙ base)
-            (ap (λ (x : View). x.number) view_is) (ap (λ (x : View). x.past) view_is))
-            (All-weaker (λ (s : Seat P rules). IsKept v (seat_of s)) (λ (s : Seat P rules). IsKept w (seat_of s))
-            (λ s kept. kept_on v w (seat_of s) (joins_on c v u) kept) k.met k.each);
         first = k.first;
         there = contains_tail k.met other k.first k.there;
-        steps = k.steps ++ record { kind = JoinSeat; word = 0; found = None; stored = None } ∷ [];
-        trail = ap (λ t. t ++ record { kind = JoinSeat; word = 0; found = None; stored = None } ∷ []) k.trail
-            ∙ append_assoc (seat_of k.first).trail k.steps (record { kind = JoinSeat; word = 0; found = None; stored = None } ∷ []);
-        count = (let long = length-append k.steps (record { kind = JoinSeat; word = 0; found = None; stored = None } ∷ []) in let n = k.count in omega arith);
+        each = All-cons (λ (s : Seat P rules). IsKept t w (seat_of s)) other k.met
+            (kept_other c t v u (seat_of other) (sym (ap (λ (x : View). x.start) view_is) ∙ start) (sym (ap (λ (x : View). x.base) view_is) ∙ base)
+            (ap (λ (x : View). x.number) view_is) (ap (λ (x : View). x.past) view_is) (ap (λ (x : View). x.trail) view_is))
+            (All-weaker (λ (s : Seat P rules). IsKept t v (seat_of s)) (λ (s : Seat P rules). IsKept t w (seat_of s))
+            (λ s kept. kept_on t v w (seat_of s) (joins_on c v u) kept) k.met k.each);
+        steps = k.steps ++ join ∷ [];
+        trail = ap (λ x. x ++ join ∷ []) k.trail ∙ append_assoc t k.steps (join ∷ []);
+        count = (let long = length-append k.steps (join ∷ []) in let n = k.count in omega arith);
+        kinds = All-append (λ (s : Step). s.kind ≡ JoinSeat) k.steps (join ∷ []) k.kinds
+            (All-cons (λ (s : Step). s.kind ≡ JoinSeat) join [] refl (All-nil (λ (s : Step). s.kind ≡ JoinSeat)));
       }

@@ -5,6 +5,7 @@ use Rattle.std.proofs.lemmas.List.{append-nil}
 use Rattle.std.proofs.lemmas.List.Elements.{Contains-append_left, Contains-append_right}
 use Rattle.mv_history.specs.Meaning as history
 use Rattle.mv_history.specs.declared.Entry.{Entry}
+use Rattle.mv_history.specs.declared.Step.{Step}
 use Rattle.mv_history.specs.State.{commits_of, rests_of}
 use Rattle.mv_layout.specs.declared.Config.{Config}
 use Rattle.mv_core.specs.declared.view.View.{View}
@@ -30,22 +31,24 @@ pub record GoesOn (v w : View) : Type 0 where
   pub seen : BeginsWith w.past.seen v.past.seen
   pub notes : (more : List Note) × (w.notes ≡ v.notes ++ more)
 
-pub kept_on : (v w : View) (s : history.Seat) → GoesOn v w → IsKept v s → IsKept w s
-kept_on v w s on k = record {
+pub kept_on : (t : List Step) (v w : View) (s : history.Seat) → GoesOn v w → IsKept t v s → IsKept t w s
+kept_on t v w s on k = record {
   start = k.start ∙ sym on.start;
   base = k.base ∙ sym on.base;
   past = ⊎_elim
-      (λ (own : IsOwn v s). inl (record {
+      (λ (own : IsOwn t v s). inl (record {
         number = on.number ∙ own.number;
         seen = begins_long w.past.seen v.past.seen s.seen on.seen own.seen;
         mine = on.mine ∙ own.mine;
         rests = on.rests ∙ own.rests;
+        steps = own.steps;
       }))
       (λ (noted : IsNoted v s). inr (record {
         note = noted.note;
         there = subst (λ ns. Contains ns noted.note) (sym on.notes.1) (Contains-append_left v.notes on.notes.0 noted.note noted.there);
         number = noted.number;
         past = noted.past;
+        steps = noted.steps;
       }))
       k.past;
 }
@@ -63,18 +66,17 @@ joins_on c v other = record {
 
 -- a seat's own view keeps what it knows
 pub kept_own : (v : View) (s : history.Seat) → v.number ≡ s.number → s.start ≡ v.start → s.base ≡ v.base → v.past.seen ≡ s.seen → v.past.mine ≡ s.mine
-    → v.past.rests ≡ s.rests
-    → IsKept v s
+    → v.past.rests ≡ s.rests → IsKept s.trail v s
 kept_own v s number start base seen mine rests = record {
   start = start;
   base = base;
-  past = inl (record { number = number; seen = ([], seen ∙ sym (append-nil s.seen)); mine = mine; rests = rests });
+  past = inl (record { number = number; seen = ([], seen ∙ sym (append-nil s.seen)); mine = mine; rests = rests; steps = refl });
 }
 
 -- what the joined seat knew is kept
-pub kept_other : (c : Config) (v other : View) (s : history.Seat) → s.start ≡ v.start → s.base ≡ v.base → other.number ≡ s.number
-    → other.past ≡ record { seen = s.seen; mine = s.mine; rests = s.rests } → IsKept (joined c v other) s
-kept_other c v other s start base number past = record {
+pub kept_other : (c : Config) (t : List Step) (v other : View) (s : history.Seat) → s.start ≡ v.start → s.base ≡ v.base → other.number ≡ s.number
+    → other.past ≡ record { seen = s.seen; mine = s.mine; rests = s.rests } → other.trail ≡ s.trail → IsKept t (joined c v other) s
+kept_other c t v other s start base number past steps = record {
   start = start;
   base = base;
   past = inr (record {
@@ -82,6 +84,7 @@ kept_other c v other s start base number past = record {
     there = Contains-append_right v.notes (note_of other ∷ other.notes) (note_of other) (0, omega arith, refl);
     number = number;
     past = past;
+    steps = steps;
   });
 }
 
@@ -93,10 +96,11 @@ pub record KnowsIn (c : Config) (h : List Entry) (s : history.Seat) : Type 0 whe
   pub rests : s.rests ≡ rests_of s.number h
 
 -- what is kept is told of, where the whole history is h
-pub knows_in : (c : Config) (v : View) (h : List Entry) (s : history.Seat) → v.number < c.seats → AreJoined c v h → IsKept v s → KnowsIn c h s
-knows_in c v h s range told kept =
+pub knows_in : (c : Config) (t : List Step) (v : View) (h : List Entry) (s : history.Seat) → v.number < c.seats → AreJoined c v h → IsKept t v s
+    → KnowsIn c h s
+knows_in c t v h s range told kept =
     ⊎_elim
-    (λ (own : IsOwn v s). record {
+    (λ (own : IsOwn t v s). record {
       range = subst (λ (n : ℕ). n < c.seats) own.number range;
       seen = begins_long h v.past.seen s.seen told.own.seen own.seen;
       mine = sym own.mine ∙ told.own.mine ∙ ap (λ n. commits_of n h) own.number;

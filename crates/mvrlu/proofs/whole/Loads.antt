@@ -1,9 +1,11 @@
 -- Two loads of CLOCK with an entering between them leave a section that reads what was seen, whatever was joined before.
-use Rattle.std.proofs.Common.{◌≡◌, ℕ, ◌+◌, ◌-◌, ◌≤◌, List, [], length, take, drop, sym, ap, ◌∙◌, subst, length-append, arith}
+use Rattle.std.proofs.Common.{◌≡◌, ◌≢◌, ℕ, ◌+◌, ◌-◌, ◌≤◌, List, [], length, take, drop, sym, ap, ◌∙◌, subst, length-append, arith}
 use Rattle.std.proofs.Math.Logic.{∥∥₁_elim}
 use Rattle.std.proofs.lemmas.List.{take-append-drop, length-take-le}
-use Rattle.std.proofs.lemmas.List.Elements.{Contains-append_left}
+use Rattle.std.specs.Prelude.{Contains}
+use Rattle.std.proofs.lemmas.List.Elements.{All-map, All-weaker, All-contains_itself, Contains-append_left}
 use Rattle.mv_history.specs.declared.Entry.{Entry}
+use Rattle.mv_history.specs.declared.answers.LogTable.{LogTable}
 use Rattle.mv_history.specs.State.{State, Writes}
 use Rattle.mv_history.specs.Laws.{IsSeat-prop}
 use Rattle.mv_history.specs.Meaning.{IsSeat}
@@ -19,17 +21,21 @@ use Rattle.mv_core.specs.WalkSteps.{IsWalking}
 use Rattle.mv_core.specs.SeatSteps.{AreJoined, joined_loaded}
 use Rattle.reader_marks.specs.Sections.{Begins}
 use Rattle.version_chain.specs.Walks.{inside_of, time_at, MayWalk}
-use Rattle.mvrlu.specs.Whole.{IsSound, whole_from}
+use Rattle.mvrlu.specs.MetSeats.{MetSeat, noted_seat}
+use Rattle.mvrlu.specs.Whole.{IsSound, AreApart, whole_from}
+use Rattle.mvrlu.proofs.whole.Named.{apart_notes}
 
 -- what the view means then, in a domain of these numbers
-pub record HasRead (c : Config) (w : View) : Type 0 where
-  pub sound : IsSound (whole_from c w)
+pub record HasRead (c : Config) (tables : List LogTable) (w : View) : Type 0 where
+  pub sound : IsSound (whole_from c tables w)
+  pub numbered : AreApart (whole_from c tables w)
   pub may : MayWalk w
   pub after : w.base ≤ time_at w
   pub seen : time_at w ≤ w.base + length w.past.seen
 
-module _ (c : Config) (v u : View) (base : v.base ≡ c.base) (first : ℕ) (h : List Entry) (time : ℕ) (begins : Begins c (joined_loaded c v first h) u time)
-    (last : ℕ) (g : List Entry) (all : IsWhole c u last g) where
+module _ (c : Config) (tables : List LogTable) (v u : View) (base : v.base ≡ c.base)
+    (first : ℕ) (h : List Entry) (time : ℕ) (begins : Begins c (joined_loaded c v first h) u time)
+    (last : ℕ) (g : List Entry) (all : IsWhole c u last g) (tells : AreJoined c u g) where
   abbrev w : View
   w = joined_loaded c u last g
 
@@ -74,7 +80,7 @@ module _ (c : Config) (v u : View) (base : v.base ≡ c.base) (first : ℕ) (h :
       last = omega arith;
     })
 
-    sound : IsSound (whole_from c w)
+    sound : IsSound (whole_from c tables w)
     sound =
         let is = lawful in
         let n : ℕ = time_at w - w.base in
@@ -87,15 +93,24 @@ module _ (c : Config) (v u : View) (base : v.base ≡ c.base) (first : ℕ) (h :
           time = omega arith;
         }
 
-    pub read : HasRead c w
-    read = record { sound = sound; may = may; after = after; seen = seen }
+    -- no two of the seats of its notes have one number, nor has any its own
+    numbered : AreApart (whole_from c tables w)
+    numbered = record {
+      left = All-map (λ (m : MetSeat). m.number ≢ u.number) noted_seat u.notes
+          (All-weaker (Contains u.notes) (λ n. n.number ≢ u.number) (λ n there. (tells.joined n there).1) u.notes (All-contains_itself u.notes));
+      others = apart_notes u.notes tells.once;
+    }
+
+    pub read : HasRead c tables w
+    read = record { sound = sound; numbered = numbered; may = may; after = after; seen = seen }
 
 -- a pass with a load of CLOCK, an entering and a load of CLOCK
 pub has_read : (starts : State → Type 0) (allows : List ℕ → State → Writes → Type 0) → ((s : State) → IsProp (starts s))
-    → ((t : List ℕ) (s : State) (x : Writes) → IsProp (allows t s x)) → (c : Config) (v x u w : View) (first last time : ℕ) → v.base ≡ c.base
+    → ((t : List ℕ) (s : State) (x : Writes) → IsProp (allows t s x)) → (c : Config) (tables : List LogTable) (v x u w : View) (first last time : ℕ)
+    → v.base ≡ c.base
     → ((h : List Entry) × IsWhole c v first h × AreJoined c v h × (x ≡ joined_loaded c v first h)) → Begins c x u time
-    → ((g : List Entry) × IsWhole c u last g × AreJoined c u g × (w ≡ joined_loaded c u last g)) → ∥ Known starts allows w ∥₁ → HasRead c w
-has_read starts allows one_start one_allowed c v x u w first last time base one begins two known =
+    → ((g : List Entry) × IsWhole c u last g × AreJoined c u g × (w ≡ joined_loaded c u last g)) → ∥ Known starts allows w ∥₁ → HasRead c tables w
+has_read starts allows one_start one_allowed c tables v x u w first last time base one begins two known =
     let begun = subst (λ (y : View). Begins c y u time) one.3 begins in
     let knows = subst (λ (y : View). ∥ Known starts allows y ∥₁) two.3 known in
-    subst (HasRead c) (sym two.3) (read c v u base first one.0 time begun last two.0 two.1 starts allows one_start one_allowed knows)
+    subst (HasRead c tables) (sym two.3) (read c tables v u base first one.0 time begun last two.0 two.1 two.2 starts allows one_start one_allowed knows)

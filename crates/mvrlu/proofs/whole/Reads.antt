@@ -1,8 +1,10 @@
 -- A read of a domain whose seats have met: what it answers, and what it leaves.
-use Rattle.std.proofs.Common.{◌≡◌, ℕ, ◌+◌, ◌-◌, ◌<◌, ◌≤◌, List, ◌++◌, length, take, refl, sym, ap, ◌∙◌, subst}
+use Rattle.std.proofs.Common.{◌≡◌, ℕ, ◌+◌, ◌-◌, ◌<◌, ◌≤◌, List, ◌++◌, length, take, map, All, refl, sym, ap, ◌∙◌, subst}
 use Rattle.std.proofs.Common.{append_assoc, length-append, arith}
 use Rattle.std.proofs.lemmas.List.{take-append-le}
+use Rattle.std.proofs.lemmas.List.Elements.{All-append, All-weaker}
 use Rattle.mv_history.specs.declared.Step.{Step}
+use Rattle.mv_history.specs.declared.answers.LogTable.{LogTable}
 use Rattle.mv_history.specs.declared.Protocol.{Ghosts}
 use Rattle.mv_history.specs.State.{state_after, state_at}
 use Rattle.mv_history.specs.Meaning.{words_at}
@@ -13,11 +15,13 @@ use Rattle.mv_core.specs.declared.shared.Shared.{Shared}
 use Rattle.mv_core.specs.Passes.{view, IsSame, config_of, start_of}
 use Rattle.seat_log.proofs.OwnSlots.{of_still}
 use Rattle.mv_history.specs.declared.StepKind.{StepKind}
+use Rattle.mv_history.specs.declared.StepKind.TheVariants.{LoadData, LoadMaster}
 use Rattle.mv_core.specs.declared.view.View.{View}
 use Rattle.mv_core.specs.Views.{time_in}
 use Rattle.mv_core.specs.HistoryFacts.{BeginsWith}
-use Rattle.version_chain.specs.Walks.{Walks, inside_of, time_at, MayWalk}
+use Rattle.version_chain.specs.Walks.{Walks, IsWalkStep, inside_of, time_at, MayWalk}
 use Rattle.version_chain.specs.Reads.{Reads, words_in}
+use Rattle.mvrlu.specs.MetSeats.{noted_seat, IsLookStep}
 use Rattle.mvrlu.specs.Whole.{IsStill, IsReading, whole_from, last_state}
 
 -- what a walk and a read after it leave of a view: only the trail is longer, and more may have been seen
@@ -26,7 +30,15 @@ pub record Looks (v w : View) : Type 0 where
   pub base : w.base ≡ v.base
   pub phase : w.phase ≡ v.phase
   pub seen : BeginsWith w.past.seen v.past.seen
-  pub trail : (steps : List Step) × (w.trail ≡ v.trail ++ steps)
+  pub number : w.number ≡ v.number
+  pub trail : (steps : List Step) × (w.trail ≡ v.trail ++ steps) × All (λ s. IsLookStep s.kind) steps
+  pub notes : w.notes ≡ v.notes
+
+-- a step of a walk is one of reading
+walk_looks : (kind : StepKind) → IsWalkStep kind → IsLookStep kind
+walk_looks LoadData x = tt
+walk_looks LoadMaster x = tt
+walk_looks _ x = x
 
 pub walked : (v w : View) (before after : ℕ) → Walks v w before after → Looks v w
 walked v w before after k = record {
@@ -34,16 +46,29 @@ walked v w before after k = record {
   base = ap (λ (x : View). x.base) k.rest;
   phase = ap (λ (x : View). x.phase) k.rest;
   seen = k.seen;
-  trail = (k.trail.0, k.trail.1);
+  number = ap (λ (x : View). x.number) k.rest;
+  trail = (
+    k.trail.0,
+    k.trail.1,
+    All-weaker (λ (s : Step). IsWalkStep s.kind) (λ (s : Step). IsLookStep s.kind) (λ s walk. walk_looks s.kind walk) k.trail.0 k.trail.3,
+  );
+  notes = ap (λ (x : View). x.notes) k.rest;
 }
 
-pub looked : (kind : StepKind) (v x w : View) → Looks v x → Reads kind x w → Looks v w
-looked kind v x w k r = record {
+pub looked : (kind : StepKind) (v x w : View) → IsLookStep kind → Looks v x → Reads kind x w → Looks v w
+looked kind v x w look k r = record {
   start = ap (λ (y : View). y.start) r.rest ∙ k.start;
   base = ap (λ (y : View). y.base) r.rest ∙ k.base;
   phase = ap (λ (y : View). y.phase) r.rest ∙ k.phase;
   seen = subst (λ h. BeginsWith h v.past.seen) (sym (ap (λ (y : View). y.past.seen) r.rest)) k.seen;
-  trail = (k.trail.0 ++ r.trail.0, r.trail.1 ∙ ap (λ t. t ++ r.trail.0) k.trail.1 ∙ append_assoc v.trail k.trail.0 r.trail.0);
+  number = ap (λ (y : View). y.number) r.rest ∙ k.number;
+  trail = (
+    k.trail.0 ++ r.trail.0,
+    r.trail.1 ∙ ap (λ t. t ++ r.trail.0) k.trail.1 ∙ append_assoc v.trail k.trail.0 r.trail.0,
+    All-append (λ (s : Step). IsLookStep s.kind) k.trail.0 r.trail.0 k.trail.2
+        (All-weaker (λ (s : Step). s.kind ≡ kind) (λ (s : Step). IsLookStep s.kind) (λ s is. subst IsLookStep (sym is) look) r.trail.0 r.trail.3),
+  );
+  notes = ap (λ (y : View). y.notes) r.rest ∙ k.notes;
 }
 
 module _ (v w : View) (k : Looks v w) (seen : time_at v ≤ v.base + length v.past.seen) where
@@ -55,13 +80,22 @@ module _ (v w : View) (k : Looks v w) (seen : time_at v ≤ v.base + length v.pa
       ap (λ n. take n w.past.seen) time_stays ∙ ap (take (time_at v - v.base)) k.seen.1
       ∙ take-append-le (time_at v - v.base) v.past.seen k.seen.0 (omega arith)
 
-  pub looks_still : (c : Config) → IsStill (whole_from c v) (whole_from c w)
-  looks_still c = record { config = refl; start = k.start; base = k.base; history = history_stays; trail = k.trail }
+  pub looks_still : (c : Config) (tables : List LogTable) → IsStill (whole_from c tables v) (whole_from c tables w)
+  looks_still c tables = record {
+    config = refl;
+    start = k.start;
+    base = k.base;
+    history = history_stays;
+    number = k.number;
+    trail = k.trail;
+    others = ap (map noted_seat) k.notes;
+    tables = refl;
+  }
 
 -- the words that the section reads are those of the last state
-pub reads_last : (c : Config) (v w : View) (object : ℕ) → v.base ≡ c.base → IsStill (whole_from c v) (whole_from c w)
-    → words_in c w object ≡ words_at (last_state (whole_from c v)) object
-reads_last c v w object base k =
+pub reads_last : (c : Config) (tables : List LogTable) (v w : View) (object : ℕ) → v.base ≡ c.base → IsStill (whole_from c tables v) (whole_from c tables w)
+    → words_in c w object ≡ words_at (last_state (whole_from c tables v)) object
+reads_last c tables v w object base k =
     ap (λ (b : ℕ). words_at (state_at w.start w.past.seen (time_at w - b)) object) (sym (k.base ∙ base))
     ∙ (λ i. words_at (state_after (k.start i) (k.history i)) object)
 

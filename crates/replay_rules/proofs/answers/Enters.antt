@@ -1,6 +1,5 @@
 -- An enter answers the time of the section that it begins.
-use Rattle.std.proofs.Common.{◌≡◌, ℕ, ◌+◌, ◌==◌, List, ◌∷◌, [], Option, None, refl, sym, ap, ◌∙◌, subst, Contains}
-use Rattle.std.proofs.Common.{if◌then◌else◌, eqb-true}
+use Rattle.std.proofs.Common.{◌≡◌, ℕ, ◌+◌, ◌==◌, List, ◌∷◌, [], Option, None, refl, sym, ap, ◌∙◌, subst, Contains, if◌then◌else◌, eqb-true}
 use Rattle.std.proofs.lemmas.List.Elements.{Contains-push}
 use Rattle.mv_history.specs.declared.Entry.{Entry}
 use Rattle.mv_layout.specs.Words.{clock_time_of, clock_slot_of}

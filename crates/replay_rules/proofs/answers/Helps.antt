@@ -1,6 +1,5 @@
 -- How a help of a clock word comes to its end: what each of its steps makes of the view at its begin.
-use Rattle.std.proofs.Common.{◌≡◌, ◌≢◌, ℕ, ◌≤◌, ◌^◌, ◌==◌, List, Option, Some, None, refl, ap, ◌∙◌, subst, inl}
-use Rattle.std.proofs.Common.{Contains, if◌then◌else◌, eqb-true}
+use Rattle.std.proofs.Common.{◌≡◌, ◌≢◌, ℕ, ◌≤◌, ◌^◌, ◌==◌, List, Option, Some, None, refl, ap, ◌∙◌, subst, inl, Contains, if◌then◌else◌, eqb-true}
 use Rattle.mv_history.specs.declared.Entry.{Entry}
 use Rattle.mv_layout.specs.Words.{clock_slot_of}
 use Rattle.mv_core.proofs.Terms.{Config, Checked, Clock}

@@ -1,7 +1,5 @@
 -- The steps of an abort, and the leave of a section that holds nothing.
-use Rattle.std.proofs.Common.{◌≡◌, ℕ, ◌+◌, ◌<◌, ◌^◌, ltb, List, length, Option, Some, None, All}
-use Rattle.std.proofs.Common.{refl, sym, ap, ◌∙◌, subst, arith}
-use Rattle.std.proofs.Common.{replicate, drop, ◌-◌}
+use Rattle.std.proofs.Common.{◌≡◌, ℕ, ◌+◌, ◌<◌, ◌^◌, ltb, List, length, Option, Some, None, All, refl, sym, ap, ◌∙◌, subst, arith, replicate, drop, ◌-◌}
 use Rattle.std.specs.Prelude.{slice_get}
 use Rattle.std.proofs.lemmas.List.{length-replicate}
 use Rattle.mv_layout.specs.Words.{clock_time_of}

@@ -1,7 +1,6 @@
 -- The steps of a write-back, in its section.
-use Rattle.std.proofs.Common.{◌≡◌, ◌≢◌, ◌⊎◌, ℕ, ◌+◌, ◌<◌, ◌≤◌, ◌^◌, ◌==◌, ltb, List, length, Bool, true, false}
-use Rattle.std.proofs.Common.{Option, Some, None, All, refl, sym, ap, ◌∙◌, subst, arith, inl, inr, eqb-true, if◌then◌else◌}
-use Rattle.std.proofs.Common.{slice_index, replicate}
+use Rattle.std.proofs.Common.{◌≡◌, ◌≢◌, ◌⊎◌, ℕ, ◌+◌, ◌<◌, ◌≤◌, ◌^◌, ◌==◌, ltb, List, length, Bool, true, false, Option, Some, None, All, refl, sym, ap, ◌∙◌}
+use Rattle.std.proofs.Common.{subst, arith, inl, inr, eqb-true, if◌then◌else◌, slice_index, replicate}
 use Rattle.std.proofs.lemmas.List.{length-replicate}
 use Rattle.mv_layout.specs.Words.{link_of}
 use Rattle.mv_core.proofs.Terms.{Config, Checked, Head, Data}

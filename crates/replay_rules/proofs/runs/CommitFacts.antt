@@ -1,6 +1,5 @@
 -- Of a commit: the words of its names, and what nothing is below.
-use Rattle.std.proofs.Common.{◌≡◌, ℕ, zero, suc, ◌+◌, ◌<◌, ◌≤◌, ◌&&◌, ltb, leb, List, length}
-use Rattle.std.proofs.Common.{Some, refl, sym, ap, ◌∙◌, subst, arith, lt-ltb, le-leb}
+use Rattle.std.proofs.Common.{◌≡◌, ℕ, zero, suc, ◌+◌, ◌<◌, ◌≤◌, ◌&&◌, ltb, leb, List, length, Some, refl, sym, ap, ◌∙◌, subst, arith, lt-ltb, le-leb}
 use Rattle.std.proofs.Common.{if◌then◌else◌, ◌-◌}
 use Rattle.std.specs.Prelude.{slice_get}
 use Rattle.mv_layout.specs.Words.{clock_of, clock_time_of}

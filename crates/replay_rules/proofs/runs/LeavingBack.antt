@@ -1,6 +1,5 @@
 -- How a write-back ends: the time of death of what it cut, and the end of its section.
-use Rattle.std.proofs.Common.{◌≡◌, ℕ, ◌+◌, ◌-◌, ◌<◌, List, length, true}
-use Rattle.std.proofs.Common.{Option, Some, None, All, refl, sym, ap, ◌∙◌, subst, arith}
+use Rattle.std.proofs.Common.{◌≡◌, ℕ, ◌+◌, ◌-◌, ◌<◌, List, length, true, Option, Some, None, All, refl, sym, ap, ◌∙◌, subst, arith}
 use Rattle.mv_layout.specs.Words.{clock_time_of}
 use Rattle.mv_core.proofs.Terms.{Config, Checked, Clock, Mark, IsPlace}
 use Rattle.mv_core.specs.declared.view.View.{View}

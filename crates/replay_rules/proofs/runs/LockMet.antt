@@ -1,6 +1,5 @@
 -- A lock that met a held version: it looks at whose it is, and is refused.
-use Rattle.std.proofs.Common.{◌≡◌, ℕ, ◌<◌, List, true, Option}
-use Rattle.std.proofs.Common.{Some, None, All, refl, arith, mod-lt}
+use Rattle.std.proofs.Common.{◌≡◌, ℕ, ◌<◌, List, true, Option, Some, None, All, refl, arith, mod-lt}
 use Rattle.mv_core.specs.WalkSteps.{slot_named}
 use Rattle.mv_layout.specs.Words.{link_seat_of}
 use Rattle.mv_core.proofs.Terms.{Config, Checked, First, Stamp}

@@ -1,7 +1,6 @@
 -- The steps of a lock behind its walk: the build of its version, and the exchanges of HEAD.
-use Rattle.std.proofs.Common.{◌≡◌, ℕ, ◌+◌, ◌<◌, ◌^◌, ◌==◌, ◌&&◌, ltb, not, List, [], ◌∷◌, ◌++◌, true, false, Option}
-use Rattle.std.proofs.Common.{Some, None, All, refl, sym, ap, ◌∙◌, subst, arith, inl, eqb-true, eq-eqb, ne_eqb, if◌then◌else◌, mod-lt}
-use Rattle.std.proofs.Common.{length-append, length-drop, drop}
+use Rattle.std.proofs.Common.{◌≡◌, ℕ, ◌+◌, ◌<◌, ◌^◌, ◌==◌, ◌&&◌, ltb, not, List, [], ◌∷◌, ◌++◌, true, false, Option, Some, None, All, refl, sym, ap, ◌∙◌, subst}
+use Rattle.std.proofs.Common.{arith, inl, eqb-true, eq-eqb, ne_eqb, if◌then◌else◌, mod-lt, length-append, length-drop, drop}
 use Rattle.mv_layout.specs.Words.{link_of}
 use Rattle.mv_core.proofs.Terms.{dite, ℕ_discrete, Config, Checked, Head}
 use Rattle.mv_core.specs.declared.ring.Build as core

@@ -1,8 +1,5 @@
 -- Of a scan and a rest: the next clock word, and the least time.
-use Rattle.std.proofs.Common.{◌≡◌, ℕ, ◌+◌, ◌-◌, ◌<◌, ◌==◌, ◌&&◌, ltb}
-use Rattle.std.proofs.Common.{leb, min, Bool, true, false}
-use Rattle.std.proofs.Common.{refl, sym, ap, ◌∙◌, arith, lt-ltb, le-leb}
-use Rattle.std.proofs.Common.{if◌then◌else◌}
+use Rattle.std.proofs.Common.{◌≡◌, ℕ, ◌+◌, ◌-◌, ◌<◌, ◌==◌, ◌&&◌, ltb, leb, min, Bool, true, false, refl, sym, ap, ◌∙◌, arith, lt-ltb, le-leb, if◌then◌else◌}
 use Rattle.mv_layout.specs.Words.{clock_of, clock_time_of}
 use Rattle.mv_core.proofs.Terms.{Config}
 use Rattle.mv_core.specs.ReclaimSteps.{least_with}

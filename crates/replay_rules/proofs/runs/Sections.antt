@@ -1,6 +1,5 @@
 -- What a seat of a replay is at, by its view: its notes, its section, and the next step of an entering, a help and a walk.
-use Rattle.std.proofs.Common.{◌≡◌, ◌≢◌, ◌⊎◌, ℕ, ◌+◌, ◌<◌, ◌≤◌, ◌^◌, true, false, List, length, Option, Some, None, Contains}
-use Rattle.std.proofs.Common.{slice_index, drop, max}
+use Rattle.std.proofs.Common.{◌≡◌, ◌≢◌, ◌⊎◌, ℕ, ◌+◌, ◌<◌, ◌≤◌, ◌^◌, true, false, List, length, Option, Some, None, Contains, slice_index, drop, max}
 use Rattle.mv_layout.specs.Words.{clock_time_of, clock_slot_of, IsUnset}
 use Rattle.mv_core.proofs.Terms.{Config}
 use Rattle.mv_core.specs.declared.view.View.{View}

@@ -1,7 +1,6 @@
 -- The steps of a walk, of a read or of a lock.
-use Rattle.std.proofs.Common.{◌≡◌, ◌≢◌, ◌⊎◌, ℕ, ◌+◌, ◌<◌, ◌≤◌, ◌^◌, ◌==◌, ◌&&◌, ltb, leb, not, List, length, Bool, true, false, Option}
-use Rattle.std.proofs.Common.{Some, None, All, ne_eqb, replicate, refl, sym, ap}
-use Rattle.std.proofs.Common.{◌∙◌, subst, arith, inl, inr, if◌then◌else◌, slice_set, mod-lt}
+use Rattle.std.proofs.Common.{◌≡◌, ◌≢◌, ◌⊎◌, ℕ, ◌+◌, ◌<◌, ◌≤◌, ◌^◌, ◌==◌, ◌&&◌, ltb, leb, not, List, length, Bool, true, false, Option, Some, None, All, ne_eqb}
+use Rattle.std.proofs.Common.{replicate, refl, sym, ap, ◌∙◌, subst, arith, inl, inr, if◌then◌else◌, slice_set, mod-lt}
 use Rattle.std.specs.Prelude.{unwrap_or}
 use Rattle.mv_layout.specs.Words.{link_seat_of, IsUnset}
 use Rattle.mv_core.proofs.Terms.{Config, Checked, Head, Master, First, Stamp, Prev, Data, IsPlace}

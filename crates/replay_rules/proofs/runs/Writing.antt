@@ -1,6 +1,5 @@
 -- The stores of a write.
-use Rattle.std.proofs.Common.{◌≡◌, ℕ, ◌+◌, ◌-◌, ◌<◌, ltb, List, Option, None, All}
-use Rattle.std.proofs.Common.{refl, sym, ap, ◌∙◌, arith, slice_index, mod-lt, drop}
+use Rattle.std.proofs.Common.{◌≡◌, ℕ, ◌+◌, ◌-◌, ◌<◌, ltb, List, Option, None, All, refl, sym, ap, ◌∙◌, arith, slice_index, mod-lt, drop}
 use Rattle.mv_core.proofs.Terms.{Config, Checked, Data}
 use Rattle.mv_core.specs.declared.view.View.{View}
 use Rattle.mv_core.specs.Moves.{Moment, store_data}

@@ -1,8 +1,4 @@
-use Rattle.std.proofs.Common.{ap, ◌∙◌, subst}
-use Rattle.mv_history.specs.Meaning.{Seat}
-use Rattle.mv_history.specs.Calls.{Leaves}
-use Rattle.mv_history.proofs.Steps.{Continues-Continues}
-use Rattle.accounts.specs.Rules.{total}
+use Rattle.accounts.proofs.Terms.{ap, ◌∙◌, subst, Seat, Leaves, Continues-Continues, total}
 use Rattle.accounts.proofs.Sections.{length-read, total-read, total-read-fits}
 use Rattle.accounts.proofs.Sums.{sum_by}
 use Rattle.accounts.proofs.reading.sum.Goals as goal

@@ -1,6 +1,5 @@
-use Rattle.std.proofs.Common.{◌≡◌, take}
-use Rattle.std.specs.Prelude.{sum_by}
-use Rattle.accounts.specs.Rules.{balance_of}
+use Rattle.std.specs.Prelude.{◌≡◌, sum_by}
+use Rattle.accounts.proofs.Terms.{take, balance_of}
 use Rattle.accounts.proofs.reading.total.Given as goal
 
 abbrev pub invariant-loop-number : goal.invariant-loop-number

@@ -1,5 +1,5 @@
-use Rattle.std.proofs.Common.{◌≡◌, ◌+◌, ◌≤◌, length}
-use Rattle.mv_history.specs.Calls.{Continues}
+use Rattle.std.proofs.Common.{◌≡◌, ◌+◌, ◌≤◌}
+use Rattle.accounts.proofs.Terms.{length, Continues}
 use Rattle.accounts.proofs.repeating.make_transfers.Given as goal
 
 abbrev pub invariant-loop : goal.invariant-loop

@@ -1,7 +1,6 @@
-use Rattle.std.proofs.Common.{◌≡◌, [], ◌∷◌, length, length-append, ap, ◌∙◌, arith}
 use Rattle.std.proofs.lemmas.List.Elements.{All-push}
-use Rattle.mv_history.proofs.Steps.{Continues-Continues}
-use Rattle.accounts.specs.Rules.{total}
+use Rattle.std.proofs.Common.{◌≡◌, ◌∷◌}
+use Rattle.accounts.proofs.Terms.{[], length, length-append, ap, ◌∙◌, arith, Continues-Continues, total}
 use Rattle.accounts.proofs.Sums.{reads_more}
 use Rattle.accounts.proofs.repeating.read_sums.Goals as goal
 

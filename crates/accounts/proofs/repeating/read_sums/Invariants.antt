@@ -1,8 +1,6 @@
-use Rattle.std.proofs.Common.{◌≡◌, ◌≤◌, length, All}
 use Rattle.std.specs.Vec.{vec_capacity}
-use Rattle.mv_history.specs.Calls.{Continues}
-use Rattle.accounts.specs.Rules.{total}
-use Rattle.accounts.specs.Repeats.{ReadsEach}
+use Rattle.std.proofs.Common.{◌≡◌, ◌≤◌}
+use Rattle.accounts.proofs.Terms.{length, All, Continues, total, ReadsEach}
 use Rattle.accounts.proofs.repeating.read_sums.Given as goal
 
 abbrev pub invariant-loop-nth : goal.invariant-loop-nth

@@ -26,9 +26,9 @@ returns-in-Ok-clause-ran g c =
     let on = all_continue firsts met scripts c.in-Ok.lines.items c.in-Ok.ensures.ran in
     let w = whole_of c.meet_all.result in
     let count = length-map c.args.scripts.now blocks_of ∙ c.requires.as_many in
-    blocks_met (past_of_whole w) firsts met scripts c.in-Ok.lines.items c.in-Ok.tables.items
-    (one_history c.args.domain w IsOpening IsBlockCommit _ firsts met c.in-Ok.tables.items c.requires.opening c.requires.new
-    (c.meet_all.ensures.met firsts c.requires.new on) c.in-Ok.ensures.tables
+    blocks_met (past_of_whole w) firsts met scripts c.in-Ok.lines.items w.tables
+    (one_history c.args.domain w IsOpening IsBlockCommit _ firsts met c.requires.opening c.requires.new
+    (c.meet_all.ensures.met firsts c.requires.new on)
     (length-map c.args.seats.items (λ s. seat_of s) ∙ sym count) (sym (count ∙ c.requires.all)))
     c.in-Ok.ensures.ran
 
@@ -42,7 +42,6 @@ returns-in-Ok-clause-linked g c =
       met = met;
       whole = c.meet_all.ensures.met firsts c.requires.new on;
       along = c.in-Ok.ensures.linked;
-      counted = c.in-Ok.ensures.tables;
     }
 
 -- its history begins with the opening state

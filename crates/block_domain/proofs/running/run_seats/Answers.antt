@@ -22,8 +22,8 @@ run_blocks-requires-clause-most g c κs within =
     (subst (λ seats. AreNewFrom c.args.domain.now 0 seats) (sym c.in_ok-handles.ensures.handles) c.requires.new)
 
 -- as many handles come back as seats were lent
-pub take_back-seats-requires : goal.take_back-seats-requires
-take_back-seats-requires g c = record {
+pub take_back-requires : goal.take_back-requires
+take_back-requires g c = record {
   left = left_for c.in_ok-handles.left c.in_ok-handles.handles.items c.in-Ok.handles.items
       (all_continue _ _ _ _ c.in-Ok.ensures.ran) c.in_ok-handles.ensures.left;
 }

@@ -1,6 +1,5 @@
-use Rattle.std.proofs.Common.{◌≡◌, take, vec_capacity}
-use Rattle.std.specs.List.{flat_map}
-use Rattle.block_workers.specs.BlockLines.{row_of}
+use Rattle.std.proofs.Common.{◌≡◌}
+use Rattle.block_workers.proofs.Terms.{take, vec_capacity, flat_map, row_of}
 use Rattle.block_workers.proofs.rows.make_lines.Given as goal
 
 abbrev pub invariant-loop-row : goal.invariant-loop-row

@@ -1,6 +1,5 @@
-use Rattle.std.proofs.Common.{◌+◌, ◌++◌, ◌∷◌, [], ap, sym, ◌∙◌, arith, take, append_assoc}
-use Rattle.script_workers.proofs.Terms.{Line}
-use Rattle.block_workers.specs.BlockLines.{lines_at}
+use Rattle.std.proofs.Common.{◌+◌, ◌++◌, ◌∷◌}
+use Rattle.block_workers.proofs.Terms.{[], ap, sym, ◌∙◌, arith, take, append_assoc, Line, lines_at}
 use Rattle.block_workers.proofs.BlockRows.{lines_next}
 use Rattle.block_workers.proofs.rows.put_block.Goals as goal
 

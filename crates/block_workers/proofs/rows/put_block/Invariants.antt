@@ -1,5 +1,5 @@
-use Rattle.std.proofs.Common.{◌≡◌, ◌+◌, ◌++◌, take, length, vec_capacity}
-use Rattle.block_workers.specs.BlockLines.{lines_at}
+use Rattle.std.proofs.Common.{◌≡◌, ◌+◌, ◌++◌}
+use Rattle.block_workers.proofs.Terms.{take, length, vec_capacity, lines_at}
 use Rattle.block_workers.proofs.rows.put_block.Given as goal
 
 abbrev pub invariant-loop-index : goal.invariant-loop-index

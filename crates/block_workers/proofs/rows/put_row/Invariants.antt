@@ -1,5 +1,5 @@
-use Rattle.std.proofs.Common.{◌≡◌, ◌++◌, take, vec_capacity}
-use Rattle.block_workers.specs.BlockLines.{row_in}
+use Rattle.std.proofs.Common.{◌≡◌, ◌++◌}
+use Rattle.block_workers.proofs.Terms.{take, vec_capacity, row_in}
 use Rattle.block_workers.proofs.rows.put_row.Given as goal
 
 abbrev pub invariant-loop-answer : goal.invariant-loop-answer

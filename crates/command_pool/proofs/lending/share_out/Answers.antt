@@ -1,5 +1,4 @@
-use Rattle.std.proofs.Common.{arith, ap}
-use Rattle.command_pool.proofs.Terms.{Hand}
+use Rattle.command_pool.proofs.Terms.{arith, ap, Hand}
 use Rattle.command_pool.proofs.Sharing.{forks}
 use Rattle.command_pool.proofs.lending.share_out.Goals as goal
 

@@ -1,7 +1,5 @@
-use Rattle.std.proofs.Common.{◌≡◌, ◌≤◌, ◌-◌, [], length, All, vec_capacity}
-use Rattle.command_pool.specs.Queue.{hand, all_parts}
-use Rattle.command_pool.specs.Lending.{IsBegun}
-use Rattle.command_pool.proofs.Terms.{view, IsPassOf}
+use Rattle.std.proofs.Common.{◌≡◌, ◌≤◌, ◌-◌}
+use Rattle.command_pool.proofs.Terms.{[], length, All, vec_capacity, hand, all_parts, IsBegun, view, IsPassOf}
 use Rattle.command_pool.proofs.lending.share_out.Given as goal
 
 abbrev pub invariant-loop : goal.invariant-loop

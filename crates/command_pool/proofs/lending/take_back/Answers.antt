@@ -1,8 +1,5 @@
-use Rattle.std.proofs.Common.{◌∙◌, ◌++◌, arith, ap, sym, length, append_assoc}
-use Rattle.std.specs.List.{flat_map}
-use Rattle.std.proofs.lemmas.List.Elements.{All-head, All-tail}
-use Rattle.command_pool.specs.Lending.{IsLent, taken_of}
-use Rattle.command_pool.proofs.Terms.{view, Hand}
+use Rattle.std.proofs.Common.{◌++◌}
+use Rattle.command_pool.proofs.Terms.{◌∙◌, arith, ap, sym, length, append_assoc, flat_map, All-head, All-tail, IsLent, taken_of, view, Hand}
 use Rattle.command_pool.proofs.Sharing.{merges}
 use Rattle.command_pool.proofs.lending.take_back.Goals as goal
 

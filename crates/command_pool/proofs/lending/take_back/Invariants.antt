@@ -1,8 +1,5 @@
-use Rattle.std.proofs.Common.{◌≡◌, ◌≤◌, ◌+◌, ◌++◌, length, All, vec_len}
-use Rattle.std.specs.List.{flat_map}
-use Rattle.command_pool.specs.Queue.{all_parts}
-use Rattle.command_pool.specs.Lending.{IsLent, taken_of}
-use Rattle.command_pool.proofs.Terms.{view, IsPassOf}
+use Rattle.std.proofs.Common.{◌≡◌, ◌≤◌, ◌+◌, ◌++◌}
+use Rattle.command_pool.proofs.Terms.{length, All, vec_len, flat_map, all_parts, IsLent, taken_of, view, IsPassOf}
 use Rattle.command_pool.proofs.lending.take_back.Given as goal
 
 abbrev pub invariant-loop-turns : goal.invariant-loop-turns

@@ -1,6 +1,5 @@
-use Rattle.std.proofs.Common.{◌≡◌, []}
-use Rattle.command_pool.specs.Queue.{hand, all_parts}
-use Rattle.command_pool.proofs.Terms.{view, IsPassOf}
+use Rattle.std.proofs.Common.{◌≡◌}
+use Rattle.command_pool.proofs.Terms.{[], hand, all_parts, view, IsPassOf}
 use Rattle.command_pool.proofs.queue.fill.Given as goal
 
 abbrev pub invariant-loop-count : goal.invariant-loop-count

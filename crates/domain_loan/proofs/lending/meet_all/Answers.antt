@@ -13,5 +13,5 @@ pub returns : goal.returns
 returns g c = record {
   met = λ firsts new on.
       have_met c.args.domain g.P.Protocol.start g.P.Protocol.allowed firsts c.args.seats.items (whole_of c.meet.result) new on c.requires.all
-      c.meet.ensures.law c.meet.ensures.numbers c.meet.ensures.opening.0 c.meet.ensures.opening.1;
+      c.meet.ensures.law c.meet.ensures.numbered c.meet.ensures.tables c.meet.ensures.numbers c.meet.ensures.opening.0 c.meet.ensures.opening.1;
 }

@@ -20,7 +20,7 @@ pub lend_all-requires : goal.lend_all-requires
 lend_all-requires g c = record { own = new_own c.args.domain.now c.args.seats.items c.requires.new }
 
 -- as many handles come back as seats were lent
-pub take_back-seats-requires : goal.take_back-seats-requires
-take_back-seats-requires g c = record {
+pub take_back-requires : goal.take_back-requires
+take_back-requires g c = record {
   left = left_for c.in-Ok-lend_all.lent.1 c.in-Ok-lend_all.lent.0.items _ c.run_each-handles.ensures.gone_on c.in-Ok-lend_all.ensures.left;
 }

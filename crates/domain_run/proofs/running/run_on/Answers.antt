@@ -10,7 +10,6 @@ returns-in-Ok-clause-ran g c =
     let firsts = map (λ s. seat_of s) c.args.seats.items in
     let met = map (λ s. seat_of s) c.in-Ok.seats.items in (
       met,
-      c.in-Ok.ensures.tables,
       is_run (g.T.Task.did Took) g.P.Protocol.allowed (name_of d) (numbers_of d) (opening_of d) firsts met c.args.tasks.items c.in-Ok.tasks.items
           (whole_of c.meet_all.result) c.requires.new (c.meet_all.ensures.met firsts c.requires.new c.in-Ok.ensures.gone_on) c.in-Ok.ensures.did,
     )

@@ -1,7 +1,5 @@
-use Rattle.std.proofs.Common.{◌*◌, ◌%◌, ◌≡◌, ◌≤◌, ◌<◌, ◌-◌, ℕ, suc, [], take, slice_index_or, refl, sym, ap}
-use Rattle.std.proofs.Common.{◌∙◌, subst, arith, length-set}
-use Rattle.std.proofs.Math.Nat.{mod-lt}
-use Rattle.grow_hash.specs.Tables.{buckets_at}
+use Rattle.std.proofs.Common.{◌*◌, ◌%◌, ◌≡◌, ◌≤◌, ◌<◌, ◌-◌}
+use Rattle.grow_hash.proofs.Terms.{ℕ, suc, [], take, slice_index_or, refl, sym, ap, ◌∙◌, subst, arith, length-set, mod-lt, buckets_at}
 use Rattle.grow_hash.proofs.Buckets.{some_buckets, more_buckets, twice_buckets}
 use Rattle.grow_hash.proofs.split.PartedReads.{Reads, PartedFrom, parted_none, parted_more, parted_whole}
 use Rattle.grow_hash.proofs.bucket.part.Goals as goal

@@ -1,5 +1,5 @@
-use Rattle.std.proofs.Common.{◌≡◌, ◌≤◌, length, take}
-use Rattle.mv_history.specs.State.{State}
+use Rattle.std.proofs.Common.{◌≡◌, ◌≤◌}
+use Rattle.grow_hash.proofs.Terms.{length, take, State}
 use Rattle.grow_hash.proofs.split.PartedReads.{Reads, PartedFrom}
 use Rattle.grow_hash.proofs.bucket.part.Given as goal
 

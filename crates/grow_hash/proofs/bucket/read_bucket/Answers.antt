@@ -1,11 +1,8 @@
-use Rattle.std.proofs.Common.{refl, ◌+◌, length, take, slice_index_or, List, ℕ, sym, ap, ◌∙◌, subst, arith, length-set}
-use Rattle.mv_history.specs.State.{State, Writes}
-use Rattle.mv_history.specs.Meaning.{words_at}
-use Rattle.list_set.proofs.Counting.{count_first, count_in_range, count_falls, count_step, count_done}
-use Rattle.grow_hash.specs.BucketReads.{IsRead}
+use Rattle.std.proofs.Common.{◌+◌, refl, length, take, slice_index_or, List, ℕ, sym, ap, ◌∙◌, subst, arith, length-set}
+use Rattle.grow_hash.proofs.Terms.{State, Writes, words_at, count_first, count_in_range, count_falls, count_step, count_done, IsRead}
 use Rattle.grow_hash.proofs.split.ReadBuckets.{read_first, read_next, count_small}
-use Rattle.grow_hash.proofs.bucket.read_bucket.Goals as goal
 use Rattle.grow_hash.proofs.bucket.read_bucket.Goals.{then-keys-lt-MOST_SPLIT, else-keys-lt-MOST_SPLIT}
+use Rattle.grow_hash.proofs.bucket.read_bucket.Goals as goal
 
 -- the link among the words of an object
 abbrev linked : List ℕ → ℕ

@@ -1,7 +1,5 @@
-use Rattle.std.proofs.Common.{◌≡◌, ◌≤◌, length, take}
-use Rattle.list_set.specs.Walks.{walk_left}
-use Rattle.list_set.proofs.Counting.{IsCount}
-use Rattle.grow_hash.specs.BucketReads.{IsRead}
+use Rattle.std.proofs.Common.{◌≡◌, ◌≤◌}
+use Rattle.grow_hash.proofs.Terms.{length, take, walk_left, IsCount, IsRead}
 use Rattle.grow_hash.proofs.bucket.read_bucket.Given as goal
 
 abbrev pub invariant-loop-node : goal.invariant-loop-node

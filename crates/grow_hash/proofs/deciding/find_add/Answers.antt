@@ -1,4 +1,4 @@
-use Rattle.std.proofs.Common.{arith}
+use Rattle.grow_hash.proofs.Terms.{arith}
 use Rattle.grow_hash.proofs.attempts.Found.{add_no, add_full, add_open, none_same, free_same}
 use Rattle.grow_hash.proofs.deciding.find_add.Goals as goal
 

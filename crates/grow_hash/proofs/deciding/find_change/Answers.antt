@@ -1,12 +1,5 @@
-use Rattle.std.proofs.Common.{◌≡◌, ℕ, length, ap, refl, subst, sym}
-use Rattle.mv_history.specs.State.{State}
-use Rattle.set_script.specs.declared.commands.Command.{Command}
-use Rattle.set_script.specs.declared.commands.Command.TheVariants.{Size}
-use Rattle.set_script.specs.declared.commands.Reply.TheVariants.{Count}
-use Rattle.grow_hash.specs.Grown.{grown_map}
-use Rattle.grow_hash.specs.GrowPlans.{IsOfGrown}
-use Rattle.grow_hash.specs.GrowFindings.{IsGrowFound}
-use Rattle.grow_hash.specs.declared.deciding.Finding.TheVariants.{Settled}
+use Rattle.std.proofs.Common.{◌≡◌}
+use Rattle.grow_hash.proofs.Terms.{ℕ, length, ap, refl, subst, sym, State, Command, Size, Count, grown_map, IsOfGrown, IsGrowFound, Settled}
 use Rattle.grow_hash.proofs.attempts.Found.{has_found}
 use Rattle.grow_hash.proofs.deciding.find_change.Goals as goal
 

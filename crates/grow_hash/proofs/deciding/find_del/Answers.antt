@@ -1,4 +1,4 @@
-use Rattle.std.proofs.Common.{arith}
+use Rattle.grow_hash.proofs.Terms.{arith}
 use Rattle.grow_hash.proofs.attempts.Found.{del_no, del_open}
 use Rattle.grow_hash.proofs.deciding.find_del.Goals as goal
 

@@ -1,4 +1,4 @@
-use Rattle.std.proofs.Common.{arith}
+use Rattle.grow_hash.proofs.Terms.{arith}
 use Rattle.grow_hash.proofs.CatalogueReads.{reads_none, key_fits, reads_more, reads_past, reads_all}
 use Rattle.grow_hash.proofs.reading.read_grown.Goals as goal
 

@@ -1,4 +1,4 @@
-use Rattle.std.proofs.Common.{arith}
+use Rattle.grow_hash.proofs.Terms.{arith}
 use Rattle.grow_hash.proofs.Finding.{head_read, level_read, linked_found, few_found, spot_found}
 use Rattle.grow_hash.proofs.GrownStates.{bucket_low}
 use Rattle.grow_hash.proofs.search.find.Goals as goal

@@ -1,4 +1,4 @@
-use Rattle.std.proofs.Common.{arith, sym, subst}
+use Rattle.grow_hash.proofs.Terms.{arith, sym, subst}
 use Rattle.grow_hash.proofs.Finding.{buckets_read, linked_bucket, few_found, next_found}
 use Rattle.grow_hash.proofs.NextKeys.{LeastOf, least_start, least_same, least_less, least_end}
 use Rattle.grow_hash.proofs.search.next.Goals.{then-spot-ne0, else-spot-ne0}

@@ -1,4 +1,4 @@
-use Rattle.std.proofs.Common.{arith}
+use Rattle.grow_hash.proofs.Terms.{arith}
 use Rattle.grow_hash.proofs.Finding.{buckets_read, buckets_low, linked_bucket, few_found}
 use Rattle.grow_hash.proofs.Sizes.{first_start, first_step, first_fits, first_end}
 use Rattle.grow_hash.proofs.search.size.Goals as goal

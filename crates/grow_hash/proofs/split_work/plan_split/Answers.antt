@@ -1,6 +1,5 @@
-use Rattle.std.proofs.Common.{◌+◌, ◌≤◌, refl, sym, subst, take, length, ℕ}
-use Rattle.mv_history.specs.State.{State}
-use Rattle.grow_hash.specs.SplitSteps.{IsPlannedSplit}
+use Rattle.std.proofs.Common.{◌+◌, ◌≤◌}
+use Rattle.grow_hash.proofs.Terms.{refl, sym, subst, take, length, ℕ, State, IsPlannedSplit}
 use Rattle.grow_hash.proofs.split.Reads.{bucket_linked, planned_by}
 use Rattle.grow_hash.proofs.split_work.plan_split.Goals as goal
 

@@ -1,6 +1,6 @@
-use Rattle.std.proofs.Common.{◌≡◌, ◌≢◌, ℕ, suc, ◌+◌, Bool, cond, ap, sym, ◌∙◌, arith}
 use Rattle.std.proofs.lemmas.Bool.{eq-eqb, ne_eqb}
-use Rattle.grow_hash.specs.Tables.{buckets_at, table_words, next_table}
+use Rattle.std.proofs.Common.{◌≡◌, ◌≢◌, ◌+◌}
+use Rattle.grow_hash.proofs.Terms.{ℕ, suc, Bool, cond, ap, sym, ◌∙◌, arith, buckets_at, table_words, next_table}
 use Rattle.grow_hash.proofs.table.next_table.Goals as goal
 
 -- after the last bucket of a level the next level begins

@@ -1,7 +1,4 @@
-use Rattle.std.proofs.Common.{false, arith}
-use Rattle.item_workers.proofs.Each.{all_may}
-use Rattle.script_workers.proofs.Chains.{few_numbers, line_counts}
-use Rattle.grow_workers.specs.Links.{GrowKept, kept, LinkedDone}
+use Rattle.grow_workers.proofs.Terms.{false, arith, all_may, few_numbers, line_counts, GrowKept, kept, LinkedDone}
 use Rattle.grow_workers.proofs.Chains.{all_ran, all_linked}
 use Rattle.grow_workers.proofs.running.run_grow.Goals as goal
 
@@ -20,12 +17,10 @@ make_lines-requires-clause-room g c =
       c.in-Ok.ensures.1,
     ))
 
-pub returns-clause-ran : goal.returns-clause-ran
-returns-clause-ran g c =
-    rw (c.make_lines.ensures, c.deref.ensures.value)
-    (all_ran _ g.S.Store.seat_of c.args.stores.items _ _ c.in_ok-stores.rows.items c.in_ok-stores.ensures.did)
-
-pub returns-clause-linked : goal.returns-clause-linked
-returns-clause-linked g c =
-    rw (c.make_lines.ensures, c.deref.ensures.value)
-    (all_linked _ g.S.Store.seat_of c.args.stores.items _ _ c.in_ok-stores.rows.items c.in_ok-stores.ensures.did)
+pub returns : goal.returns
+returns g c =
+    let each = c.in_ok-stores.ensures.did in record {
+      ran = rw (c.make_lines.ensures, c.deref.ensures.value) (all_ran _ g.S.Store.seat_of c.args.stores.items _ _ c.in_ok-stores.rows.items each);
+      linked = rw (c.make_lines.ensures, c.deref.ensures.value) (all_linked _ g.S.Store.seat_of c.args.stores.items _ _ c.in_ok-stores.rows.items each);
+      err = tt;
+    }

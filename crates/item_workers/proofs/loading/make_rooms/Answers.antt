@@ -1,6 +1,5 @@
-use Rattle.std.proofs.Common.{arith, take}
-use Rattle.std.proofs.lemmas.List.{take_more}
-use Rattle.item_workers.proofs.Workers.{rooms_more}
+use Rattle.item_workers.proofs.Terms.{arith, take, take_more}
+use Rattle.item_workers.proofs.Links.{zip_more}
 use Rattle.item_workers.proofs.loading.make_rooms.Goals as goal
 
 pub loop-source-preserved : goal.loop-source-preserved
@@ -11,5 +10,5 @@ loop-source-preserved g c =
     let answers = c.in_ok-answers.ensures in
     rw (take_more sources i source c.loop-source-test.true, c.in_ok-push.ensures.items)
     (rw (← c.source-item.is)
-    (rooms_more g.P.Source.left (take i sources) c.loop-source.rooms.items source _ c.loop-source.invariant answers.items
-    (omega (arith, answers.capacity, c.most.ensures))))
+    (zip_more _ (take i sources) c.loop-source.rooms.items source _ c.loop-source.invariant
+    (answers.items, omega (arith, answers.capacity, c.most.ensures))))

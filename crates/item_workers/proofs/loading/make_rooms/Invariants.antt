@@ -1,5 +1,4 @@
-use Rattle.std.proofs.Common.{take}
-use Rattle.item_workers.specs.Workers.{AreRooms}
+use Rattle.item_workers.proofs.Terms.{take, AreRooms}
 use Rattle.item_workers.proofs.loading.make_rooms.Given as goal
 
 abbrev pub invariant-loop-source : goal.invariant-loop-source

@@ -1,5 +1,5 @@
-use Rattle.std.proofs.Common.{◌≡◌, ◌≤◌, ◌+◌, ◌++◌, map, length, vec_len, vec_capacity}
-use Rattle.item_workers.specs.Workers.{stands_at, source_of, answers_of}
+use Rattle.std.proofs.Common.{◌≡◌, ◌≤◌, ◌+◌, ◌++◌}
+use Rattle.item_workers.proofs.Terms.{map, length, vec_len, vec_capacity, stands_at, source_of, answers_of}
 use Rattle.item_workers.proofs.loading.unload.Given as goal
 
 abbrev pub invariant-loop-workers : goal.invariant-loop-workers

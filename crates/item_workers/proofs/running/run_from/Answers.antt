@@ -1,5 +1,5 @@
-use Rattle.std.proofs.Common.{◌≡◌, ◌∙◌, Some, slice_get, arith}
-use Rattle.std.proofs.lemmas.Option.{get_or_from_slice_get}
+use Rattle.std.proofs.Common.{◌≡◌}
+use Rattle.item_workers.proofs.Terms.{◌∙◌, Some, slice_get, arith, get_or_from_slice_get}
 use Rattle.item_workers.proofs.Serves.{serves_more}
 use Rattle.item_workers.proofs.running.run_from.Goals as goal
 

@@ -1,6 +1,4 @@
-use Rattle.std.proofs.Common.{All, map, take}
-use Rattle.item_workers.specs.OwnLists.{IsAt, AreOwn}
-use Rattle.item_workers.specs.Workers.{items_of}
+use Rattle.item_workers.proofs.Terms.{All, map, take, IsAt, AreOwn, items_of}
 use Rattle.item_workers.proofs.threads.own_sources.Given as goal
 
 abbrev pub invariant-loop-list : goal.invariant-loop-list

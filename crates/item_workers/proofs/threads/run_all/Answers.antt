@@ -1,5 +1,5 @@
+use Rattle.item_workers.proofs.Terms.{RanBy}
 use Rattle.item_workers.proofs.Links.{each_zip}
-use Rattle.item_workers.specs.Workers.{RanBy}
 use Rattle.item_workers.proofs.threads.run_all.Goals as goal
 
 pub returns : goal.returns

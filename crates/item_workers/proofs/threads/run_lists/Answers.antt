@@ -1,13 +1,12 @@
-use Rattle.std.proofs.Common.{◌∙◌, map}
-use Rattle.std.proofs.lemmas.List.{length-map}
-use Rattle.item_workers.specs.Workers.{items_of}
-use Rattle.item_workers.proofs.Lists.{own_count, own_did}
+use Rattle.std.proofs.lemmas.Slice.Zip.{AllZip-long}
+use Rattle.item_workers.proofs.Terms.{◌∙◌, map, length-map, items_of}
+use Rattle.item_workers.proofs.Lists.{own_did}
 use Rattle.item_workers.proofs.threads.run_lists.Goals as goal
 
 -- there is a source for each list
 pub run_sources-requires-clause-as_many : goal.run_sources-requires-clause-as_many
 run_sources-requires-clause-as_many g c κs within =
-    own_count (map items_of c.args.lists.now) c.in-Ok.sources.items c.in-Ok.ensures.own ∙ length-map c.args.lists.now items_of ∙ c.requires.as_many
+    AllZip-long _ (map items_of c.args.lists.now) c.in-Ok.sources.items c.in-Ok.ensures.own ∙ length-map c.args.lists.now items_of ∙ c.requires.as_many
 
 pub returns-in-Ok-run_sources-clause-did : goal.returns-in-Ok-run_sources-clause-did
 returns-in-Ok-run_sources-clause-did g c =

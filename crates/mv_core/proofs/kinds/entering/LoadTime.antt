@@ -1,13 +1,12 @@
 -- load CLOCK (take time): a section begins, whose time is the clock's, and its seat sees the whole history. Nothing that bounds the times of all sections is
 -- above the clock.
-use Rattle.std.proofs.Common.{◌≡◌, ◌<◌, ◌≢◌, ℕ, suc, ◌+◌, ◌≤◌, cond, count_by, List, [], ◌∷◌}
-use Rattle.std.proofs.Common.{length, refl, sym, ap, ◌∙◌, subst, inl, inr, le_refl, arith, Some, None, false}
+use Rattle.std.proofs.Common.{◌≡◌, ◌<◌, ◌≢◌, ℕ, suc, ◌+◌, ◌≤◌, cond, count_by, List, [], ◌∷◌, length, refl, sym, ap, ◌∙◌, subst, inl, inr, le_refl, arith, Some}
+use Rattle.std.proofs.Common.{None, false}
 use Rattle.std.specs.Prelude.{Contains, slice_index_or}
-use Rattle.mv_core.proofs.Terms.{Entry, State, Writes, Config, Clock, Grace, Mark, Master, Stamp}
-use Rattle.mv_core.proofs.Terms.{Super, clock_time_of, clock_slot_of, Ring, Slot, Free, Built, Live}
-use Rattle.mv_core.proofs.Terms.{Freeing, Version, Held, Aborted, Committed, View, Past, Outside, Marked, Inside, Section, Open, LoadedClocks, Scan}
-use Rattle.mv_core.proofs.Terms.{CommitNote, is_held, held_count, HoldsNothing, Lives, is_by, last_own, IsNextWrite, section_of, time_in, low_of}
-use Rattle.mv_core.proofs.Terms.{IsUnnamed, ViewParts, parts_of, set_at}
+use Rattle.mv_core.proofs.Terms.{Entry, State, Writes, Config, Clock, Grace, Mark, Master, Stamp, Super, clock_time_of, clock_slot_of, Ring, Slot, Free, Built}
+use Rattle.mv_core.proofs.Terms.{Live, Freeing, Version, Held, Aborted, Committed, View, Past, Outside, Marked, Inside, Section, Open, LoadedClocks, Scan}
+use Rattle.mv_core.proofs.Terms.{CommitNote, is_held, held_count, HoldsNothing, Lives, is_by, last_own, IsNextWrite, section_of, time_in, low_of, IsUnnamed}
+use Rattle.mv_core.proofs.Terms.{ViewParts, parts_of, set_at}
 use Rattle.mv_core.specs.declared.view.Walk.TheVariants.{Nowhere}
 use Rattle.mv_core.proofs.FactTerms.{BeginsWith, IsNaming, MarkedAs, IsWord, WasClock, IsDone, IsTimed, IsBegun, Loads, IsKept}
 use Rattle.mv_core.specs.EnterSteps.{IsWhole, if_none, MayLoadTime, time_loaded}

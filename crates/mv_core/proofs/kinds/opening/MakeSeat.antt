@@ -1,11 +1,10 @@
 -- Making a seat: the list of views has one more, of the seat whose number comes next.
-use Rattle.std.proofs.Common.{◌≡◌, ◌≢◌, ◌⊎◌, ℕ, zero, suc, ◌+◌, ◌-◌, ◌<◌, ◌≤◌, false, cond, List, [], ◌∷◌}
-use Rattle.std.proofs.Common.{◌++◌, length, replicate, set, sym, refl, ap, ◌∙◌, subst, inl, inr, ⊎_elim, le_refl, arith, ne_eqb, All}
-use Rattle.std.proofs.Common.{None}
+use Rattle.std.proofs.Common.{◌≡◌, ◌≢◌, ◌⊎◌, ℕ, zero, suc, ◌+◌, ◌-◌, ◌<◌, ◌≤◌, false, cond, List, [], ◌∷◌, ◌++◌, length, replicate, set, sym, refl, ap, ◌∙◌}
+use Rattle.std.proofs.Common.{subst, inl, inr, ⊎_elim, le_refl, arith, ne_eqb, All, None}
 use Rattle.std.specs.Prelude.{Contains}
 use Rattle.std.proofs.lemmas.List.Elements.{All-nil, All-weaker, All-contains}
-use Rattle.mv_core.proofs.Terms.{dite, some, some-injective, some-ne-none, ℕ_discrete, get_elem?, Step, State, Writes, Config, Checked, Shows}
-use Rattle.mv_core.proofs.Terms.{View, Note, new_view, set_at}
+use Rattle.mv_core.proofs.Terms.{dite, some, some-injective, some-ne-none, ℕ_discrete, get_elem?, Step, State, Writes, Config, Checked, Shows, View, Note}
+use Rattle.mv_core.proofs.Terms.{new_view, set_at}
 use Rattle.atomic_table.specs.Table.{Splits, opening}
 use Rattle.atomic_table.proofs.Lists.{at_set, set_here, at_last, at_longer}
 use Rattle.mv_history.specs.declared.StepKind.TheVariants.{MakeSeat}

@@ -1,14 +1,13 @@
 -- load SUPER: a time found there is that of the object's next write, from which on the version is dead; where none is found, no write of the object comes
 -- before the watermark.
-use Rattle.std.proofs.Common.{◌≡◌, ◌≢◌, ◌⊎◌, ℕ, ◌+◌, ◌-◌, ◌/◌, ◌==◌, ◌<◌, ◌≤◌, Bool, true, false, cond}
-use Rattle.std.proofs.Common.{List, length, refl, sym, ap, ◌∙◌, subst, inl, inr, ⊎_elim, arith, Option, Some, None}
+use Rattle.std.proofs.Common.{◌≡◌, ◌≢◌, ◌⊎◌, ℕ, ◌+◌, ◌-◌, ◌/◌, ◌==◌, ◌<◌, ◌≤◌, Bool, true, false, cond, List, length, refl, sym, ap, ◌∙◌, subst, inl, inr}
+use Rattle.std.proofs.Common.{⊎_elim, arith, Option, Some, None}
 use Rattle.std.proofs.lemmas.Bool.{eqb-false}
 use Rattle.std.specs.Prelude.{slice_get, Contains}
 use Rattle.std.proofs.lemmas.Option.{slice_get_within}
-use Rattle.mv_core.proofs.Terms.{dite, dec_lt, ℕ_discrete, Entry, State, Writes, Config, Clock, Master, First, Prev, Super, Data, Memory, link_of}
-use Rattle.mv_core.proofs.Terms.{Ring, Slot, Live, Version, Status, Aborted, Committed, CommitNote, View, Past, Stand, Section, slot_at, index_of}
-use Rattle.mv_core.proofs.Terms.{put_slot, is_held, held_count, Lives, Names, writes_to, IsEntry, IsNextWrite, NotAbove, ViewParts, parts_of, set_at}
-use Rattle.mv_core.proofs.Terms.{time_in}
+use Rattle.mv_core.proofs.Terms.{dite, dec_lt, ℕ_discrete, Entry, State, Writes, Config, Clock, Master, First, Prev, Super, Data, Memory, link_of, Ring, Slot}
+use Rattle.mv_core.proofs.Terms.{Live, Version, Status, Aborted, Committed, CommitNote, View, Past, Stand, Section, slot_at, index_of, put_slot, is_held}
+use Rattle.mv_core.proofs.Terms.{held_count, Lives, Names, writes_to, IsEntry, IsNextWrite, NotAbove, ViewParts, parts_of, set_at, time_in}
 use Rattle.mv_core.specs.declared.view.Walk.TheVariants.{At}
 use Rattle.mv_core.proofs.FactTerms.{BeginsWith, HoldsSlot, SlotWords, IsRightFor, MayStandAt, StandsRight, IsBeforeDeath, WalkerBeforeDeath, Deaths}
 use Rattle.mv_core.proofs.FactTerms.{DeathAfterWrite, SuccessorFlag, RunsOn, Facts, Loads, IsKept}

@@ -1,12 +1,11 @@
 -- load STAMP: what is found is the stamp of the version that the walk stands at, and a time found is seen.
-use Rattle.std.proofs.Common.{◌≡◌, ℕ, zero, suc, ◌+◌, ◌-◌, ◌<◌, ◌≤◌, ◌^◌, true, List, [], ◌∷◌, ◌++◌, length}
-use Rattle.std.proofs.Common.{take, drop, Some, None, sym, refl, ap, ◌∙◌, subst, inl, inr, ⊎_elim, arith, take-append-drop, append-nil}
-use Rattle.std.proofs.Common.{length-take, length-append}
+use Rattle.std.proofs.Common.{◌≡◌, ℕ, zero, suc, ◌+◌, ◌-◌, ◌<◌, ◌≤◌, ◌^◌, true, List, [], ◌∷◌, ◌++◌, length, take, drop, Some, None, sym, refl, ap, ◌∙◌, subst}
+use Rattle.std.proofs.Common.{inl, inr, ⊎_elim, arith, take-append-drop, append-nil, length-take, length-append}
 use Rattle.std.specs.Prelude.{slice_get}
 use Rattle.std.proofs.Math.Seq.{take-append-add}
-use Rattle.mv_core.proofs.Terms.{dec_lt, dec_le, dite, Entry, State, Writes, Config, Clock, Stamp, Memory, link_seat_of, IsUnset, View, Section}
-use Rattle.mv_core.proofs.Terms.{Stand, Past, Inside, Version, Status, Held, Aborted, Committed, CommitNote, Lives, index_of, parts_of, time_in}
-use Rattle.mv_core.proofs.Terms.{time_of, set_at, IsEntry, writes_to, section_of, slot_at, Open, Named, Live}
+use Rattle.mv_core.proofs.Terms.{dec_lt, dec_le, dite, Entry, State, Writes, Config, Clock, Stamp, Memory, link_seat_of, IsUnset, View, Section, Stand, Past}
+use Rattle.mv_core.proofs.Terms.{Inside, Version, Status, Held, Aborted, Committed, CommitNote, Lives, index_of, parts_of, time_in, time_of, set_at, IsEntry}
+use Rattle.mv_core.proofs.Terms.{writes_to, section_of, slot_at, Open, Named, Live}
 use Rattle.mv_core.specs.declared.view.Walk.TheVariants as walk
 use Rattle.mv_core.proofs.FactTerms.{HasPassed, IsBelowPassed, IsPastHelp, BeginsWith, StampedAs, stamp_of, RunsOn, Facts, Loads, IsKept}
 use Rattle.mv_core.proofs.logs.Written.{version_writes, commit_within}

@@ -11,18 +11,22 @@ use Rattle.mvrlu.proofs.closing.read_last.Goals as goal
 pub returns-in-Master-clause-still : goal.returns-in-Master-clause-still
 returns-in-Master-clause-still g c =
     let d = config_of c.last.inside.shared in
+    let ts = c.last.inside.tables.items in
     let v = view c.last.inside.pass in
     let w = view c.read_master.new.pass in
-    let k : Looks v w = looked LoadMaster v (view c.find.new.pass) w (walked v (view c.find.new.pass) _ _ c.find.ensures.walks) c.read_master.ensures.reads in
-    subst (λ (x : Whole). IsStill x (whole_from d w)) c.last.view_is (looks_still v w k c.last.invariant.seen d)
+    let walk : Looks v (view c.find.new.pass) = walked v (view c.find.new.pass) _ _ c.find.ensures.walks in
+    let k : Looks v w = looked LoadMaster v (view c.find.new.pass) w tt walk c.read_master.ensures.reads in
+    subst (λ (x : Whole). IsStill x (whole_from d ts w)) c.last.view_is (looks_still v w k c.last.invariant.seen d ts)
 
 pub returns-clause-still : goal.returns-clause-still
 returns-clause-still g c =
     let d = config_of c.last.inside.shared in
+    let ts = c.last.inside.tables.items in
     let v = view c.last.inside.pass in
     let w = view c.read_version.new.pass in
-    let k : Looks v w = looked LoadData v (view c.find.new.pass) w (walked v (view c.find.new.pass) _ _ c.find.ensures.walks) c.read_version.ensures.reads in
-    subst (λ (x : Whole). IsStill x (whole_from d w)) c.last.view_is (looks_still v w k c.last.invariant.seen d)
+    let walk : Looks v (view c.find.new.pass) = walked v (view c.find.new.pass) _ _ c.find.ensures.walks in
+    let k : Looks v w = looked LoadData v (view c.find.new.pass) w tt walk c.read_version.ensures.reads in
+    subst (λ (x : Whole). IsStill x (whole_from d ts w)) c.last.view_is (looks_still v w k c.last.invariant.seen d ts)
 
 pub find-requires-clause-of : goal.find-requires-clause-of
 find-requires-clause-of g c = c.last.invariant.of
@@ -52,7 +56,7 @@ read_master-requires-clause-stands g c = c.in-Master.ensures.found
 pub invariant_of-last : goal.invariant_of-last
 invariant_of-last g c =
     let k : Looks (view c.last.inside.pass) (view c.read_master.new.pass) = looked LoadMaster (view c.last.inside.pass) (view c.find.new.pass)
-    (view c.read_master.new.pass)
+    (view c.read_master.new.pass) tt
     (walked (view c.last.inside.pass) (view c.find.new.pass) _ _ c.find.ensures.walks) c.read_master.ensures.reads in
     reading_on c.last.inside.shared c.last.inside.pass c.read_master.new.pass
     (same_on c.last.inside.pass c.find.new.pass c.read_master.new.pass c.find.ensures.same c.read_master.ensures.same) c.last.invariant k
@@ -61,11 +65,12 @@ invariant_of-last g c =
 pub returns-in-Master-clause-words : goal.returns-in-Master-clause-words
 returns-in-Master-clause-words g c =
     let d = config_of c.last.inside.shared in
+    let ts = c.last.inside.tables.items in
     let v = view c.last.inside.pass in
     let w = view c.find.new.pass in
     let k : Looks v w = walked v w _ _ c.find.ensures.walks in
     c.read_master.ensures.words
-    ∙ reads_last d v w c.args.object c.last.invariant.of.2 (looks_still v w k c.last.invariant.seen d)
+    ∙ reads_last d ts v w c.args.object c.last.invariant.of.2 (looks_still v w k c.last.invariant.seen d ts)
     ∙ ap (λ (x : Whole). words_at (last_state x) c.args.object) c.last.view_is
 
 pub read_version-requires-clause-of : goal.read_version-requires-clause-of
@@ -80,7 +85,7 @@ read_version-requires-clause-stands g c = c.in-Version.ensures.found.0
 pub invariant_of-last-in-Version : goal.invariant_of-last-in-Version
 invariant_of-last-in-Version g c =
     let k : Looks (view c.last.inside.pass) (view c.read_version.new.pass) = looked LoadData (view c.last.inside.pass) (view c.find.new.pass)
-    (view c.read_version.new.pass)
+    (view c.read_version.new.pass) tt
     (walked (view c.last.inside.pass) (view c.find.new.pass) _ _ c.find.ensures.walks) c.read_version.ensures.reads in
     reading_on c.last.inside.shared c.last.inside.pass c.read_version.new.pass
     (same_on c.last.inside.pass c.find.new.pass c.read_version.new.pass c.find.ensures.same c.read_version.ensures.same) c.last.invariant k
@@ -89,9 +94,10 @@ invariant_of-last-in-Version g c =
 pub returns-clause-words : goal.returns-clause-words
 returns-clause-words g c =
     let d = config_of c.last.inside.shared in
+    let ts = c.last.inside.tables.items in
     let v = view c.last.inside.pass in
     let w = view c.find.new.pass in
     let k : Looks v w = walked v w _ _ c.find.ensures.walks in
     c.read_version.ensures.words ∙ ap (words_in (config_of c.last.inside.shared) (view c.find.new.pass)) c.in-Version.ensures.found.1
-    ∙ reads_last d v w c.args.object c.last.invariant.of.2 (looks_still v w k c.last.invariant.seen d)
+    ∙ reads_last d ts v w c.args.object c.last.invariant.of.2 (looks_still v w k c.last.invariant.seen d ts)
     ∙ ap (λ (x : Whole). words_at (last_state x) c.args.object) c.last.view_is

@@ -14,8 +14,8 @@ invariant_of-result g c =
     let one = c.load_joined.ensures.same in
     let two = c.enter.ensures.same in
     let three = c.load_joined-2.ensures.same in
-    let reads : HasRead d (view q) =
-    has_read g.P.Protocol.start g.P.Protocol.allowed g.P.Protocol.one_start g.P.Protocol.one_allowed d (view p)
+    let reads : HasRead d c.taken-tables.result.items (view q) =
+    has_read g.P.Protocol.start g.P.Protocol.allowed g.P.Protocol.one_start g.P.Protocol.one_allowed d c.taken-tables.result.items (view p)
     (view c.load_joined.new.pass) (view c.enter.new.pass) (view q) c.load_joined.result c.load_joined-2.result c.enter.result of.2
     c.load_joined.ensures.view c.enter.ensures.begins c.load_joined-2.ensures.view q.known in
     record {
@@ -37,9 +37,19 @@ returns-clause-sound g c =
     let p = c.joined-pass.result in
     let of = c.joined-pass.ensures.of in
     let q = c.load_joined-2.new.pass in
-    (has_read g.P.Protocol.start g.P.Protocol.allowed g.P.Protocol.one_start g.P.Protocol.one_allowed d (view p)
+    (has_read g.P.Protocol.start g.P.Protocol.allowed g.P.Protocol.one_start g.P.Protocol.one_allowed d c.taken-tables.result.items (view p)
     (view c.load_joined.new.pass) (view c.enter.new.pass) (view q) c.load_joined.result c.load_joined-2.result c.enter.result of.2
     c.load_joined.ensures.view c.enter.ensures.begins c.load_joined-2.ensures.view q.known).sound
+
+pub returns-clause-numbered : goal.returns-clause-numbered
+returns-clause-numbered g c =
+    let d = config_of c.args.domain.shared in
+    let p = c.joined-pass.result in
+    let of = c.joined-pass.ensures.of in
+    let q = c.load_joined-2.new.pass in
+    (has_read g.P.Protocol.start g.P.Protocol.allowed g.P.Protocol.one_start g.P.Protocol.one_allowed d c.taken-tables.result.items (view p)
+    (view c.load_joined.new.pass) (view c.enter.new.pass) (view q) c.load_joined.result c.load_joined-2.result c.enter.result of.2
+    c.load_joined.ensures.view c.enter.ensures.begins c.load_joined-2.ensures.view q.known).numbered
 
 -- and all there is, since all were joined
 pub returns-clause-law : goal.returns-clause-law
@@ -48,7 +58,7 @@ returns-clause-law g c =
     let p = c.joined-pass.result in
     let of = c.joined-pass.ensures.of in
     let q = c.load_joined-2.new.pass in
-    (has_met g.P.Protocol.start g.P.Protocol.allowed g.P.Protocol.one_start g.P.Protocol.one_allowed d c.args.seats.items (view p)
+    (has_met g.P.Protocol.start g.P.Protocol.allowed g.P.Protocol.one_start g.P.Protocol.one_allowed d c.taken-tables.result.items c.args.seats.items (view p)
     (view c.load_joined.new.pass) (view c.enter.new.pass) (view q)
     c.load_joined.result c.load_joined-2.result c.enter.result c.requires.all.many c.requires.all.apart (subst (λ (n : ℕ). n < d.seats) p.numbered of.1) of.2
     c.joined-pass.ensures.joined c.load_joined.ensures.view c.enter.ensures.begins c.load_joined-2.ensures.view q.known).law
@@ -59,7 +69,7 @@ returns-clause-short g c =
     let p = c.joined-pass.result in
     let of = c.joined-pass.ensures.of in
     let q = c.load_joined-2.new.pass in
-    (has_met g.P.Protocol.start g.P.Protocol.allowed g.P.Protocol.one_start g.P.Protocol.one_allowed d c.args.seats.items (view p)
+    (has_met g.P.Protocol.start g.P.Protocol.allowed g.P.Protocol.one_start g.P.Protocol.one_allowed d c.taken-tables.result.items c.args.seats.items (view p)
     (view c.load_joined.new.pass) (view c.enter.new.pass) (view q)
     c.load_joined.result c.load_joined-2.result c.enter.result c.requires.all.many c.requires.all.apart (subst (λ (n : ℕ). n < d.seats) p.numbered of.1) of.2
     c.joined-pass.ensures.joined c.load_joined.ensures.view c.enter.ensures.begins c.load_joined-2.ensures.view q.known).short

@@ -41,9 +41,9 @@ returns-clause-ran g c =
       base = still.base ∙ ends.1 ∙ ap (λ (n : Config). n.base) c.in_ok-domain.ensures.numbers;
       run = run_along c.in_ok-domain.domain c.in_ok-domain.seats.items _ (config_of c.args.options 64 (length scripts)) c.in_ok-domain.ensures
           (ap (config_of c.args.options 64) many) IsBlockCommit (block_chain_of scripts)
-          (λ past. BlocksRunOf past scripts lines c.in_ok-end.end c.in_ok-closing.tables.items)
-          c.in_ok-closing.lines.items lines c.in_ok-closing.tables.items
+          (λ past. BlocksRunOf past scripts lines c.in_ok-end.end c.read_all.new.view.last.tables)
+          c.in_ok-closing.lines.items lines
           c.in_ok-closing.closing.last c.read_all.new.view.last c.order.ensures.permutation still linked
-          (still_blocks c.in_ok-closing.closing.last c.read_all.new.view.last scripts lines c.in_ok-end.end c.in_ok-closing.tables.items still
+          (still_blocks c.in_ok-closing.closing.last c.read_all.new.view.last scripts lines c.in_ok-end.end still
           c.in_ok-end.ensures.catalogue (run_permuted _ _ _ _ _ _ c.order.ensures.permutation run));
     }

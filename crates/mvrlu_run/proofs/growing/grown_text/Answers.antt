@@ -6,11 +6,10 @@ pub returns : goal.returns
 returns g c =
     let told = c.in_ok-closing.field-0 in
     let lines = c.deref.ensures.value in
-    let tables = c.deref-2.ensures.value in
+    let tables = c.tables.ensures in
     record {
       lines = told.lines.items;
       end = record { set = told.end; splits = told.splits };
-      tables = told.tables.items;
       left = c.in_ok-closing.ensures.ran;
       ordered = c.in_ok-closing.ensures.ordered;
       is = c.in_ok-text.ensures ∙ (λ i. text_of_grown (lines i) told.end told.splits (tables i));

@@ -58,10 +58,10 @@ returns-clause-ran g c =
       base = still.base ∙ ends.1 ∙ ap (λ (n : Config). n.base) c.in_ok-domain.ensures.numbers;
       run = run_along c.in_ok-domain.domain c.in_ok-domain.seats.items _ (config_of c.args.options 64 (length scripts)) c.in_ok-domain.ensures
           (ap (config_of c.args.options 64) many) IsGrowCommit (grow_chain_of scripts)
-          (λ past. GrowRunOf past scripts lines c.in_ok-end.end splits c.in_ok-closing.tables.items)
-          c.in_ok-closing.lines.items lines c.in_ok-closing.tables.items
+          (λ past. GrowRunOf past scripts lines c.in_ok-end.end splits c.read_grown.new.view.last.tables)
+          c.in_ok-closing.lines.items lines
           c.in_ok-closing.closing.last c.read_grown.new.view.last c.order_grown.ensures.permutation still linked
           (still_grown c.in_ok-closing.closing.last c.read_grown.new.view.last scripts lines c.in_ok-end.end _ splits
-          c.in_ok-closing.tables.items still (c.in_ok-end.ensures.catalogue ∙ ap grown_catalogue same)
+          still (c.in_ok-end.ensures.catalogue ∙ ap grown_catalogue same)
           (omega (arith, counted.splits, run.buckets_are)) (c.order_grown.ensures.whole _ _ _ _ _ run));
     }

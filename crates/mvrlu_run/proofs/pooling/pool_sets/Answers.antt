@@ -39,11 +39,11 @@ returns-clause-ran g c =
       base = still.base ∙ ends.1 ∙ ap (λ (n : Config). n.base) c.in_ok-domain.ensures.numbers;
       run = run_along c.in_ok-domain.domain c.in_ok-domain.seats.items _ (config_of c.args.options 16 c.args.seats) c.in_ok-domain.ensures
           refl IsSetCommit (pool_chain_of commands)
-          (λ past. PoolOf past c.args.seats commands lines c.in_ok-end.end c.in_ok-closing.tables.items)
-          c.in_ok-closing.lines.items lines c.in_ok-closing.tables.items
+          (λ past. PoolOf past c.args.seats commands lines c.in_ok-end.end c.read_all.new.view.last.tables)
+          c.in_ok-closing.lines.items lines
           c.in_ok-closing.closing.last c.read_all.new.view.last c.order.ensures.permutation still linked
           (rw (← seats)
           (still_pool c.in_ok-closing.closing.last c.read_all.new.view.last (length c.in_ok-domain.seats.items) commands lines
-          c.in_ok-end.end c.in_ok-closing.tables.items still c.in_ok-end.ensures.catalogue
+          c.in_ok-end.end still c.in_ok-end.ensures.catalogue
           (pool_permuted _ _ _ _ _ _ _ c.order.ensures.permutation pool)));
     }

@@ -40,9 +40,9 @@ returns-clause-ran g c =
       base = still.base ∙ ends.1 ∙ ap (λ (n : Config). n.base) c.in_ok-domain.ensures.numbers;
       run = run_along c.in_ok-domain.domain c.in_ok-domain.seats.items _ (config_of c.args.options 16 (length scripts)) c.in_ok-domain.ensures
           (ap (config_of c.args.options 16) many) IsSetCommit (chain_of scripts)
-          (λ past. RunOf past scripts lines c.in_ok-end.end c.in_ok-closing.tables.items)
-          c.in_ok-closing.lines.items lines c.in_ok-closing.tables.items
+          (λ past. RunOf past scripts lines c.in_ok-end.end c.read_all.new.view.last.tables)
+          c.in_ok-closing.lines.items lines
           c.in_ok-closing.closing.last c.read_all.new.view.last c.order.ensures.permutation still linked
-          (still_run c.in_ok-closing.closing.last c.read_all.new.view.last scripts lines c.in_ok-end.end c.in_ok-closing.tables.items still
+          (still_run c.in_ok-closing.closing.last c.read_all.new.view.last scripts lines c.in_ok-end.end still
           c.in_ok-end.ensures.catalogue (c.order.ensures.whole _ _ _ _ run));
     }

@@ -6,8 +6,7 @@ returns g c =
     record {
       lines = told.lines.items;
       end = told.end;
-      tables = told.tables.items;
       left = c.in_ok-closing.ensures.ran;
       ordered = c.in_ok-closing.ensures.ordered;
-      is = rw (c.deref.ensures.value, c.deref-2.ensures.value) at c.in_ok-text.ensures;
+      is = rw (c.deref.ensures.value, c.tables.ensures) at c.in_ok-text.ensures;
     }

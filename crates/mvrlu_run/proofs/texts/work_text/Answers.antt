@@ -8,6 +8,6 @@ use Rattle.mvrlu_run.proofs.texts.work_text.Goals as goal
 pub returns : goal.returns
 returns g c =
     let told = c.in_ok-closing.field-0 in
-    text_of_work c.args.number _ _ _ _ _ _ (ap (map items_of) c.deref.ensures.value ∙ c.in_ok-scripts.ensures.four) c.in_ok-closing.ensures.ran
+    text_of_work c.args.number _ _ _ _ _ (ap (map items_of) c.deref.ensures.value ∙ c.in_ok-scripts.ensures.four) c.in_ok-closing.ensures.ran
     c.in_ok-closing.ensures.ordered
     (c.in_ok-text.ensures ∙ ap (λ (lines : List Line). summary c.args.number lines told.end) c.deref-2.ensures.value)

@@ -27,11 +27,11 @@ returns-in-Ok-clause-ran g c =
     let on = all_went_on firsts met c.args.commands.now c.in-Ok.lines.items c.in-Ok.ensures.ran in
     let w = whole_of c.meet_all.result in
     let count = length-map c.args.seats.items (λ s. seat_of s) in
-    let pool = pool_met (past_of_whole w) firsts met c.args.commands.now c.in-Ok.lines.items c.in-Ok.tables.items
-    (one_history c.args.domain w IsOpening IsSetCommit _ firsts met c.in-Ok.tables.items c.requires.opening c.requires.new
-    (c.meet_all.ensures.met firsts c.requires.new on) c.in-Ok.ensures.tables refl (sym (count ∙ c.requires.all)))
+    let pool = pool_met (past_of_whole w) firsts met c.args.commands.now c.in-Ok.lines.items w.tables
+    (one_history c.args.domain w IsOpening IsSetCommit _ firsts met c.requires.opening c.requires.new
+    (c.meet_all.ensures.met firsts c.requires.new on) refl (sym (count ∙ c.requires.all)))
     c.in-Ok.ensures.ran in
-    subst (λ n. PoolOf (past_of_whole w) n c.args.commands.now c.in-Ok.lines.items (catalogue_of (last_state w)) c.in-Ok.tables.items) count pool
+    subst (λ n. PoolOf (past_of_whole w) n c.args.commands.now c.in-Ok.lines.items (catalogue_of (last_state w)) w.tables) count pool
 
 -- each seat went along its chain
 pub returns-in-Ok-clause-linked : goal.returns-in-Ok-clause-linked
@@ -43,7 +43,6 @@ returns-in-Ok-clause-linked g c =
       met = met;
       whole = c.meet_all.ensures.met firsts c.requires.new on;
       along = c.in-Ok.ensures.linked;
-      counted = c.in-Ok.ensures.tables;
     }
 
 -- its history begins with the opening state

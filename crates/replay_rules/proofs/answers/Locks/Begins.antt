@@ -1,6 +1,5 @@
 -- How a lock of a replay begins: it is answered at once, or its walk begins.
-use Rattle.std.proofs.Common.{◌≡◌, ◌≢◌, ℕ, ◌+◌, ◌==◌, true, false, List, [], length, Some, None, refl, ap}
-use Rattle.std.proofs.Common.{arith, eqb-true, if◌then◌else◌}
+use Rattle.std.proofs.Common.{◌≡◌, ◌≢◌, ℕ, ◌+◌, ◌==◌, true, false, List, [], length, Some, None, refl, ap, arith, eqb-true, if◌then◌else◌}
 use Rattle.mv_history.specs.declared.answers.LockAnswer.TheVariants as refusals
 use Rattle.mv_core.proofs.Terms.{Config, Checked}
 use Rattle.mv_core.specs.declared.view.View.{View}

@@ -1,6 +1,5 @@
 -- The steps of a tidy's write-back in which nothing is decided: the section is entered, its clock word helped, and words are stored.
-use Rattle.std.proofs.Common.{◌≡◌, ℕ, ◌+◌, ◌≤◌, ◌==◌, ltb, List, [], ◌∷◌, ◌++◌, length, true, Option, Some, None}
-use Rattle.std.proofs.Common.{refl, arith, slice_index, eqb-true}
+use Rattle.std.proofs.Common.{◌≡◌, ℕ, ◌+◌, ◌≤◌, ◌==◌, ltb, List, [], ◌∷◌, ◌++◌, length, true, Option, Some, None, refl, arith, slice_index, eqb-true}
 use Rattle.mv_history.specs.declared.Step.{Step}
 use Rattle.mv_history.specs.declared.StepKind.TheVariants as steps
 use Rattle.mv_history.specs.Trail.{clock_exchanges}

@@ -1,6 +1,5 @@
 -- What is known of a tidy's log behind a step that changes a version in it.
-use Rattle.std.proofs.Common.{◌≡◌, ◌≢◌, ℕ, ◌+◌, ◌<◌, ◌≤◌, List, length, true, Option, sym, ap, ◌∙◌, subst, arith}
-use Rattle.std.proofs.Common.{if◌then◌else◌, eq-eqb, ne_eqb}
+use Rattle.std.proofs.Common.{◌≡◌, ◌≢◌, ℕ, ◌+◌, ◌<◌, ◌≤◌, List, length, true, Option, sym, ap, ◌∙◌, subst, arith, if◌then◌else◌, eq-eqb, ne_eqb}
 use Rattle.mv_history.specs.declared.Step.{Step}
 use Rattle.mv_core.proofs.Terms.{Config, dite, ℕ_discrete}
 use Rattle.mv_core.specs.declared.view.View.{View}

@@ -14,7 +14,7 @@ use Rattle.seat_log.specs.declared.version.Note.{Note}
 use Rattle.log_reclaim.specs.Parts.{BeginsNoScan, super_step, FindsNewer, FindsAbove}
 use Rattle.log_reclaim.specs.Untimed.{TriedSo, StaysUntimed}
 use Rattle.log_reclaim.specs.Holders.{ReadsMark, FindsLast}
-use Rattle.log_reclaim.proofs.Exchanges.{none_in_both, one_between}
+use Rattle.log_reclaim.proofs.rests.Exchanges.{none_in_both, one_between}
 use Rattle.replay_rules.specs.declared.seats.Version.{Version}
 use Rattle.replay_rules.specs.declared.seats.Scanned.{Scanned}
 use Rattle.replay_rules.specs.SeatNotes.{version_at}

@@ -1,6 +1,5 @@
 -- SUPER of a version is loaded in a tidy.
-use Rattle.std.proofs.Common.{◌≡◌, ◌≢◌, ℕ, ◌+◌, ◌-◌, ◌<◌, ◌≤◌, List, [], ◌∷◌, length}
-use Rattle.std.proofs.Common.{None, refl, sym, ap, ◌∙◌, subst, arith}
+use Rattle.std.proofs.Common.{◌≡◌, ◌≢◌, ℕ, ◌+◌, ◌-◌, ◌<◌, ◌≤◌, List, [], ◌∷◌, length, None, refl, sym, ap, ◌∙◌, subst, arith}
 use Rattle.mv_history.specs.declared.Step.{Step}
 use Rattle.mv_core.proofs.Terms.{Config, Checked, Super}
 use Rattle.mv_core.specs.declared.ring.CommitNote.{CommitNote}
@@ -20,8 +19,8 @@ use Rattle.seat_log.specs.Stands.{version_of}
 use Rattle.seat_log.specs.Builds as builds
 use Rattle.log_reclaim.specs.Parts.{super_load}
 use Rattle.log_reclaim.specs.Tries.{IsUntimed}
-use Rattle.log_reclaim.proofs.OneNote.{committed}
-use Rattle.log_reclaim.proofs.Supers.{loads_none}
+use Rattle.log_reclaim.proofs.looks.OneNote.{committed}
+use Rattle.log_reclaim.proofs.looks.Supers.{loads_none}
 use Rattle.replay_rules.specs.declared.seats.Version.{Version}
 use Rattle.replay_rules.specs.States.{any_commit, any_start, zeros, Made, state_of, AreMade}
 use Rattle.replay_rules.specs.SeatNotes.{version_at}

@@ -1,6 +1,5 @@
 -- The end of a tidy's scan, by which GRACE is raised.
-use Rattle.std.proofs.Common.{◌≡◌, ℕ, List, [], ◌∷◌, ◌++◌, Bool, true, false}
-use Rattle.std.proofs.Common.{None, if◌then◌else◌, refl, sym, ap, subst, arith}
+use Rattle.std.proofs.Common.{◌≡◌, ℕ, List, [], ◌∷◌, ◌++◌, Bool, true, false, None, if◌then◌else◌, refl, sym, ap, subst, arith}
 use Rattle.mv_history.specs.declared.Step.{Step}
 use Rattle.mv_core.proofs.Terms.{Config, Checked, Grace}
 use Rattle.mv_core.specs.declared.view.View.{View}

@@ -15,7 +15,7 @@ use Rattle.mv_core.specs.NameSteps.{rest_word, rest_named, rest_lost}
 use Rattle.mv_core.specs.Moves.{Moment, load_named, load_check, stamp, name_rest}
 use Rattle.mv_core.proofs.history.Fronts.{begins_by, begins_long}
 use Rattle.mv_core.proofs.kinds.naming.LostClock.{lost_overtaken}
-use Rattle.log_reclaim.proofs.Exchanges.{one_last}
+use Rattle.log_reclaim.proofs.rests.Exchanges.{one_last}
 use Rattle.log_reclaim.proofs.Needed.{death_known}
 use Rattle.replay_rules.specs.declared.seats.Version.{Version}
 use Rattle.replay_rules.specs.declared.seats.Sweep.{Sweep}

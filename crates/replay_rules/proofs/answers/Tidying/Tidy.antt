@@ -1,6 +1,5 @@
 -- A tidy comes to its answer: it begins so, and goes on so behind each of its steps.
-use Rattle.std.proofs.Common.{◌≡◌, ℕ, ◌<◌, ◌≤◌, List, [], length, true, false, not, Option, Some, None, refl, sym, ◌∙◌, subst, arith}
-use Rattle.std.proofs.Common.{inl, inr, is_some}
+use Rattle.std.proofs.Common.{◌≡◌, ℕ, ◌<◌, ◌≤◌, List, [], length, true, false, not, Option, Some, None, refl, sym, ◌∙◌, subst, arith, inl, inr, is_some}
 use Rattle.mv_core.proofs.Terms.{Config, Checked}
 use Rattle.mv_core.specs.declared.view.View.{View}
 use Rattle.mv_core.specs.Moves.{Moment, Kind, load_low, store_mark, load_time, clear_mark, load_named, load_check, stamp, load_head, load_death, name_rest}

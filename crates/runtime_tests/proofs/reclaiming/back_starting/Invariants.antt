@@ -1,4 +1,4 @@
-use Rattle.log_reclaim.proofs.OneNote.{note_of}
+use Rattle.log_reclaim.proofs.looks.OneNote.{note_of}
 use Rattle.runtime_tests.proofs.reclaiming.back_starting.Given as goal
 
 abbrev pub ghost-back_start : goal.ghost-back_start

@@ -1,5 +1,5 @@
-use Rattle.std.proofs.Common.{◌≡◌, take, sum_by}
-use Rattle.script_workers.specs.Workers.{command_count}
+use Rattle.std.proofs.Common.{◌≡◌}
+use Rattle.script_workers.proofs.Terms.{take, sum_by, command_count}
 use Rattle.script_workers.proofs.rows.count_commands.Given as goal
 
 abbrev pub invariant-loop-script : goal.invariant-loop-script

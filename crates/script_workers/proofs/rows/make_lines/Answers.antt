@@ -1,15 +1,19 @@
-use Rattle.std.proofs.Common.{ap, length, arith}
-use Rattle.script_workers.proofs.Chains.{row_fits}
+use Rattle.std.proofs.lemmas.List.Folds.{length-flat_map-take}
+use Rattle.script_workers.proofs.Terms.{ap, length, arith, Vec, length-map, Global, Place, Reply, Answer, line_of, row_of}
 use Rattle.script_workers.proofs.rows.make_lines.Goals as goal
 
+-- there is room for the lines of one more row
 pub put_row-requires : goal.put_row-requires
 put_row-requires c =
+    let l = c.loop-row in
     let row = c.row-item.result in
     omega (
       arith,
-      row_fits c.args.rows.now c.loop-row.row-index row c.loop-row-test.true c.row-item.is,
-      ap length c.loop-row.invariant.0,
-      c.loop-row.invariant.1,
+      length-flat_map-take row_of c.args.rows.now l.row-index row c.loop-row-test.true,
+      ap (λ (v : Vec (Answer (Place × Reply)) Global). length (row_of v)) c.row-item.is,
+      length-map row.items line_of,
+      ap length l.invariant.0,
+      l.invariant.1,
       ap length c.deref.ensures.value,
       c.requires.room,
     )

@@ -1,6 +1,4 @@
-use Rattle.std.proofs.Common.{arith}
-use Rattle.item_workers.proofs.Each.{all_free, all_may}
-use Rattle.script_workers.specs.Links.{LinkedDone}
+use Rattle.script_workers.proofs.Terms.{arith, all_free, all_may, LinkedDone}
 use Rattle.script_workers.proofs.Chains.{few_numbers, all_ran, all_linked, line_counts}
 use Rattle.script_workers.proofs.running.run_scripts.Goals as goal
 
@@ -18,12 +16,10 @@ make_lines-requires-clause-room g c =
       c.in-Ok.ensures.1,
     ))
 
-pub returns-clause-ran : goal.returns-clause-ran
-returns-clause-ran g c =
-    rw (c.make_lines.ensures, c.deref.ensures.value)
-    (all_ran _ g.S.Store.seat_of c.args.stores.items _ _ c.in_ok-stores.rows.items c.in_ok-stores.ensures.did)
-
-pub returns-clause-linked : goal.returns-clause-linked
-returns-clause-linked g c =
-    rw (c.make_lines.ensures, c.deref.ensures.value)
-    (all_linked _ g.S.Store.seat_of c.args.stores.items _ _ c.in_ok-stores.rows.items c.in_ok-stores.ensures.did)
+pub returns : goal.returns
+returns g c =
+    let each = c.in_ok-stores.ensures.did in record {
+      ran = rw (c.make_lines.ensures, c.deref.ensures.value) (all_ran _ g.S.Store.seat_of c.args.stores.items _ _ c.in_ok-stores.rows.items each);
+      linked = rw (c.make_lines.ensures, c.deref.ensures.value) (all_linked _ g.S.Store.seat_of c.args.stores.items _ _ c.in_ok-stores.rows.items each);
+      err = tt;
+    }

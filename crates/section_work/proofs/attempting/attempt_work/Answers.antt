@@ -109,12 +109,12 @@ returns-in-Enough g c =
     c.in-Change.plan c.in-Change.reply c.in-Change.is c.decide-section.ensures.found in
     let after = Continues-Continues goes.continues c.commit.ensures.continues in
     record {
-      attempted = attempted_by _ _ _ _ _ _ _ _ p e c.enter-section.ensures.took law.at goes
+      attempted = attempted_by _ _ _ _ _ _ _ p e c.enter-section.ensures.took law.at goes
           (early_by (g.S.Open.Section.section c.enter-section.result) c.at-time.result c.last-last.result law.at law.seat.time c.at-time.ensures
           c.last-last.ensures c.if-time-last.false)
           (subst (λ (u : State). (g.W.Work.means c.args.work.now).changes u)
           (here ∙ reads_snapshot (g.S.Open.Section.section c.enter-section.result) e.own) found.0)
-          c.commit.ensures.continues c.commit.ensures.attempted;
+          _ c.commit.ensures.continues c.commit.ensures.attempted;
       continues = Continues-Continues looks.continues c.commit.ensures.continues;
       at_most_one = one_before looks.continues c.commit.ensures.continues looks.quiet c.commit.ensures.at_most_one;
       knows = c.commit.ensures.knows;
@@ -142,12 +142,12 @@ returns-in-Short g c =
     c.leave-in-Short.ensures in
     let after = Continues-Continues goes.continues left.continues in
     record {
-      attempted = short_by _ _ _ _ _ _ _ _ p e c.enter-section.ensures.took law.at goes
+      attempted = short_by _ _ _ _ _ _ _ p e c.enter-section.ensures.took law.at goes
           (early_by (g.S.Open.Section.section c.enter-section.result) c.at-time.result c.last-last.result law.at law.seat.time c.at-time.ensures
           c.last-last.ensures c.if-time-last.false)
           (subst (λ (u : State). (g.W.Work.means c.args.work.now).changes u)
           (here ∙ reads_snapshot (g.S.Open.Section.section c.enter-section.result) e.own) found.0)
-          (c.prepare-room.ensures.short c.in-Short.holder c.in-Short.is) left;
+          _ (c.prepare-room.ensures.short c.in-Short.holder c.in-Short.is) left;
       continues = Continues-Continues looks.continues left.continues;
       at_most_one = left_one looks.continues looks.quiet left;
       knows = g.met.W.Work.knows_on _ _ _ after

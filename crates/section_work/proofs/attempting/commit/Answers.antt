@@ -1,9 +1,5 @@
-use Rattle.std.proofs.Common.{ℕ, ◌-◌, List, inl, inr, refl, sym, subst, ◌∙◌}
-use Rattle.mv_history.specs.Drift.{IsFit}
-use Rattle.mv_history.specs.Meaning.{Seat, snapshot_of}
-use Rattle.mv_history.specs.Calls.{Leaves, Commits}
-use Rattle.mv_history.proofs.Steps.{Continues-Continues, GoesOn-GoesOn, NamesNoCommit-NamesNoCommit}
-use Rattle.section_work.specs.Sections.{TriesOne}
+use Rattle.std.proofs.Common.{◌-◌, ℕ, List, inl, inr, refl, sym, subst, ◌∙◌}
+use Rattle.section_work.proofs.Terms.{IsFit, Seat, snapshot_of, Leaves, Commits, Continues-Continues, GoesOn-GoesOn, NamesNoCommit-NamesNoCommit, TriesOne}
 use Rattle.section_work.proofs.Exchanges.{leaves_none, left_one, one_before, one_after}
 use Rattle.section_work.proofs.Entering.{worn_left}
 use Rattle.section_work.proofs.Stopping.{held_by}

@@ -1,8 +1,5 @@
-use Rattle.std.proofs.Common.{inr, refl, sym, subst, ap, ◌∙◌, ◌==◌}
-use Rattle.mv_history.specs.Meaning.{Seat}
-use Rattle.mv_history.specs.Calls.{Leaves}
-use Rattle.mv_history.specs.CallLaws.{Continues-itself}
-use Rattle.mv_history.proofs.Steps.{Continues-Continues, NamesNoCommit-NamesNoCommit}
+use Rattle.std.proofs.Common.{◌==◌}
+use Rattle.section_work.proofs.Terms.{inr, refl, sym, subst, ap, ◌∙◌, Seat, Leaves, Continues-itself, Continues-Continues, NamesNoCommit-NamesNoCommit}
 use Rattle.section_work.proofs.Exchanges.{leave_none}
 use Rattle.section_work.proofs.Entering.{worn_enters, worn_time, time_found}
 use Rattle.section_work.proofs.Outcomes.{read_at, noted_by}

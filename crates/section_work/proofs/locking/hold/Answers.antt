@@ -1,28 +1,18 @@
-use Rattle.std.proofs.Common.{◌≡◌, ℕ, refl}
-use Rattle.mv_history.specs.declared.answers.LockAnswer.{LockAnswer}
-use Rattle.mv_history.specs.declared.answers.LockAnswer.TheVariants.{Held, Busy, Stale}
-use Rattle.std.proofs.lemmas.Bool.{false_from_ne_true}
+use Rattle.section_work.proofs.Terms.{refl, false_from_ne_true}
 use Rattle.section_work.proofs.locking.hold.Goals as goal
-
--- who was refused did not get the lock
-busy_not_held : (answer : LockAnswer) (seat : ℕ) → answer ≡ Busy seat → answer ≡ Held → ⊥
-busy_not_held answer seat is e = cc
-
-stale_not_held : (answer : LockAnswer) (time : ℕ) → answer ≡ Stale time → answer ≡ Held → ⊥
-stale_not_held answer time is e = cc
 
 pub returns-in-Busy-clause-refused : goal.returns-in-Busy-clause-refused
 returns-in-Busy-clause-refused g c = record {
-  unheld = false_from_ne_true _ (λ t. busy_not_held _ _ c.in-Busy.is (c.try_lock.ensures.again t).0);
+  unheld = false_from_ne_true _ (λ t. let held = (c.try_lock.ensures.again t).0 in cc (c.in-Busy.is));
   goes_on = c.try_lock.ensures.goes_on;
-  as_before = c.try_lock.ensures.refused (busy_not_held _ _ c.in-Busy.is);
+  as_before = c.try_lock.ensures.refused (λ e. cc (c.in-Busy.is));
   why = let r = c.try_lock.ensures.busy c.in-Busy.seat c.in-Busy.is in (refl, r.0, r.1, r.2);
 }
 
 pub returns-in-Stale-clause-refused : goal.returns-in-Stale-clause-refused
 returns-in-Stale-clause-refused g c = record {
-  unheld = false_from_ne_true _ (λ t. stale_not_held _ _ c.in-Stale.is (c.try_lock.ensures.again t).0);
+  unheld = false_from_ne_true _ (λ t. let held = (c.try_lock.ensures.again t).0 in cc (c.in-Stale.is));
   goes_on = c.try_lock.ensures.goes_on;
-  as_before = c.try_lock.ensures.refused (stale_not_held _ _ c.in-Stale.is);
+  as_before = c.try_lock.ensures.refused (λ e. cc (c.in-Stale.is));
   why = let r = c.try_lock.ensures.stale c.in-Stale.time c.in-Stale.is in (refl, r.0, r.1);
 }

@@ -1,6 +1,4 @@
-use Rattle.mv_history.specs.State.{Writes}
-use Rattle.section_work.specs.OwnWrites.{objects_of}
-use Rattle.section_work.specs.Held.{HoldsMore}
+use Rattle.section_work.proofs.Terms.{Writes, objects_of, HoldsMore}
 use Rattle.section_work.proofs.Holding.{IfErr-told, all_taken}
 use Rattle.section_work.proofs.Planned.{planned_none, planned_lacks, planned_within, planned_room, planned_refused, planned_held, planned_all}
 use Rattle.section_work.proofs.locking.hold_planned.Goals as goal

@@ -1,6 +1,4 @@
-use Rattle.std.proofs.Common.{take}
-use Rattle.section_work.specs.OwnWrites.{objects_of}
-use Rattle.section_work.specs.Held.{HoldsMore}
+use Rattle.section_work.proofs.Terms.{take, objects_of, HoldsMore}
 use Rattle.section_work.proofs.locking.hold_planned.Given as goal
 
 abbrev pub invariant-loop-change : goal.invariant-loop-change

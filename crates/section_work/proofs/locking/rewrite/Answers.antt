@@ -1,9 +1,6 @@
-use Rattle.mv_history.specs.State.{Writes}
-use Rattle.mv_history.specs.Meaning.{state_of}
-use Rattle.section_work.specs.OwnWrites.{objects_of, with_locks}
-use Rattle.section_work.specs.Held.{HoldsMore}
-use Rattle.section_work.proofs.Holding.{holds_nothing, IfErr-told, IsWriting, writing_none, writing_all, place_within, place_room, place_refused}
-use Rattle.section_work.proofs.Holding.{place_held, place_touches, place_written, all_taken}
+use Rattle.section_work.proofs.Terms.{Writes, state_of, objects_of, with_locks, HoldsMore}
+use Rattle.section_work.proofs.Holding.{holds_nothing, IfErr-told, IsWriting, writing_none, writing_all, place_within, place_room, place_refused, place_held}
+use Rattle.section_work.proofs.Holding.{place_touches, place_written, all_taken}
 use Rattle.section_work.proofs.locking.rewrite.Goals as goal
 
 pub loop-lock-init : goal.loop-lock-init

@@ -1,7 +1,4 @@
-use Rattle.std.proofs.Common.{take}
-use Rattle.mv_history.specs.Meaning.{state_of}
-use Rattle.section_work.specs.OwnWrites.{objects_of, with_locks}
-use Rattle.section_work.specs.Held.{HoldsMore}
+use Rattle.section_work.proofs.Terms.{take, state_of, objects_of, with_locks, HoldsMore}
 use Rattle.section_work.proofs.Holding.{IsWriting}
 use Rattle.section_work.proofs.locking.rewrite.Given as goal
 

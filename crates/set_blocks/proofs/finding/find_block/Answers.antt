@@ -1,5 +1,4 @@
-use Rattle.std.proofs.Common.{sym, subst, take, ◌∙◌}
-use Rattle.set_blocks.specs.BlockFindings.{IsBlockFound}
+use Rattle.set_blocks.proofs.Terms.{sym, subst, take, ◌∙◌, IsBlockFound}
 use Rattle.set_blocks.specs.declared.finding.BlockFinding.{BlockFinding}
 use Rattle.set_blocks.proofs.WholeTurns.{plan_found, full_found, alone_found, alone_first}
 use Rattle.set_blocks.proofs.finding.find_block.Goals as goal

@@ -1,4 +1,4 @@
-use Rattle.std.proofs.Common.{[], ◌∷◌, ap, sym, arith, length, length-append, refl, take}
+use Rattle.std.proofs.Common.{◌∷◌, [], ap, sym, arith, length, length-append, refl, take}
 use Rattle.set_blocks.proofs.PlanTurns.{planned_none, lawful_next, planned_next, full_next}
 use Rattle.set_blocks.proofs.finding.plan_turns.Goals as goal
 

@@ -1,13 +1,5 @@
-use Rattle.std.proofs.Common.{◌≡◌, ◌<◌, ◌≤◌, ℕ, List, [], ◌∷◌, take, ap, ap₂, refl, sym, ◌∙◌, subst, arith}
-use Rattle.mv_history.specs.State.{State, Writes, written}
-use Rattle.mv_history.specs.Meaning.{words_at}
-use Rattle.set_script.specs.Objects.{link}
-use Rattle.list_set.specs.Walks.{IsSpot}
-use Rattle.tree_set.specs.Walks.{IsFork}
-use Rattle.tree_set.proofs.Found.{found_words}
-use Rattle.set_catalog.specs.Merges.{merged}
-use Rattle.set_catalog.specs.Plans.{head_of}
-use Rattle.set_blocks.specs.BlockPlans.LacksAt.{no_tree}
+use Rattle.std.proofs.Common.{◌≡◌, ◌<◌, ◌≤◌, ◌∷◌, ℕ, List, [], take, ap, ap₂, refl, sym, ◌∙◌, subst, arith}
+use Rattle.set_blocks.proofs.Terms.{State, Writes, written, words_at, link, IsSpot, IsFork, found_words, merged, head_of, no_tree}
 use Rattle.set_blocks.proofs.Telling.{list_tells, tree_tells, is_low, is_high}
 use Rattle.set_blocks.proofs.Turning.{count_same, room_after, more_after}
 use Rattle.set_blocks.proofs.holds.hold_key.Goals as goal

@@ -1,5 +1,4 @@
-use Rattle.mv_history.proofs.Drifting.{drifts_itself, allowed_at_once}
-use Rattle.set_blocks.specs.BlockRules.{IsBlockCommit}
+use Rattle.set_blocks.proofs.Terms.{drifts_itself, allowed_at_once, IsBlockCommit}
 use Rattle.set_blocks.proofs.Remaining.{lawful_after, remains_itself, remains_drifts}
 use Rattle.set_blocks.proofs.laws.lawful_states_remain.Goals as goal
 

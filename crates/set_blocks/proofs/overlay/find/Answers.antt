@@ -1,5 +1,4 @@
-use Rattle.std.proofs.Common.{[], arith}
-use Rattle.mv_history.proofs.Writing.{touches_more}
+use Rattle.set_blocks.proofs.Terms.{[], arith, touches_more}
 use Rattle.set_blocks.proofs.overlay.find.Goals as goal
 
 pub loop-i-preserved : goal.loop-i-preserved

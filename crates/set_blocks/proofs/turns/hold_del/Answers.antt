@@ -1,4 +1,4 @@
-use Rattle.std.proofs.Common.{ℕ, ◌<◌, subst, arith}
+use Rattle.std.proofs.Common.{◌<◌, ℕ, subst, arith}
 use Rattle.set_blocks.proofs.Turning.{del_held}
 use Rattle.set_blocks.proofs.turns.hold_del.Goals as goal
 

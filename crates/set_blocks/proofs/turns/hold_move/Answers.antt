@@ -1,6 +1,5 @@
-use Rattle.std.proofs.Common.{◌≡◌, ℕ, ◌<◌, ap₂, take, arith, subst, sym, ◌∙◌}
-use Rattle.mv_history.specs.State.{State, Writes, written}
-use Rattle.set_script.specs.Lawful.{IsLawful}
+use Rattle.std.proofs.Common.{◌≡◌, ◌<◌}
+use Rattle.set_blocks.proofs.Terms.{ℕ, ap₂, take, arith, subst, sym, ◌∙◌, State, Writes, written, IsLawful}
 use Rattle.set_blocks.proofs.Turning.{moved_held, move_held, key_after, count_same}
 use Rattle.set_blocks.proofs.turns.hold_move.Goals as goal
 

@@ -1,13 +1,5 @@
 use Rattle.std.proofs.Common.{◌≡◌, ◌<◌, ℕ, take, sym, ap, ap₂, ◌∙◌, subst, arith}
-use Rattle.mv_history.specs.State.{State, Writes, written}
-use Rattle.set_script.specs.CatalogueOf.{catalogue_of}
-use Rattle.set_script.specs.Lawful.{IsLawful}
-use Rattle.set_script.specs.Replies.{applies}
-use Rattle.set_script.specs.declared.commands.Reply.TheVariants.{No}
-use Rattle.set_catalog.specs.Merges.{merged, writes_in}
-use Rattle.set_catalog.specs.Picks.{vacant_nodes}
-use Rattle.set_blocks.specs.BlockReplies.{is_full}
-use Rattle.set_blocks.specs.BlockPlans.StepPlan.{changing}
+use Rattle.set_blocks.proofs.Terms.{State, Writes, written, catalogue_of, IsLawful, applies, No, merged, writes_in, vacant_nodes, is_full, changing}
 use Rattle.set_blocks.proofs.Turning.{vacant_few, count_same, count_plan, is_full_there, nothing_applies, turn_kept, held_after}
 use Rattle.set_blocks.proofs.turns.turn_change.Goals as goal
 

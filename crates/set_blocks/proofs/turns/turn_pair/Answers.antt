@@ -1,5 +1,4 @@
-use Rattle.std.proofs.Common.{take, sym, subst}
-use Rattle.set_script.specs.Lawful.{IsLawful}
+use Rattle.set_blocks.proofs.Terms.{take, sym, subst, IsLawful}
 use Rattle.set_blocks.proofs.Turning.{key_stays, pair_held, turn_kept}
 use Rattle.set_blocks.proofs.turns.turn_pair.Goals as goal
 

@@ -1,4 +1,4 @@
-use Rattle.std.proofs.Common.{refl}
+use Rattle.accounts.proofs.Terms.{refl}
 use Rattle.accounts.proofs.transfer_work.TransferWork.at_last.Goals as goal
 
 pub returns : goal.returns

@@ -1,7 +1,5 @@
-use Rattle.std.proofs.Common.{ap, ◌∙◌, arith}
-use Rattle.mv_history.specs.State.{State}
+use Rattle.accounts.proofs.Terms.{ap, ◌∙◌, arith, State, balance}
 use Rattle.accounts.specs.declared.layout.Account.{Account}
-use Rattle.accounts.specs.Rules.{balance}
 use Rattle.accounts.proofs.Sections.{within-read, gain-fits}
 use Rattle.accounts.proofs.Finding.{planned}
 use Rattle.accounts.proofs.transfer_work.TransferWork.decide.Goals as goal

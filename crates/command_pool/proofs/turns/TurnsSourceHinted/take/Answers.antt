@@ -1,6 +1,5 @@
-use Rattle.std.proofs.Common.{◌-◌, length, ap, refl, arith}
-use Rattle.std.proofs.lemmas.List.{length_push}
-use Rattle.command_pool.proofs.Terms.{view, Hand}
+use Rattle.std.proofs.Common.{◌-◌}
+use Rattle.command_pool.proofs.Terms.{length, ap, refl, arith, length_push, view, Hand}
 use Rattle.command_pool.proofs.Taking.{command_found, command_there}
 use Rattle.command_pool.proofs.Totals.{rising_last, rising_length}
 use Rattle.command_pool.proofs.turns.TurnsSourceHinted.take.Goals as goal

@@ -1,5 +1,4 @@
-use Rattle.std.proofs.Common.{sym, subst}
-use Rattle.grow_hash.specs.Grown.{IsGrown}
+use Rattle.grow_hash.proofs.Terms.{sym, subst, IsGrown}
 use Rattle.grow_hash.proofs.attempts.Found.{unchanging_any}
 use Rattle.grow_hash.proofs.attempts.Outcomes.{planned_as}
 use Rattle.grow_hash.proofs.attempts.Times.{grown_read}

@@ -1,4 +1,4 @@
-use Rattle.std.proofs.Common.{refl}
+use Rattle.grow_hash.proofs.Terms.{refl}
 use Rattle.grow_hash.proofs.split_work.SplitWorkWork.at_last.Goals as goal
 
 pub returns : goal.returns

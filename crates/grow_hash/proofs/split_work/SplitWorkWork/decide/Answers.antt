@@ -1,5 +1,4 @@
-use Rattle.std.proofs.Common.{sym, subst}
-use Rattle.grow_hash.specs.Grown.{IsGrown}
+use Rattle.grow_hash.proofs.Terms.{sym, subst, IsGrown}
 use Rattle.grow_hash.proofs.split.Outcomes.{closed_settles, planned_as}
 use Rattle.grow_hash.proofs.attempts.Times.{grown_read}
 use Rattle.grow_hash.proofs.split_work.SplitWorkWork.decide.Goals as goal

@@ -1,13 +1,13 @@
-use Rattle.std.proofs.Common.{◌≡◌, ◌&&◌, ◌∙◌, sym}
-use Rattle.grow_report.specs.Turns.{is_added, odd_with}
-use Rattle.grow_workers.proofs.Attempts.{under_none, done_command, turn_done, under_due, split_told}
+use Rattle.std.proofs.Common.{◌≡◌, ◌&&◌}
+use Rattle.grow_workers.proofs.Terms.{◌∙◌, sym, is_added, odd_with}
+use Rattle.grow_workers.proofs.Attempts.{done_command, turn_done, split_told}
 use Rattle.grow_workers.proofs.growing.GrowingRunner.attempt.Goals as goal
 
 pub returns-in-Some : goal.returns-in-Some
 returns-in-Some g c =
     record {
       tried = λ s u.
-          let under = under_due _ s c.args.item.now _ _ _ _ c.in-Some.is u in
+          let under = rw c.in-Some.is at u in
           split_told _ s c.args.item.now under.0 _ _ _ _ _ _ _ under.1 under.2 under.3 (g.met.S.Store.lawful c.split.result.0.store) c.split.ensures.tried;
     }
 
@@ -16,9 +16,9 @@ returns-then-is_due g c =
     record {
       tried = λ s u.
           let new = c.attempt_grow-store.result.0 in
-          let begun = under_none _ s c.args.item.now _ _ c.in_default.is u in
-          let done = done_command _ s c.args.item.now _ (g.S.Store.seat_of new) _ _ _ c.in-Done.is begun.0 (g.met.S.Store.lawful new)
-          c.attempt_grow-store.ensures.attempted in
+          let begun = rw c.in_default.is at u in
+          let done = done_command _ s c.args.item.now _ (g.S.Store.seat_of new) _ _ begun.0 (g.met.S.Store.lawful new)
+          (rw c.in-Done.is at c.attempt_grow-store.ensures.attempted) in
           let due : c.is_due.result ≡ (s.odd && is_added c.args.item.now c.in-Done.reply) =
           c.is_due.ensures ∙ (λ i. begun.1 i && c.is_added-added.ensures i) in
           split_told _ s c.args.item.now _ _ _ _ _ _ _ _ done.0 done.1 (sym due ∙ c.if-is_due.true)
@@ -30,9 +30,9 @@ returns-else-is_due g c =
     record {
       tried = λ s u.
           let new = c.attempt_grow-store.result.0 in
-          let begun = under_none _ s c.args.item.now _ _ c.in_default.is u in
-          let done = done_command _ s c.args.item.now _ (g.S.Store.seat_of new) _ _ _ c.in-Done.is begun.0 (g.met.S.Store.lawful new)
-          c.attempt_grow-store.ensures.attempted in
+          let begun = rw c.in_default.is at u in
+          let done = done_command _ s c.args.item.now _ (g.S.Store.seat_of new) _ _ begun.0 (g.met.S.Store.lawful new)
+          (rw c.in-Done.is at c.attempt_grow-store.ensures.attempted) in
           let due : c.is_due.result ≡ (s.odd && is_added c.args.item.now c.in-Done.reply) =
           c.is_due.ensures ∙ (λ i. begun.1 i && c.is_added-added.ensures i) in
           let odd : c.odd_with-odd.result ≡ odd_with s.odd (is_added c.args.item.now c.in-Done.reply) =

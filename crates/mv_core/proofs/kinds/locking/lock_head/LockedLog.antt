@@ -1,13 +1,11 @@
 -- A won exchange of a lock, in the log of its seat: the slot that was built holds a version now, and the next position is used.
-use Rattle.std.proofs.Common.{◌≡◌, ◌≢◌, ◌⊎◌, ℕ, ◌+◌, ◌<◌, ◌≤◌, cond, List}
-use Rattle.std.proofs.Common.{length, refl, sym, ap, ◌∙◌, subst, inl, inr, le_refl, arith, Option, Some, None}
+use Rattle.std.proofs.Common.{◌≡◌, ◌≢◌, ◌⊎◌, ℕ, ◌+◌, ◌<◌, ◌≤◌, cond, List, length, refl, sym, ap, ◌∙◌, subst, inl, inr, le_refl, arith, Option, Some, None}
 use Rattle.std.specs.Prelude.{slice_index_or, slice_set}
 use Rattle.std.proofs.lemmas.List.{get_or-map, get_or_past, length-map}
 use Rattle.std.proofs.lemmas.List.Sums.{get_or-le-sum_by}
-use Rattle.mv_core.proofs.Terms.{dite, ℕ_discrete, dec_lt, Entry, State, Writes, Config, Clock, First, Stamp, Prev, Super, Data, unset_of, Memory}
-use Rattle.mv_core.proofs.Terms.{Ring, Slot, Free, Built, Live, Build, Version, Status, Held, Committed, CommitNote, View, Section}
-use Rattle.mv_core.proofs.Terms.{slot_at, index_of, is_held, held_count, set_first, HoldsNothing, Lives, HasFirst, section_of, parts_of}
-use Rattle.mv_core.proofs.Terms.{set_at}
+use Rattle.mv_core.proofs.Terms.{dite, ℕ_discrete, dec_lt, Entry, State, Writes, Config, Clock, First, Stamp, Prev, Super, Data, unset_of, Memory, Ring, Slot}
+use Rattle.mv_core.proofs.Terms.{Free, Built, Live, Build, Version, Status, Held, Committed, CommitNote, View, Section, slot_at, index_of, is_held, held_count}
+use Rattle.mv_core.proofs.Terms.{set_first, HoldsNothing, Lives, HasFirst, section_of, parts_of, set_at}
 use Rattle.mv_core.proofs.FactTerms.{IsStored, HoldsBuild, HoldsSlot, SlotWords, StampedAs, Stamps, InHeldSet, InSet, IsHeldOrAborted, WriteSets}
 use Rattle.mv_core.proofs.FactTerms.{Facts}
 use Rattle.mv_core.specs.LockSteps.{MayLock, locked_version, head_locked}

@@ -1,11 +1,9 @@
 -- A won exchange of a lock, in the positions of the logs: the next one of its seat is used, and each that was used is still.
-use Rattle.std.proofs.Common.{◌≡◌, ◌≢◌, ◌⊎◌, ℕ, ◌+◌, ◌-◌, ◌*◌, ◌/◌, ◌%◌, ◌<◌, ◌≤◌, List}
-use Rattle.std.proofs.Common.{length, refl, sym, ap, ◌∙◌, subst, ⊎_elim, inl, inr, arith, Some}
+use Rattle.std.proofs.Common.{◌≡◌, ◌≢◌, ◌⊎◌, ℕ, ◌+◌, ◌-◌, ◌*◌, ◌/◌, ◌%◌, ◌<◌, ◌≤◌, List, length, refl, sym, ap, ◌∙◌, subst, ⊎_elim, inl, inr, arith, Some}
 use Rattle.std.specs.Prelude.{slice_set}
 use Rattle.std.proofs.Math.Nat.{add-mod_right}
-use Rattle.mv_core.proofs.Terms.{dite, ℕ_discrete, Entry, State, Writes, Config, Memory}
-use Rattle.mv_core.proofs.Terms.{Ring, Free, Built, Live, Freeing, Build, Version, Status, Held, Aborted, View, Section}
-use Rattle.mv_core.proofs.Terms.{slot_at, index_of, Lives, InUse, parts_of}
+use Rattle.mv_core.proofs.Terms.{dite, ℕ_discrete, Entry, State, Writes, Config, Memory, Ring, Free, Built, Live, Freeing, Build, Version, Status, Held}
+use Rattle.mv_core.proofs.Terms.{Aborted, View, Section, slot_at, index_of, Lives, InUse, parts_of}
 use Rattle.mv_core.proofs.FactTerms.{Positions, next_in, PositionsAndGrace, Facts}
 use Rattle.mv_core.specs.LockSteps.{MayLock}
 use Rattle.mv_core.proofs.frames.FrameLaw.{set_at_else, set_at_all}

@@ -2,9 +2,8 @@
 use Rattle.std.proofs.Common.{◌≡◌, ℕ, zero, suc, ◌+◌, ◌<◌, ◌≤◌, cond, List, [], ◌∷◌, ◌++◌, length, count_by, refl, sym, ap, ◌∙◌, subst, arith}
 use Rattle.std.specs.Prelude.{slice_set}
 use Rattle.std.proofs.lemmas.List.Sums.{sum_by-set}
-use Rattle.mv_core.proofs.Terms.{Entry, State, Writes, Config, Memory, Ring, Slot, Free, Built, Live, Build, Version, Held, View, Section, slot_at}
-use Rattle.mv_core.proofs.Terms.{index_of, is_held, is_spare, held_count, spare_count, set_first, write_of, writes_from, own_of, HoldsNothing, Lives}
-use Rattle.mv_core.proofs.Terms.{parts_of}
+use Rattle.mv_core.proofs.Terms.{Entry, State, Writes, Config, Memory, Ring, Slot, Free, Built, Live, Build, Version, Held, View, Section, slot_at, index_of}
+use Rattle.mv_core.proofs.Terms.{is_held, is_spare, held_count, spare_count, set_first, write_of, writes_from, own_of, HoldsNothing, Lives, parts_of}
 use Rattle.mv_core.specs.LockSteps.{MayLock, head_locked, OneMoreWrite}
 use Rattle.mv_core.specs.Rule.{Facts}
 use Rattle.mv_core.proofs.frames.FrameLaw.{set_at_here}

@@ -1,10 +1,9 @@
 -- One more entry, of what its seat holds: the clock words, the sections, and the commits that they have named.
-use Rattle.std.proofs.Common.{◌≡◌, ◌≢◌, ℕ, ◌+◌, ◌<◌, ◌≤◌, ◌==◌, true, false, List, [], ◌∷◌, ◌++◌, length}
-use Rattle.std.proofs.Common.{refl, sym, ap, ◌∙◌, subst, inl, inr, ⊎_elim, arith, eq-eqb, eqb-true, Option, Some, None}
+use Rattle.std.proofs.Common.{◌≡◌, ◌≢◌, ℕ, ◌+◌, ◌<◌, ◌≤◌, ◌==◌, true, false, List, [], ◌∷◌, ◌++◌, length, refl, sym, ap, ◌∙◌, subst, inl, inr, ⊎_elim, arith}
+use Rattle.std.proofs.Common.{eq-eqb, eqb-true, Option, Some, None}
 use Rattle.mv_core.proofs.Terms.{dite, ℕ_discrete, Entry, State, Writes, Config, Clock, Master, Stamp, Super, Memory, clock_time_of, clock_seat_of}
-use Rattle.mv_core.proofs.Terms.{clock_slot_of, link_of, Ring, Version, Status, Held, Committed, CommitNote, Phase, Outside, Lowered, Marked, Inside}
-use Rattle.mv_core.proofs.Terms.{Section, Named, Naming, Scan, index_of, HoldsNothing, Lives, Names, writes_to, latest, IsNextWrite, time_in}
-use Rattle.mv_core.proofs.Terms.{IsUnnamed, ViewParts}
+use Rattle.mv_core.proofs.Terms.{clock_slot_of, link_of, Ring, Version, Status, Held, Committed, CommitNote, Phase, Outside, Lowered, Marked, Inside, Section}
+use Rattle.mv_core.proofs.Terms.{Named, Naming, Scan, index_of, HoldsNothing, Lives, Names, writes_to, latest, IsNextWrite, time_in, IsUnnamed, ViewParts}
 use Rattle.mv_core.proofs.FactTerms.{IsHeldOrAborted, IsNaming, Successors, UnstampedIsUnfinished, MarkedAs, IsWord, WasClock}
 use Rattle.mv_core.proofs.FactTerms.{LoadedWords, HelpedWords, FoundStamps, ScanIs, LockFreshness, NamedIs, NamedCommit, OpenSection}
 use Rattle.mv_core.proofs.FactTerms.{FreedIsOld, SuccessorFlag, WriteBacks, SucceededHasSuper, Facts}

@@ -1,15 +1,14 @@
 -- What an open section holds, as the next commit of the history: it is legal and allowed there, and its versions are the commit's write set.
-use Rattle.std.proofs.Common.{◌≡◌, ◌≢◌, ℕ, suc, ◌+◌, ◌-◌, ◌<◌, ◌≤◌, true, not, ◌&&◌, List, [], ◌∷◌}
-use Rattle.std.proofs.Common.{◌++◌, length, take, drop, refl, sym, ap, ◌∙◌, subst, ⊎_elim, arith, eq-eqb, take-append-drop, length-drop}
-use Rattle.std.proofs.Common.{Option, Some}
+use Rattle.std.proofs.Common.{◌≡◌, ◌≢◌, ℕ, suc, ◌+◌, ◌-◌, ◌<◌, ◌≤◌, true, not, ◌&&◌, List, [], ◌∷◌, ◌++◌, length, take, drop, refl, sym, ap, ◌∙◌, subst, ⊎_elim}
+use Rattle.std.proofs.Common.{arith, eq-eqb, take-append-drop, length-drop, Option, Some}
 use Rattle.std.specs.Prelude.{slice_get, slice_index_or}
 use Rattle.std.proofs.lemmas.List.{get_or-drop}
 use Rattle.std.proofs.lemmas.List.Elements.{All-from_get_or}
 use Rattle.std.proofs.lemmas.Option.{slice_get_within, get_or_from_slice_get, slice_get-get_or}
 use Rattle.mv_history.specs.declared.Commit.{Commit}
-use Rattle.mv_core.proofs.Terms.{Entry, Rest, Change, State, Writes, touches, maker_of, writes_of, state_after, state_at, commits_of, Config, Head}
-use Rattle.mv_core.proofs.Terms.{First, Prev, Data, Memory, Live, Version, Held, Aborted, Committed, Section, Open, slot_at, index_of, held_count}
-use Rattle.mv_core.proofs.Terms.{own_of, Lives, is_by, latest, writes_to, IsEntry, time_in, IsUnnamed, ViewParts}
+use Rattle.mv_core.proofs.Terms.{Entry, Rest, Change, State, Writes, touches, maker_of, writes_of, state_after, state_at, commits_of, Config, Head, First, Prev}
+use Rattle.mv_core.proofs.Terms.{Data, Memory, Live, Version, Held, Aborted, Committed, Section, Open, slot_at, index_of, held_count, own_of, Lives, is_by}
+use Rattle.mv_core.proofs.Terms.{latest, writes_to, IsEntry, time_in, IsUnnamed, ViewParts}
 use Rattle.mv_history.specs.Legal.{IsWords, AreWithin, AreWrites, AreApart, NoneWrites, NoneBy, IsNext, IsLegal, IsAllowed, are_distinct}
 use Rattle.mv_history.specs.Drift.{IsFit}
 use Rattle.mv_history.proofs.Drifting.{allowed_after}

@@ -1,8 +1,7 @@
 -- compare_exchange HEAD (cut), won and lost: it ends the writing of words, and is tried once.
 use Rattle.std.proofs.Common.{◌≡◌, ◌≢◌, ℕ, ◌-◌, ◌<◌, true, false, List, refl, sym, ap, ◌∙◌, subst, slice_index, Option, Some, None}
-use Rattle.mv_core.proofs.Terms.{Entry, State, Writes, Config, Head, Master, link_of, Memory, put, Ring, Live, Version, Committed, CommitNote, View}
-use Rattle.mv_core.proofs.Terms.{Section, WriteBack, slot_at, index_of, put_slot, is_held, held_count, Lives, ViewParts, parts_of, set_at}
-use Rattle.mv_core.proofs.Terms.{NotAboveAny}
+use Rattle.mv_core.proofs.Terms.{Entry, State, Writes, Config, Head, Master, link_of, Memory, put, Ring, Live, Version, Committed, CommitNote, View, Section}
+use Rattle.mv_core.proofs.Terms.{WriteBack, slot_at, index_of, put_slot, is_held, held_count, Lives, ViewParts, parts_of, set_at, NotAboveAny}
 use Rattle.mv_core.specs.declared.view.Walk.TheVariants.{Nowhere}
 use Rattle.mv_core.specs.WalkSteps.{IsLinkOf}
 use Rattle.mv_core.proofs.FactTerms.{IsWrittenBack, WriteBacks, RunsOn, Facts, Swaps, IsKept}

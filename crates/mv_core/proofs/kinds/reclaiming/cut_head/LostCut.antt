@@ -1,9 +1,8 @@
 -- A lost exchange of a cut: the version written back is its object's last write up to the section's time and wasn't cut, so HEAD
 -- isn't 0, and names no other version of the own log.
 use Rattle.std.proofs.Common.{◌≡◌, ◌≢◌, ℕ, ◌≤◌, false, List, refl, sym, ap, ◌∙◌, subst, ⊎_elim, arith, Some}
-use Rattle.mv_core.proofs.Terms.{Entry, State, Writes, Config, Head, Master, link_of, link_seat_of, Memory, Ring, Version, Status, Held, Committed}
-use Rattle.mv_core.proofs.Terms.{View, Section, WriteBack, index_of, Lives, Names, IsVersion, latest, latest_at, section_of, time_of, time_in}
-use Rattle.mv_core.proofs.Terms.{IsUnnamed, parts_of}
+use Rattle.mv_core.proofs.Terms.{Entry, State, Writes, Config, Head, Master, link_of, link_seat_of, Memory, Ring, Version, Status, Held, Committed, View}
+use Rattle.mv_core.proofs.Terms.{Section, WriteBack, index_of, Lives, Names, IsVersion, latest, latest_at, section_of, time_of, time_in, IsUnnamed, parts_of}
 use Rattle.mv_core.proofs.FactTerms.{IsWrittenBack, Facts}
 use Rattle.mv_core.specs.ReclaimSteps.{IsOfOther}
 use Rattle.mv_core.proofs.kinds.walking.EmptyHeads.{time_of_section, none_uncut}

@@ -1,9 +1,8 @@
 -- store STAMP 0 (free), in the walks and sections: no walk stands at a version that was dropped, nor at an aborted one that links to such a version, since
 -- both are dead by every section's time.
 use Rattle.std.proofs.Common.{◌≡◌, ◌≢◌, ℕ, ◌<◌, ◌≤◌, List, refl, sym, ap, ◌∙◌, subst, inl, inr, ⊎_elim, arith, Some}
-use Rattle.mv_core.proofs.Terms.{Entry, State, Writes, Config, Clock, Master, Stamp, clock_time_of, clock_seat_of, clock_slot_of, unset_of, Memory}
-use Rattle.mv_core.proofs.Terms.{Ring, Version, Status, Held, Aborted, Committed, Walk, Stand, FoundStamp, index_of, Lives, Names, latest_at}
-use Rattle.mv_core.proofs.Terms.{ViewParts}
+use Rattle.mv_core.proofs.Terms.{Entry, State, Writes, Config, Clock, Master, Stamp, clock_time_of, clock_seat_of, clock_slot_of, unset_of, Memory, Ring}
+use Rattle.mv_core.proofs.Terms.{Version, Status, Held, Aborted, Committed, Walk, Stand, FoundStamp, index_of, Lives, Names, latest_at, ViewParts}
 use Rattle.mv_core.specs.declared.view.Walk.TheVariants as walk
 use Rattle.mv_core.proofs.FactTerms.{BelowIsStamped, UnstampedIsUnfinished, IsFound, FoundStamps, NamedCommit, StampedPastHelp, MasterServes}
 use Rattle.mv_core.proofs.FactTerms.{MayStandAt, StandsRight, WalkerPlace, WalkerBeforeDeath, WalkerKnowledge, WalkerFalls, WriteBacks, Facts}

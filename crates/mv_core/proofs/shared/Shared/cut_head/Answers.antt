@@ -1,13 +1,11 @@
-use Rattle.std.proofs.Common.{◌≢◌, ℕ, sym, refl}
-use Rattle.mv_core.proofs.Terms.{Head, View}
+use Rattle.std.proofs.Common.{◌≢◌, ℕ, sym, refl, ◌≡◌, ap, subst, ◌∙◌}
+use Rattle.mv_core.proofs.Terms.{Head, View, link_of, view, config_of}
 use Rattle.mv_core.specs.EnterSteps.{stored_if}
 use Rattle.mv_core.specs.Moves.{history_after}
 use Rattle.mv_core.proofs.moves.Grown.{stays}
 use Rattle.mv_core.proofs.moves.Calls.{won_is, lost_is, no_made}
-use Rattle.std.proofs.Common.{◌≡◌, ap, subst, ◌∙◌}
 use Rattle.std.proofs.Math.Logic.{∥∥₁_elim}
 use Rattle.std.proofs.Math.Bridge.{le_prop}
-use Rattle.mv_core.proofs.Terms.{link_of, view, config_of}
 use Rattle.mv_core.specs.Swaps.{found_by}
 use Rattle.mv_core.specs.Tops.{NamesNewer}
 use Rattle.mv_core.proofs.kinds.reclaiming.cut_head.CutHead.{cut_swaps}

@@ -1,9 +1,8 @@
-use Rattle.std.proofs.Common.{refl, ap}
+use Rattle.std.proofs.Common.{refl, ap, sym, ◌∙◌, subst}
 use Rattle.mv_core.proofs.Terms.{Config, Clock, View}
 use Rattle.mv_core.specs.Known.{KnownInDomain}
 use Rattle.mv_core.specs.EnterSteps.{time_loaded}
 use Rattle.mv_core.proofs.moves.Grown.{whole_is}
-use Rattle.std.proofs.Common.{sym, ◌∙◌, subst}
 use Rattle.mv_core.specs.Passes.{view, config_of}
 use Rattle.mv_core.proofs.kinds.entering.LoadTime.{time_loads, time_runs}
 use Rattle.mv_core.proofs.shared.Shared.load_time.Goals as goal

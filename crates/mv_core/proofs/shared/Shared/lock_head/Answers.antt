@@ -1,12 +1,11 @@
 use Rattle.std.proofs.Common.{ℕ, ◌<◌, ◌^◌, sym, refl, ap, ◌∙◌, subst}
 use Rattle.std.proofs.Math.Logic.{∥∥₁_elim}
 use Rattle.std.proofs.Math.Bridge.{le_prop}
-use Rattle.mv_core.proofs.Terms.{Head, View}
+use Rattle.mv_core.proofs.Terms.{Head, View, link_of, view}
 use Rattle.mv_core.specs.EnterSteps.{stored_if}
 use Rattle.mv_core.specs.Moves.{history_after}
 use Rattle.mv_core.proofs.moves.Grown.{stays}
 use Rattle.mv_core.proofs.moves.Calls.{won_is, lost_is, no_made}
-use Rattle.mv_core.proofs.Terms.{link_of, view}
 use Rattle.mv_core.proofs.kinds.locking.lock_head.LockHead.{lock_swaps}
 use Rattle.mv_core.proofs.shared.Shared.lock_head.Goals as goal
 

@@ -1,5 +1,4 @@
-use Rattle.std.proofs.Common.{refl, ◌∙◌, arith}
-use Rattle.set_catalog.proofs.Merging.{merged_next, merged_all}
+use Rattle.set_blocks.proofs.Terms.{refl, ◌∙◌, arith, merged_next, merged_all}
 use Rattle.set_blocks.proofs.overlay.Overlay.write.Goals as goal
 
 pub loop-change-init : goal.loop-change-init

@@ -1,5 +1,5 @@
-use Rattle.std.proofs.Common.{◌≡◌, ◌+◌, ◌≤◌, take}
-use Rattle.set_catalog.specs.Merges.{merged}
+use Rattle.std.proofs.Common.{◌≡◌, ◌+◌, ◌≤◌}
+use Rattle.set_blocks.proofs.Terms.{take, merged}
 use Rattle.set_blocks.proofs.overlay.Overlay.write.Given as goal
 
 abbrev pub invariant-loop-change : goal.invariant-loop-change

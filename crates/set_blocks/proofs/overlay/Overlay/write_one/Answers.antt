@@ -1,7 +1,4 @@
-use Rattle.std.proofs.Common.{take, arith, sym, ap, ◌∙◌, subst}
-use Rattle.mv_history.specs.State.{Writes}
-use Rattle.mv_history.specs.Legal.{AreWrites, are_distinct}
-use Rattle.set_catalog.proofs.Merging.{written_there, written_last}
+use Rattle.set_blocks.proofs.Terms.{take, arith, sym, ap, ◌∙◌, subst, Writes, AreWrites, are_distinct, written_there, written_last}
 use Rattle.set_blocks.proofs.Overlaying.{distinct-merged_one, words-merged_one}
 use Rattle.set_blocks.proofs.overlay.Overlay.write_one.Goals as goal
 

@@ -1,5 +1,4 @@
-use Rattle.std.proofs.Common.{take, sym, ◌∙◌}
-use Rattle.mv_history.proofs.Writing.{length-written}
+use Rattle.set_blocks.proofs.Terms.{take, sym, ◌∙◌, length-written}
 use Rattle.set_blocks.proofs.overlay.OverlayView.objects.Goals as goal
 
 pub returns : goal.returns

@@ -1,6 +1,4 @@
-use Rattle.std.proofs.Common.{[], take, arith, sym, ◌∙◌, length-take, refl}
-use Rattle.std.proofs.lemmas.List.{get_or-take}
-use Rattle.mv_history.proofs.Writing.{words-written_same, words-written_other, length-written}
+use Rattle.set_blocks.proofs.Terms.{[], take, arith, sym, ◌∙◌, length-take, refl, get_or-take, words-written_same, words-written_other, length-written}
 use Rattle.set_blocks.proofs.overlay.OverlayView.read.Goals as goal
 
 pub returns-in-Some-clause-words : goal.returns-in-Some-clause-words

@@ -1,7 +1,5 @@
-use Rattle.std.proofs.Common.{[], take, arith, refl, sym, ap, ◌∙◌, length-take}
-use Rattle.std.proofs.lemmas.List.{get_or-take}
 use Rattle.mv_history.specs.Fours.{four_from}
-use Rattle.mv_history.proofs.Writing.{words-written_same, words-written_other, length-written}
+use Rattle.set_blocks.proofs.Terms.{[], take, arith, refl, sym, ap, ◌∙◌, length-take, get_or-take, words-written_same, words-written_other, length-written}
 use Rattle.set_blocks.proofs.overlay.OverlayView.read_four.Goals as goal
 
 pub returns-in-Some-clause-words : goal.returns-in-Some-clause-words

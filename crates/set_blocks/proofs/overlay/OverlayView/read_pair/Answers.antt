@@ -1,6 +1,5 @@
-use Rattle.std.proofs.Common.{ℕ, ◌+◌, List, [], take, arith, get_or, refl, sym, ap, ◌∙◌, length-take}
-use Rattle.std.proofs.lemmas.List.{get_or-take}
-use Rattle.mv_history.proofs.Writing.{words-written_same, words-written_other, length-written}
+use Rattle.std.proofs.Common.{◌+◌, ℕ, List, [], take, arith, get_or, refl, sym, ap, ◌∙◌, length-take, get_or-take}
+use Rattle.set_blocks.proofs.Terms.{words-written_same, words-written_other, length-written}
 use Rattle.set_blocks.proofs.overlay.OverlayView.read_pair.Goals as goal
 
 pub returns-in-Some-clause-first : goal.returns-in-Some-clause-first

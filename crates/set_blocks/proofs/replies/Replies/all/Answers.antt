@@ -1,5 +1,4 @@
-use Rattle.std.proofs.Common.{arith}
-use Rattle.std.proofs.lemmas.List.{take-replicate}
+use Rattle.set_blocks.proofs.Terms.{arith, take-replicate}
 use Rattle.set_blocks.proofs.replies.Replies.all.Goals as goal
 
 pub returns : goal.returns

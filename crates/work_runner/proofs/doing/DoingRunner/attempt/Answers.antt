@@ -1,4 +1,4 @@
-use Rattle.work_runner.proofs.Works.{linked, still}
+use Rattle.work_runner.proofs.Works.{still}
 use Rattle.work_runner.proofs.doing.DoingRunner.attempt.Goals as goal
 
 pub attempt_work-store-requires : goal.attempt_work-store-requires
@@ -11,7 +11,7 @@ attempt_work-store-requires g c = record {
 pub returns-in-Done : goal.returns-in-Done
 returns-in-Done g c = record {
   tried = λ s u. (
-    linked _ _ s _ _ _ _ _ c.in-Done.is u.0 c.attempt_work-store.ensures.attempted,
+    record { from = _; none = u.0; attempted = rw c.in-Done.is at c.attempt_work-store.ensures.attempted; lawful = tt },
     record { most = λ w a. rw c.attempt_work-store.ensures.continues.write_max (u.1.most w a); known = c.attempt_work-store.ensures.knows },
   );
 }
@@ -19,7 +19,7 @@ returns-in-Done g c = record {
 pub returns-in-Again : goal.returns-in-Again
 returns-in-Again g c = record {
   tried = λ s u. (
-    still _ _ s _ _ _ _ c.in-Again.is u.0 c.attempt_work-store.ensures.attempted,
+    still _ _ s _ _ _ u.0 (rw c.in-Again.is at c.attempt_work-store.ensures.attempted),
     record { most = λ w a. rw c.attempt_work-store.ensures.continues.write_max (u.1.most w a); known = c.attempt_work-store.ensures.knows },
   );
 }

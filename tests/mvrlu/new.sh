@@ -17,7 +17,7 @@ rows_of_a_new_folder() {
     grep -qx 'tally: client_run .*' "$scratch/made/tally/crates.txt" || fail 'new lists no crate of its own'
     grep -qx 'tally_main: tally mvrlu mv_history' "$scratch/made/tally/crates.txt" || fail 'new lists no program'
     cmp -s "$top/HANDLES" "$scratch/made/tally/HANDLES" || fail 'new leaves HANDLES out'
-    ! grep -rqE 'Rattle\.counter\.|use counter::' "$scratch/made/tally" || fail 'new leaves the name of the counter'
+    ! grep -rqE 'Rattle\.counter\.|use counter::|`counter(_main)?`' "$scratch/made/tally" || fail 'new leaves the name of the counter'
     cmp -s "$top/crates/counter_main/stdout" "$scratch/made/tally/crates/tally_main/stdout" || fail 'new leaves what the program prints out'
     [ -z "$(find "$scratch/made/tally" -name out -o -name must-fail)" ] || fail 'new copies what was made, or wrong bodies'
     [ "$before" = "$(wc -l <"$RT_CALLS")" ] || fail 'new calls rt'

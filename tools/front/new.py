@@ -27,6 +27,7 @@ def refuse(why):
 def renamed(text, name):
     """The text of the counter or its program, as that of a crate of another name."""
     text = re.sub(rf"\bRattle\.{MODEL}\b", f"Rattle.{name}", text)
+    text = re.sub(rf"`{MODEL}(_main)?`", rf"`{name}\g<1>`", text)
     return re.sub(rf"^(use ){MODEL}::", rf"\g<1>{name}::", text, flags=re.MULTILINE)
 
 

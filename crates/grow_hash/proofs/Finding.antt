@@ -4,6 +4,7 @@ use Rattle.grow_hash.proofs.Terms.{ℕ, suc, inl, inr, List, length, Option, sym
 use Rattle.grow_hash.proofs.Terms.{level, split_place, buckets_at, bucket_of, bucket, buckets, IsGrown, head_at, head_of}
 use Rattle.grow_hash.proofs.Buckets.{few_buckets, more_buckets, twice_buckets}
 use Rattle.grow_hash.proofs.GrownStates.{bucket_low}
+use Rattle.set_script.specs.Objects.{most_objects}
 
 -- the table that was read
 module _ (s : State) (lev pl : ℕ) (l : IsGrown s) (el : lev ≡ level s) (ep : pl ≡ split_place s) where
@@ -39,8 +40,8 @@ linked_bucket s t b l same lt =
     let h : suc b ≡ b + 1 = omega arith in
     subst (λ u. IsLinked u (b + 1)) (sym same) (subst (IsLinked s) h (l.lists b (let x = buckets_low s l in omega arith)))
 
-pub few_found : (s t : State) → IsGrown s → t ≡ s → length t ≤ 65535
-few_found s t l same = subst (λ u. length u ≤ 65535) (sym same) l.few
+pub few_found : (s t : State) → IsGrown s → t ≡ s → length t ≤ most_objects
+few_found s t l same = subst (λ u. length u ≤ most_objects) (sym same) l.few
 
 pub spot_found : (s t : State) (h k p : ℕ) (words : List ℕ) (node : ℕ) (node_words : List ℕ) → t ≡ s → h ≡ head_of s k → IsSpot t h k p words node node_words
     → IsSpot s (head_of s k) k p words node node_words

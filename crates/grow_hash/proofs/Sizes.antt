@@ -6,6 +6,7 @@ use Rattle.grow_hash.proofs.Terms.{split_place, bucket, buckets, IsGrown, head_a
 use Rattle.grow_hash.proofs.Buckets.{bucket_present}
 use Rattle.grow_hash.proofs.GrownMaps.{used-from, used_vacant}
 use Rattle.grow_hash.proofs.GrownStates.{low_unowned, key_once}
+use Rattle.set_script.specs.Objects.{most_objects}
 
 -- where a test picks what one of two others does, and no object is picked by both
 tally-add : (t u v : List ℕ → Bool) (s : State)
@@ -102,7 +103,7 @@ module _ (s : State) (l : IsGrown s) where
       let more = first_more b in
       ap (λ u. u + m) c ∙ ap (λ u. tally (in_first b) (drop 180 s) + u) own ∙ sym more ∙ ap (λ u. tally (in_first u) (drop 180 s)) (sym h)
 
-  pub first_fits : (b n : ℕ) → CountsFirst s b n → n ≤ 65535
+  pub first_fits : (b n : ℕ) → CountsFirst s b n → n ≤ most_objects
   first_fits b n c =
       let most = tally-bound (in_first b) (drop 180 s) in let size = length-drop 180 s in let few = l.few in omega arith
 

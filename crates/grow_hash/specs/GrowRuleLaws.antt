@@ -8,11 +8,12 @@ use Rattle.grow_hash.specs.Terms.{key, link, value, head_words, list_words, no_w
 use Rattle.grow_hash.specs.Tables.{level, split_place, most_level, buckets_at, bucket, table_words, next_table, IsTable}
 use Rattle.grow_hash.specs.Grown.{IsGrown, IsGrownOpening, first_grown, most_buckets, head_at, grown_catalogue, grown_capacity}
 use Rattle.grow_hash.specs.GrowRules.{Growing, makes, splits, growing_of, KeepsGrown, MakesGrown, SplitsGrown, Grows, IsGrowCommit}
+use Rattle.set_script.specs.Objects.{most_objects}
 
 pub IsGrownOpening-prop : (s : State) → IsProp (IsGrownOpening s)
 IsGrownOpening-prop s x y =
     let some_prop : IsProp (first_grown < length s) = hlevel props in
-    let few_prop : IsProp (length s ≤ 65535) = hlevel props in
+    let few_prop : IsProp (length s ≤ most_objects) = hlevel props in
     let zeros_prop : IsProp ((o : ℕ) → o < length s → words_at s o ≡ no_words) = hlevel props in
     λ i. record { some = some_prop x.some y.some i; few = few_prop x.few y.few i; zeros = zeros_prop x.zeros y.zeros i }
 
@@ -52,7 +53,7 @@ IsTable-prop s x y =
 pub IsGrown-prop : (s : State) → IsProp (IsGrown s)
 IsGrown-prop s x y =
     let some_prop : IsProp (first_grown < length s) = hlevel props in
-    let few_prop : IsProp (length s ≤ 65535) = hlevel props in
+    let few_prop : IsProp (length s ≤ most_objects) = hlevel props in
     let heads_prop : IsProp ((b : ℕ) → b < most_buckets → words_at s (head_at b) ≡ head_words (link s (head_at b))) = hlevel props in
     let nodes_prop : IsProp ((o : ℕ) → first_grown ≤ o → owner s o ≢ 0
     → words_at s o ≡ list_words (head_at (bucket s (key s o))) (key s o) (value s o) (link s o)) = hlevel props in

@@ -3,6 +3,7 @@ use Rattle.set_script.specs.Catalogue.{Map, Maps, empty}
 use Rattle.std.specs.Prelude.{◌≡◌, ◌≢◌, ◌-◌, ◌<◌, ◌≤◌, ◌==◌, ℕ, suc, Bool, not, List, length, drop, set, slice_index_or}
 use Rattle.grow_hash.specs.Terms.{State, words_at, map_among, owner, key, link, value, head_words, list_words, no_words, IsLinked}
 use Rattle.grow_hash.specs.Tables.{bucket, IsTable}
+use Rattle.set_script.specs.Objects.{most_objects}
 
 -- how many buckets there are at most
 abbrev pub most_buckets : ℕ
@@ -19,7 +20,7 @@ head_at b = suc b
 -- The table is in range; each head of a bucket has its list; and each node is vacant or in the list of its key's bucket.
 pub record IsGrown (s : State) : Type 0 where
   pub some : first_grown < length s
-  pub few : length s ≤ 65535
+  pub few : length s ≤ most_objects
   pub table : IsTable s
   pub heads : (b : ℕ) → b < most_buckets → words_at s (head_at b) ≡ head_words (link s (head_at b))
   pub lists : (b : ℕ) → b < most_buckets → IsLinked s (head_at b)
@@ -29,7 +30,7 @@ pub record IsGrown (s : State) : Type 0 where
 -- the states with which the set begins: all words are 0
 pub record IsGrownOpening (s : State) : Type 0 where
   pub some : first_grown < length s
-  pub few : length s ≤ 65535
+  pub few : length s ≤ most_objects
   pub zeros : (o : ℕ) → o < length s → words_at s o ≡ no_words
 
 -- whether these are the words of a node that is not vacant

@@ -3,6 +3,7 @@ ghost use Rattle.std.specs.Prelude.{◌≡◌, ◌+◌, ◌<◌, ◌≤◌, if�
 ghost use Rattle.grow_hash.specs.Terms.{length, take, map_at, IsLinked};
 ghost use Rattle.grow_hash.specs.Tables.{most_level, buckets_at, next_table};
 ghost use Rattle.grow_hash.specs.BucketReads.{IsRead, ArePartedWrites, IsMoved};
+ghost use Rattle.set_script.specs.Objects.{most_objects};
 
 use crate::table::{buckets_at, next_table};
 use mv_history::{View, Words};
@@ -37,7 +38,7 @@ pub(crate) struct Parted {
 // Reads the bucket of this head: each of its objects once.
 pub(crate) fn read_bucket<V: View>(view: &mut V, head: u32) -> Bucket
     requires linked { IsLinked (V.state view.old) head }
-    requires few { length (V.state view.old) ≤ 65535 }
+    requires few { length (V.state view.old) ≤ most_objects }
     ensures keys { result.keys ≡ length (map_at (V.state view.old) head) }
     ensures nodes { result.keys ≤ 61 → IsRead (V.state view.old) head (take result.keys result.nodes) 0 }
     ensures as_before { V.as_before view.old view.new }

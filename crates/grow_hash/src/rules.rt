@@ -2,7 +2,7 @@
 
 use mv_history::Protocol;
 
-/// The rules of a growing hash set: they begin with 1,026 to 65,535 objects that are all zero, and
+/// The rules of a growing hash set: they begin with 1,026 to 16,777,216 objects that are all zero, and
 /// each commit is an add or a del that replies yes, or the split of one bucket.
 ///
 /// A commit is allowed exactly where

@@ -4,6 +4,7 @@ ghost use Rattle.set_script.specs.Catalogue.{next_key};
 ghost use Rattle.list_set.specs.Spots.{EndsHere};
 ghost use Rattle.grow_hash.specs.Grown.{IsGrown, grown_map};
 ghost use Rattle.grow_hash.specs.GrowPlans.{head_of, IsFree};
+ghost use Rattle.set_script.specs.Objects.{most_objects};
 
 use crate::table::{bucket_of, buckets, table_of};
 use list_set::{Spot, find_linked, size_linked};
@@ -80,7 +81,7 @@ fn lesser(least: Option<u32>, key: u32) -> u32
 // seats that add different keys seldom want the same node.
 pub(crate) fn vacant<V: View>(view: &mut V, key: u32) -> Option<u32>
     requires some { 1025 < length (V.state view.old) }
-    requires few { length (V.state view.old) ≤ 65535 }
+    requires few { length (V.state view.old) ≤ most_objects }
     ensures found { MatchOption result ((o : ℕ) → IsFree (V.state view.old) o → ⊥) (IsFree (V.state view.old)) }
     ensures as_before { V.as_before view.old view.new }
 {
@@ -96,7 +97,7 @@ pub(crate) fn vacant<V: View>(view: &mut V, key: u32) -> Option<u32>
 fn vacant_between<V: View>(view: &mut V, from: u32, end: u32) -> Option<u32>
     requires nodes { 1025 ≤ from }
     requires within { end ≤ length (V.state view.old) }
-    requires few { length (V.state view.old) ≤ 65535 }
+    requires few { length (V.state view.old) ≤ most_objects }
     ensures found { MatchOption result ((o : ℕ) → from ≤ o → o < end → IsFree (V.state view.old) o → ⊥) (IsFree (V.state view.old)) }
     ensures as_before { V.as_before view.old view.new }
 {

@@ -14,6 +14,7 @@ use Rattle.set_script.proofs.ListMaps.{owned_key_once, key_once}
 use Rattle.set_script.proofs.Tally.{tally, tally-bound, length-map_among, node_at}
 use Rattle.hash_set.specs.Buckets.{bucket_at, count_in}
 use Rattle.hash_set.proofs.SetMaps.{bucket_low, bucket_name, bucket_is}
+use Rattle.set_script.specs.Objects.{most_objects}
 
 -- each node that holds a key of the head or the name has a key of its own
 length-map_at : (s : State) (head : ℕ) → IsLawful s → head < 170 → length (map_at s head) ≡ tally (is_key_at head) (drop 180 s)
@@ -110,17 +111,17 @@ count_all s set l ls =
     ∙ ap length (sym (map_of-catalogue_of s (10 + set) (omega arith)))
 
 -- no count overflows
-pub bucket_bound : (s : State) (head : ℕ) → IsLawful s → head < 170 → length (map_at s head) ≤ 65535
+pub bucket_bound : (s : State) (head : ℕ) → IsLawful s → head < 170 → length (map_at s head) ≤ most_objects
 bucket_bound s head l lh =
     let e = length-map_at s head l lh in
     let b : tally (is_key_at head) (drop 180 s) ≤ length (drop 180 s) = tally-bound (is_key_at head) (drop 180 s) in
-    let d = length-drop 180 s in let few : length s ≤ 65535 = l.few in omega arith
+    let d = length-drop 180 s in let few : length s ≤ most_objects = l.few in omega arith
 
-pub count_bound : (s : State) (set n : ℕ) → IsLawful s → set < 10 → n ≤ 16 → count_in s set n ≤ n * 65535
+pub count_bound : (s : State) (set n : ℕ) → IsLawful s → set < 10 → n ≤ 16 → count_in s set n ≤ n * most_objects
 count_bound s set zero l ls le = omega arith
 count_bound s set (suc n) l ls le =
-    let r : count_in s set n ≤ n * 65535 = count_bound s set n l ls (omega arith) in
-    let b : length (map_at s (bucket_at set n)) ≤ 65535 = bucket_bound s (bucket_at set n) l (bucket_low set n ls (omega arith)) in omega arith
+    let r : count_in s set n ≤ n * most_objects = count_bound s set n l ls (omega arith) in
+    let b : length (map_at s (bucket_at set n)) ≤ most_objects = bucket_bound s (bucket_at set n) l (bucket_low set n ls (omega arith)) in omega arith
 
 -- The loop over the buckets, whose views read alike.
 pub count_step : (s t : State) (set i head count here : ℕ) → t ≡ s → count ≡ count_in s set i → head ≡ bucket_at set i → here ≡ length (map_at t head)

@@ -5,7 +5,7 @@ use Rattle.std.proofs.lemmas.Bool.{cases_eq, cases_lt, and_parts, false_from_ne_
 use Rattle.mv_history.specs.State.{State}
 use Rattle.mv_history.specs.Meaning.{words_at}
 use Rattle.set_script.specs.CatalogueOf.{is_key_at, map_at}
-use Rattle.set_script.specs.Objects.{key, link}
+use Rattle.set_script.specs.Objects.{key, link, most_objects}
 use Rattle.set_script.proofs.ObjectWords.{word}
 use Rattle.set_script.proofs.Heads.{is_key_at-from}
 use Rattle.set_script.proofs.Tally.{tally, tally-none, tally-bound, tally-same, length-map_among, node_at}
@@ -159,10 +159,10 @@ module _ (s t : State) (head node n next : ℕ) (l : IsLinked s head) (same : t 
   pub count_in_range : node < length t
   count_in_range = subst (λ (u : State). node < length u) (sym same) (node_in_range s head node (count_node s head l node n c more))
 
-  pub count_fits : length s ≤ 65535 → node < 2 ^ 32
+  pub count_fits : length s ≤ most_objects → node < 2 ^ 32
   count_fits few = let lt = node_in_range s head node (count_node s head l node n c more) in omega arith
 
-  pub count_room : length s ≤ 65535 → n < 2 ^ 32
+  pub count_room : length s ≤ most_objects → n < 2 ^ 32
   count_room few =
       let most = tally-bound (is_passed head (bound s node)) (drop 180 s) in
       let size = length-drop 180 s in let e = c.count in omega arith

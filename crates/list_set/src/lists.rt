@@ -5,7 +5,7 @@ ghost use Rattle.set_script.specs.Catalogue.{has_key, value_of, next_key};
 ghost use Rattle.set_script.specs.CatalogueOf.{map_at};
 ghost use Rattle.set_script.specs.Lawful.{IsLawful};
 ghost use Rattle.set_script.specs.Lists.{FitsHead};
-ghost use Rattle.set_script.specs.Objects.{owner};
+ghost use Rattle.set_script.specs.Objects.{owner, most_objects};
 ghost use Rattle.list_set.specs.Places.{IsAddPlace, IsDelPlace, IsPutPlace};
 ghost use Rattle.section_work.specs.Held.{HasRoom};
 ghost use Rattle.list_set.specs.Linked.{IsLinked};
@@ -75,10 +75,10 @@ pub fn size_in<V: View>(view: &mut V, head: u32) -> u64
 /// How many keys the list has of any head that leads with rising keys through all nodes that name it,
 /// whatever else the state has.
 ///
-/// It needs such a head, and at most 65,535 objects. It reads as `size_in` does.
+/// It needs such a head, and at most 16,777,216 objects. It reads as `size_in` does.
 pub fn size_linked<V: View>(view: &mut V, head: u32) -> u64
     requires linked { IsLinked (V.state view.old) head }
-    requires few { length (V.state view.old) ≤ 65535 }
+    requires few { length (V.state view.old) ≤ most_objects }
     ensures size { result ≡ length (map_at (V.state view.old) head) }
     ensures as_before { V.as_before view.old view.new }
 {

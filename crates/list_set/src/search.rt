@@ -4,6 +4,7 @@ ghost use Rattle.set_script.specs.Lawful.{IsLawful};
 ghost use Rattle.section_work.specs.OwnWrites.{objects_of};
 ghost use Rattle.list_set.specs.Linked.{IsLinked};
 ghost use Rattle.list_set.specs.Spots.{EndsHere, StopsHere, AreAddWrites, AreDelWrites, ArePutWrites};
+ghost use Rattle.set_script.specs.Objects.{most_objects};
 
 use crate::window::{KEY, Window, walk_from};
 use mv_history::{View, Words};
@@ -77,10 +78,10 @@ pub fn find<V: View>(view: &mut V, head: u32, key: u32) -> Spot
 /// Where the key is, or belongs, in the list of any head that leads with rising keys through all nodes
 /// that name it, whatever else the state has.
 ///
-/// It needs such a head, and at most 65,535 objects. It reads as `find` does.
+/// It needs such a head, and at most 16,777,216 objects. It reads as `find` does.
 pub fn find_linked<V: View>(view: &mut V, head: u32, key: u32) -> Spot
     requires linked { IsLinked (V.state view.old) head }
-    requires few { length (V.state view.old) ≤ 65535 }
+    requires few { length (V.state view.old) ≤ most_objects }
     ensures spot { EndsHere (V.state view.old) head key result }
     ensures as_before { V.as_before view.old view.new }
 {
@@ -92,7 +93,7 @@ pub fn find_linked<V: View>(view: &mut V, head: u32, key: u32) -> Spot
 // The spot of a walk that ended here: it reads all words of both objects.
 pub(crate) fn spot_at<V: View>(view: &mut V, head: u32, key: u32, window: Window) -> Spot
     requires linked { IsLinked (V.state view.old) head }
-    requires few { length (V.state view.old) ≤ 65535 }
+    requires few { length (V.state view.old) ≤ most_objects }
     requires stops { StopsHere (V.state view.old) head key window }
     ensures spot { EndsHere (V.state view.old) head key result }
     ensures as_before { V.as_before view.old view.new }

@@ -3,6 +3,7 @@ ghost use Rattle.std.specs.Prelude.{◌≡◌, ◌^◌, ◌<◌, ◌≤◌, ◌=
 ghost use Rattle.list_set.specs.Linked.{IsLinked};
 ghost use Rattle.list_set.specs.Walks.{IsBehind};
 ghost use Rattle.list_set.specs.Spots.{StopsHere};
+ghost use Rattle.set_script.specs.Objects.{most_objects};
 
 use mv_history::View;
 
@@ -53,7 +54,7 @@ pub(crate) fn walk_from<V: View>(
     first: u64,
 ) -> (Window, u32)
     requires linked { IsLinked (V.state view.old) head }
-    requires few { length (V.state view.old) ≤ 65535 }
+    requires few { length (V.state view.old) ≤ most_objects }
     requires behind { IsBehind (V.state view.old) head key from first }
     ensures stops { StopsHere (V.state view.old) head key result.0 }
     ensures as_before { V.as_before view.old view.new }

@@ -7,7 +7,7 @@ use Rattle.std.proofs.lemmas.Bool.Decides.{nat_tests}
 use Rattle.mv_history.specs.State.{State}
 use Rattle.set_script.specs.Catalogue.{Map, Maps, map_of, has_key, put, take_out, cost_of, cost_from, cost, with_key, without_key}
 use Rattle.set_script.specs.CatalogueOf.{catalogue_of, count_used}
-use Rattle.set_script.specs.Objects.{first_node}
+use Rattle.set_script.specs.Objects.{first_node, most_objects}
 use Rattle.set_script.specs.Replies.{value_at, applies, overflows, changed, changes, next}
 use Rattle.set_script.specs.Lawful.{IsLawful}
 use Rattle.set_script.specs.Rules.{capacity, IsInRange, Makes}
@@ -17,6 +17,7 @@ use Rattle.set_script.proofs.Cost.{cost_is}
 use Rattle.set_script.proofs.Mapped.{length-catalogue_of}
 use Rattle.set_catalog.specs.Needs.{first_tree, taken, freed, wanted, may_change}
 use Rattle.set_catalog.specs.Shortages.{may_free}
+use Rattle.set_catalog.specs.declared.shortage.TheConstants.{NO_BOUND}
 use Rattle.set_catalog.specs.Picks.{count_vacant, vacant_nodes}
 
 -- each node is vacant or not
@@ -206,5 +207,5 @@ vacant_no_more command before after lb la same f made =
     omega (arith, vacant_and_cost before lb, vacant_and_cost after la, kept, ap cost made.leaves)
 
 -- Fewer are vacant than a store has objects.
-pub vacant_bound : (s : State) → IsLawful s → vacant_nodes s < 65536
-vacant_bound s l = let few : length s ≤ 65535 = l.few in omega (arith, vacant_and_cost s l)
+pub vacant_bound : (s : State) → IsLawful s → vacant_nodes s < NO_BOUND
+vacant_bound s l = let few : length s ≤ most_objects = l.few in omega (arith, vacant_and_cost s l)

@@ -1,6 +1,7 @@
 // The search for vacant objects.
 ghost use Rattle.std.specs.Prelude.{◌≡◌, ◌≢◌, ℕ, ◌<◌, ◌≤◌, ◌⊎◌, ◌↔◌, [], length, IsTrue, IfSome, IfNone, MatchOption};
 ghost use Rattle.set_catalog.specs.Picks.{IsVacant, vacant_nodes, ArePicked, TriesHints, TriesFor, AllTried};
+ghost use Rattle.set_script.specs.Objects.{most_objects};
 
 use crate::hints::Hints;
 use crate::names::FIRST_NODE;
@@ -15,7 +16,7 @@ pub struct Picked {
 
 /// Finds `want` vacant objects, 1 or 2, from 180 on.
 ///
-/// It needs a view of 181 to 65,535 objects. None exactly where fewer than `want` objects from 180 on
+/// It needs a view of 181 to 16,777,216 objects. None exactly where fewer than `want` objects from 180 on
 /// are vacant in the view's state.
 ///
 /// Hints are tried before other objects, the last noted first, and those that were tried are gone: a
@@ -24,7 +25,7 @@ pub struct Picked {
 pub fn pick<V: View>(view: &mut V, hints: &mut Hints, want: u32) -> Option<Picked>
     requires want { (want ≡ 1) ⊎ (want ≡ 2) }
     requires some { 180 < length (V.state view.old) }
-    requires few { length (V.state view.old) ≤ 65535 }
+    requires few { length (V.state view.old) ≤ most_objects }
     ensures none { MatchOption result (vacant_nodes (V.state view.old) < want) (λ p. want ≤ vacant_nodes (V.state view.old)) }
     ensures picked { IfSome result (λ p. ArePicked (V.state view.old) want p.first p.second) }
     ensures hints { IfSome result (λ p. TriesHints (V.state view.old) hints.old hints.new p.first p.second) }
@@ -43,7 +44,7 @@ pub fn pick<V: View>(view: &mut V, hints: &mut Hints, want: u32) -> Option<Picke
 // A vacant object other than this one.
 fn another<V: View>(view: &mut V, hints: &mut Hints, but: u32) -> Option<u32>
     requires some { 180 < length (V.state view.old) }
-    requires few { length (V.state view.old) ≤ 65535 }
+    requires few { length (V.state view.old) ≤ most_objects }
     ensures found { MatchOption result ((o : ℕ) → IsVacant (V.state view.old) o → o ≡ but) (λ o. IsVacant (V.state view.old) o × (o ≢ but)) }
     ensures hints { IfSome result (λ o. TriesFor (V.state view.old) hints.old hints.new but o) }
     ensures none_left { IfNone result (hints.new.objects ≡ []) }
@@ -59,7 +60,7 @@ fn another<V: View>(view: &mut V, hints: &mut Hints, but: u32) -> Option<u32>
 // The last hint that is vacant, other than this object.
 fn hinted<V: View>(view: &mut V, hints: &mut Hints, but: u32) -> Option<u32>
     requires some { 180 < length (V.state view.old) }
-    requires few { length (V.state view.old) ≤ 65535 }
+    requires few { length (V.state view.old) ≤ most_objects }
     ensures found { IfSome result (λ o. IsVacant (V.state view.old) o × (o ≢ but)) }
     ensures hints { MatchOption result (AllTried (V.state view.old) hints.old hints.new but) (λ o. TriesFor (V.state view.old) hints.old hints.new but o) }
     ensures as_before { V.as_before view.old view.new }
@@ -75,7 +76,7 @@ fn hinted<V: View>(view: &mut V, hints: &mut Hints, but: u32) -> Option<u32>
 // A vacant node other than this one, from where the last look ended and once round.
 fn look<V: View>(view: &mut V, hints: &mut Hints, but: u32) -> Option<u32>
     requires some { 180 < length (V.state view.old) }
-    requires few { length (V.state view.old) ≤ 65535 }
+    requires few { length (V.state view.old) ≤ most_objects }
     ensures found { MatchOption result ((o : ℕ) → IsVacant (V.state view.old) o → o ≡ but) (λ o. IsVacant (V.state view.old) o × (o ≢ but)) }
     ensures hints { hints.new ≡ hints.old }
     ensures as_before { V.as_before view.old view.new }
@@ -96,7 +97,7 @@ fn look<V: View>(view: &mut V, hints: &mut Hints, but: u32) -> Option<u32>
 fn vacant_between<V: View>(view: &mut V, from: u32, end: u32, but: u32) -> Option<u32>
     requires nodes { 180 ≤ from }
     requires within { end ≤ length (V.state view.old) }
-    requires few { length (V.state view.old) ≤ 65535 }
+    requires few { length (V.state view.old) ≤ most_objects }
     ensures found { MatchOption result ((o : ℕ) → from ≤ o → o < end → IsVacant (V.state view.old) o → o ≡ but)
         (λ o. IsVacant (V.state view.old) o × (o ≢ but)) }
     ensures as_before { V.as_before view.old view.new }
@@ -111,7 +112,7 @@ fn vacant_between<V: View>(view: &mut V, from: u32, end: u32, but: u32) -> Optio
 
 // Whether the object is a node, and vacant.
 fn is_vacant<V: View>(view: &mut V, object: u32) -> bool
-    requires few { length (V.state view.old) ≤ 65535 }
+    requires few { length (V.state view.old) ≤ most_objects }
     ensures vacant { IsTrue result ↔ IsVacant (V.state view.old) object }
     ensures as_before { V.as_before view.old view.new }
 {

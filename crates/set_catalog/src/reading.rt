@@ -1,5 +1,5 @@
 // The whole catalogue of a view.
-ghost use Rattle.std.specs.Prelude.{◌≡◌, ◌+◌, ◌<◌, ◌≤◌, length, IfOk, OnOk};
+ghost use Rattle.std.specs.Prelude.{◌≡◌, ◌+◌, ◌*◌, ◌<◌, ◌≤◌, length, IfOk, OnOk};
 ghost use Rattle.set_script.specs.CatalogueOf.{catalogue_of};
 ghost use Rattle.set_script.specs.Lawful.{IsLawful};
 ghost use Rattle.set_catalog.specs.Readings.{HasHeads};
@@ -8,13 +8,13 @@ use crate::names::{FIRST_NODE, FIRST_ROOT, name_of};
 use mv_history::View;
 use set_script::Catalogue;
 use std::alloc::{AllocError, Global};
-use tree_set::{Leaves, MOST_PENDING};
+use tree_set::Leaves;
 
 /// Reads the catalogue of a lawful state: the keys of all sets, with their values.
 ///
 /// It reads the 180 heads, and each node that is not vacant once: for a list or a table of n keys n
-/// nodes, for a tree of n keys `2n - 1`. The error is want of memory: beside the catalogue it takes 64 KB
-/// for the links of a walk over a tree, which it gives back.
+/// nodes, for a tree of n keys `2n - 1`. The error is want of memory: beside the catalogue it takes
+/// 4 bytes for each two objects, for the links of a walk over a tree, which it gives back.
 pub fn read_all<V: View>(alloc: Global, view: &mut V) -> Result<Catalogue, AllocError>
     requires lawful { IsLawful (V.state view.old) }
     ensures catalogue { IfOk result (λ all. all ≡ catalogue_of (V.state view.old)) }
@@ -24,7 +24,8 @@ pub fn read_all<V: View>(alloc: Global, view: &mut V) -> Result<Catalogue, Alloc
     for head in 0..FIRST_ROOT {
         read_list(view, head, &mut all)?;
     }
-    let mut pending = vec![in alloc; 0; MOST_PENDING]?;
+    let places = view.objects() as usize / 2 + 1;
+    let mut pending = vec![in alloc; 0; places]?;
     read_trees(view, &mut pending, &mut all)?;
     Ok(all)
 }
@@ -50,11 +51,11 @@ fn read_list<V: View>(view: &mut V, head: u32, all: &mut Catalogue) -> Result<()
 // Reads all trees, with a table for the walks' links.
 fn read_trees<V: View>(
     view: &mut V,
-    pending: &mut [u16],
+    pending: &mut [u32],
     all: &mut Catalogue,
 ) -> Result<(), AllocError>
     requires lawful { IsLawful (V.state view.old) }
-    requires places { 32768 ≤ length pending.old }
+    requires places { length (V.state view.old) ≤ 2 * length pending.old }
     requires before { HasHeads (V.state view.old) 170 all.old }
     ensures read { OnOk result (HasHeads (V.state view.old) 180 all.new) }
     ensures as_before { V.as_before view.old view.new }
@@ -69,13 +70,13 @@ fn read_trees<V: View>(
 fn read_tree<V: View>(
     view: &mut V,
     root: u32,
-    pending: &mut [u16],
+    pending: &mut [u32],
     all: &mut Catalogue,
 ) -> Result<(), AllocError>
     requires root_from { 170 ≤ root }
     requires root_in { root < 180 }
     requires lawful { IsLawful (V.state view.old) }
-    requires places { 32768 ≤ length pending.old }
+    requires places { length (V.state view.old) ≤ 2 * length pending.old }
     requires before { HasHeads (V.state view.old) root all.old }
     ensures read { OnOk result (HasHeads (V.state view.old) (root + 1) all.new) }
     ensures places { length pending.new ≡ length pending.old }

@@ -3,7 +3,7 @@ use Rattle.std.proofs.Common.{◌≡◌, ◌≢◌, ℕ, suc, ◌<◌, ◌≤◌
 use Rattle.std.proofs.lemmas.Bool.{cases_eq}
 use Rattle.mv_history.specs.State.{State}
 use Rattle.mv_history.specs.Meaning.{words_at}
-use Rattle.set_script.specs.Objects.{owner}
+use Rattle.set_script.specs.Objects.{owner, most_objects}
 use Rattle.set_script.specs.Lists.{Nodes, IsList}
 use Rattle.set_script.specs.Trees.{Tree, top, Stands, IsGrown, IsTree, EndsAt}
 use Rattle.set_script.specs.Trees.Tree.{leaf, inner}
@@ -93,7 +93,7 @@ pub lawful_by_list : (s s' : State) (head : ℕ) (ns : Nodes) → head < 170 →
     → IsList s' head ns → IsLawful s'
 lawful_by_list s s' head ns lh len w l new = record {
   some = subst (λ n. 180 < n) (sym len) l.some;
-  few = subst (λ n. n ≤ 65535) (sym len) l.few;
+  few = subst (λ n. n ≤ most_objects) (sym len) l.few;
   lists = λ g lg. lists g lg (cases_eq g head);
   trees = λ g lo lt. ((l.trees g lo lt).0, tree_stays s s' head g (l.trees g lo lt).0 (omega arith) w (omega arith) lt (l.trees g lo lt).1);
   owned = owned_stays s s' head (omega arith) w l.owned;
@@ -108,7 +108,7 @@ pub lawful_by_tree : (s s' : State) (root : ℕ) (t : Option Tree) → 170 ≤ r
     → IsTree s' root t → IsLawful s'
 lawful_by_tree s s' root t lo lt len w l new = record {
   some = subst (λ n. 180 < n) (sym len) l.some;
-  few = subst (λ n. n ≤ 65535) (sym len) l.few;
+  few = subst (λ n. n ≤ most_objects) (sym len) l.few;
   lists = λ g lg. ((l.lists g lg).0, list_stays s s' root g (l.lists g lg).0 lt w (omega arith) (omega arith) (l.lists g lg).1);
   trees = λ g g0 g1. trees g g0 g1 (cases_eq g root);
   owned = owned_stays s s' root lt w l.owned;

@@ -7,13 +7,13 @@ use Rattle.mv_history.specs.State.{State}
 use Rattle.mv_history.specs.Meaning.{words_at}
 use Rattle.set_script.specs.Catalogue.{empty, put}
 use Rattle.set_script.specs.CatalogueOf.{is_key_of, map_among, map_in, numbers, catalogue_of}
-use Rattle.set_script.specs.Objects.{owner, no_words}
+use Rattle.set_script.specs.Objects.{owner, no_words, most_objects}
 use Rattle.set_script.specs.Lawful.{IsLawful, IsOpening}
 use Rattle.set_script.proofs.ObjectWords.{word}
 use Rattle.set_script.proofs.Mapped.{is_key-vacant}
 
 -- so many objects that are all zero
-pub opening_zeros : (n : ℕ) → 180 < n → n ≤ 65535 → IsOpening (replicate n no_words)
+pub opening_zeros : (n : ℕ) → 180 < n → n ≤ most_objects → IsOpening (replicate n no_words)
 opening_zeros n some few =
     let size : length (replicate n no_words) ≡ n = length-replicate n no_words in
     record {

@@ -5,7 +5,7 @@ use Rattle.std.proofs.Props.{props}
 use mathlib.Core.HLevel.{Σ_prop_path}
 use Rattle.mv_history.specs.State.{State}
 use Rattle.mv_history.specs.Meaning.{words_at}
-use Rattle.set_script.specs.Objects.{first_node, owner, head_words, list_words}
+use Rattle.set_script.specs.Objects.{first_node, owner, head_words, list_words, most_objects}
 use Rattle.set_script.specs.Lists.{Nodes, first_of, is_among, Links, IsAbove, IsRising, IsList}
 use Rattle.set_script.specs.Trees.{Tree, IsTree}
 use Rattle.set_script.specs.TreeLaws.{tree_once, IsTree-prop}
@@ -60,7 +60,7 @@ one_tree s root x y = Σ_prop_path (λ t. IsTree-prop s root t) (tree_once s roo
 pub IsLawful-prop : (s : State) → IsProp (IsLawful s)
 IsLawful-prop s x y =
     let some_prop : IsProp (first_node < length s) = hlevel props in
-    let few_prop : IsProp (length s ≤ 65535) = hlevel props in
+    let few_prop : IsProp (length s ≤ most_objects) = hlevel props in
     let owned_prop : IsProp ((o : ℕ) → first_node ≤ o → owner s o ≤ first_node) = hlevel props in
     λ i. record {
       some = some_prop x.some y.some i;

@@ -2,6 +2,7 @@
 use Rattle.std.specs.Prelude.{ℕ, suc, List, [], ◌∷◌, set, slice_index_or}
 use Rattle.mv_history.specs.State.{State}
 use Rattle.mv_history.specs.Meaning.{words_at}
+use Rattle.set_script.specs.declared.objects.TheConstants.{MOST_OBJECTS}
 
 -- the first object that is a node; those below are heads
 abbrev pub first_node : ℕ
@@ -10,6 +11,10 @@ first_node = 180
 -- the heads below this one are those of lists and buckets, the others are roots of trees
 abbrev pub first_root : ℕ
 first_root = 170
+
+-- how many objects the sets may have, as many as a domain
+abbrev pub most_objects : ℕ
+most_objects = MOST_OBJECTS
 
 -- the number of the head in whose list the object is, and one; of a vacant object and of a head 0
 abbrev pub owner : State → ℕ → ℕ

@@ -11,7 +11,7 @@ use Rattle.set_script.specs.declared.commands.Reply.{Reply}
 use Rattle.set_script.specs.declared.commands.Reply.TheVariants.{Yes}
 use Rattle.set_script.specs.CatalogueOf.{catalogue_of}
 use Rattle.set_script.specs.Replies.{reply, next}
-use Rattle.set_script.specs.Objects.{first_node, first_root, owner, kind, key, no_words}
+use Rattle.set_script.specs.Objects.{first_node, first_root, owner, kind, key, no_words, most_objects}
 use Rattle.set_script.specs.Trees.{EndsAt}
 use Rattle.set_script.specs.TreeLaws.{EndsAt-prop}
 use Rattle.set_script.specs.LawfulLaws.{IsLawful-prop}
@@ -22,7 +22,7 @@ use Rattle.set_script.specs.Rules.{capacity, IsInRange, Keeps, Makes, MakesSome,
 pub IsOpening-prop : (s : State) → IsProp (IsOpening s)
 IsOpening-prop s x y =
     let some_prop : IsProp (first_node < length s) = hlevel props in
-    let few_prop : IsProp (length s ≤ 65535) = hlevel props in
+    let few_prop : IsProp (length s ≤ most_objects) = hlevel props in
     let zeros_prop : IsProp ((o : ℕ) → o < length s → words_at s o ≡ no_words) = hlevel props in
     λ i. record { some = some_prop x.some y.some i; few = few_prop x.few y.few i; zeros = zeros_prop x.zeros y.zeros i }
 

@@ -22,10 +22,12 @@
 
 mod catalogue;
 mod commands;
+mod objects;
 mod rules;
 mod script;
 
 pub use catalogue::Catalogue;
 pub use commands::{Command, Name, Reply};
+pub use objects::MOST_OBJECTS;
 pub use rules::SetRules;
 pub use script::MOST_COMMANDS;

@@ -6,6 +6,7 @@ use Rattle.std.proofs.Common.{
   zero,
   suc,
   ◌+◌,
+  ◌*◌,
   ◌-◌,
   ◌/◌,
   ◌^◌,
@@ -34,7 +35,7 @@ use Rattle.mv_history.specs.State.{State}
 use Rattle.mv_history.specs.Meaning.{words_at}
 use Rattle.set_script.specs.Catalogue.{Map, map_of}
 use Rattle.set_script.specs.CatalogueOf.{name_of, catalogue_of}
-use Rattle.set_script.specs.Objects.{kind, key, link, right_link, value}
+use Rattle.set_script.specs.Objects.{kind, key, link, right_link, value, most_objects}
 use Rattle.set_script.specs.Trees.{Tree, top, objects_in, entries_in, Stands}
 use Rattle.set_script.specs.Trees.Tree.{leaf, inner}
 use Rattle.set_script.specs.TreeLaws.{top_is_node}
@@ -114,13 +115,13 @@ module _ (s : State) (l : IsLawful s) (table : List ℕ) (node held : ℕ) (m : 
       go [] a = absurd (n a)
       go (t ∷ ts) a = let lt = top_in_range s w.root t a.0 in let at : node ≡ top t = a.1 in omega arith
 
-  pub walk_fits : node < 65536
+  pub walk_fits : node ≤ most_objects
   walk_fits = elim (cases_eq node 0) [ inl z ↦ omega arith | inr n ↦ (let lt = walk_in_range n in let few = l.few in omega arith) ]
 
 -- one step at an inner node: to its left, with the right link kept
 pub record IsLeftStep (s : State) (table words : List ℕ) (node held : ℕ) (m : Map) : Type 0 where
-  pub left_fits : word 3 words < 65536
-  pub right_fits : word 4 words < 65536
+  pub left_fits : word 3 words ≤ most_objects
+  pub right_fits : word 4 words ≤ most_objects
   pub left_some : word 3 words ≢ 0
   pub walk : held < length table → IsWalk s (set table held (word 4 words)) (word 3 words) (held + 1) m
   pub less : walk_left s (word 3 words) < walk_left s node
@@ -224,7 +225,7 @@ entries_few (t ∷ ts) =
     let len = length-append (entries_in t) (entries_of_all ts) in let rest = entries_few ts in omega arith
 
 -- a walk has fewer entries to pass than there are objects
-pub walk_few : (s : State) → IsLawful s → (table : List ℕ) (node held : ℕ) (m : Map) → IsWalk s table node held m → length m ≤ 65535
+pub walk_few : (s : State) → IsLawful s → (table : List ℕ) (node held : ℕ) (m : Map) → IsWalk s table node held m → length m ≤ most_objects
 walk_few s l table node held m w =
     let few = l.few in let walk = w.few in let most = entries_few w.trees in
     let is : length m ≡ length (entries_of_all w.trees) = ap length w.entries in omega arith
@@ -299,14 +300,14 @@ walk_longer s table rest longer node held m e w = record {
     go [] a = a
     go (t ∷ ts) a = (a.0, a.1, pending_copied s w.root table longer held ts begins a.2)
 
--- a walk with a table of 32,768 places stops only where it is over
-pub stopped_over : (s : State) → IsLawful s → (table : List ℕ) (node held : ℕ) (m : Map) → 32768 ≤ length table → IsStopped s table node held m →
+-- a walk with a table of half as many places as there are objects stops only where it is over
+pub stopped_over : (s : State) → IsLawful s → (table : List ℕ) (node held : ℕ) (m : Map) → length s ≤ 2 * length table → IsStopped s table node held m →
     m ≡ []
 stopped_over s l table node held m long stopped = elim stopped.why [
   | inl z ↦ walk_over s l table node held m stopped.walk z
   | inr full ↦ elim (cases_eq node 0) [
     | inl z ↦ walk_over s l table node held m stopped.walk z
-    | inr n ↦ (let half = walk_held s l table node held m stopped.walk n in let few = l.few in absurd (omega arith))
+    | inr n ↦ (let half = walk_held s l table node held m stopped.walk n in absurd (omega arith))
   ]
 ]
 
@@ -315,11 +316,6 @@ pub counted_over : (s : State) → IsLawful s → (table : List ℕ) (node held 
     IsCounted s table node held m count → count ≡ length m
 counted_over s l table node held m count z c =
     let none : length c.rest ≡ 0 = ap length (walk_over s l table node held c.rest c.stopped.walk z) in let sum = c.sum in omega arith
-
-pub counted_all : (s : State) → IsLawful s → (table : List ℕ) (node held : ℕ) (m : Map) (count : ℕ) → 32768 ≤ length table →
-    IsCounted s table node held m count → count ≡ length m
-counted_all s l table node held m count long c =
-    let none : length c.rest ≡ 0 = ap length (stopped_over s l table node held c.rest long c.stopped) in let sum = c.sum in omega arith
 
 -- what a call counted, by the state of another one
 pub counted_there : (s t : State) (table table' : List ℕ) (node node' held held' : ℕ) (m : Map) (count : ℕ) → t ≡ s →
@@ -377,7 +373,7 @@ fewer_left s t table table' node node' held held' m key value l same w next =
     let first : length m ≡ suc (length p.rest) = ap length p.first in omega arith
 
 -- and none where it stops
-pub stopped_there : (s t : State) (table table' : List ℕ) (node node' held held' : ℕ) (m : Map) → IsLawful s → t ≡ s → 32768 ≤ length table' →
+pub stopped_there : (s t : State) (table table' : List ℕ) (node node' held held' : ℕ) (m : Map) → IsLawful s → t ≡ s → length s ≤ 2 * length table' →
     IsWalk s table node held m → ((r : Map) → IsWalk t table node held r → IsStopped t table' node' held' r) → m ≡ []
 stopped_there s t table table' node node' held held' m l same long w next =
     stopped_over s l table' node' held' m long (stops_there s t table table' node node' held held' m same w next)

@@ -14,6 +14,7 @@ pub mod Walking
 pub mod NodeWords
 pub mod Forks
 pub mod LeafWalks
+pub mod NodeCounts
 pub mod Found
 pub mod Planning
 pub mod Changing

@@ -7,10 +7,6 @@ ghost use Rattle.tree_set.specs.Leaves.{Passes, AfterNext};
 
 use mv_history::View;
 
-/// The places of a table that no walk fills: a tree of at most 65,535 nodes has fewer links that are
-/// pending at one time, since each has an inner node that the walk passed by and a node that it leads to.
-pub const MOST_PENDING: usize = 32768;
-
 /// A leaf's key and value.
 #[derive(Clone, Copy, Debug, PartialEq, Eq)]
 pub struct Entry {
@@ -52,11 +48,12 @@ impl Leaves {
     }
 
     /// The next leaf's key and value. `None` where the walk is over, or where the table is full, which
-    /// one of `MOST_PENDING` places never is; then the walk goes on with a longer table that begins
-    /// with the same links.
+    /// one of half as many places as the state has objects never is: each pending link has an inner node
+    /// that the walk passed by and a node that it leads to. Then the walk goes on with a longer table that
+    /// begins with the same links.
     ///
     /// It reads the inner nodes down to the leaf, and the leaf. It never refuses, and takes no memory.
-    pub fn next<V: View>(&mut self, view: &mut V, pending: &mut [u16]) -> Option<Entry>
+    pub fn next<V: View>(&mut self, view: &mut V, pending: &mut [u32]) -> Option<Entry>
         requires lawful { IsLawful (V.state view.old) }
         requires walk { (m : Map) × Passes (V.state view.old) pending.old self.old m }
         ensures next { (m : Map) → Passes (V.state view.old) pending.old self.old m → AfterNext (V.state view.old) pending.new self.new m result }
@@ -71,7 +68,7 @@ impl Leaves {
             if self.held == pending.len() {
                 return None;
             }
-            pending[self.held] = words[4] as u16;
+            pending[self.held] = words[4] as u32;
             self.held += 1;
             self.node = words[3] as u32;
             words = view.read(self.node);
@@ -80,7 +77,7 @@ impl Leaves {
             self.node = 0;
         } else {
             self.held -= 1;
-            self.node = pending[self.held] as u32;
+            self.node = pending[self.held];
         }
         Some(Entry {
             key: words[2] as u32,

@@ -1,22 +1,30 @@
 // How many keys a tree has.
-ghost use Rattle.std.specs.Prelude.{◌≡◌, ◌<◌, ◌≤◌, ◌++◌, drop, length};
+ghost use Rattle.std.specs.Prelude.{◌≡◌, ◌<◌, ◌≤◌, ◌++◌, drop, length, if◌then◌else◌, IfSome};
 ghost use Rattle.set_script.specs.Catalogue.{Map, map_of};
-ghost use Rattle.set_script.specs.CatalogueOf.{name_of, catalogue_of};
+ghost use Rattle.set_script.specs.CatalogueOf.{name_of, is_key_at, catalogue_of};
 ghost use Rattle.set_script.specs.Lawful.{IsLawful};
 ghost use Rattle.tree_set.specs.Leaves.{Passes, AfterCount};
 
-use crate::leaves::{Leaves, MOST_PENDING};
-use mv_history::View;
+use crate::leaves::Leaves;
+use mv_history::{View, Words};
 
 // The places of the table with which a count begins: a longer one takes more time to clear than a
 // small tree takes to walk over.
 const FEW_PENDING: usize = 64;
 
+// The places of the table with which it goes on where that one is full. No tree among 65,535 objects
+// fills it, since each pending link has an inner node that was read and a node to which it leads.
+const MANY_PENDING: usize = 32_768;
+
+const FIRST_NODE: u32 = 180;
+
 /// How many keys the tree of this root has.
 ///
 /// It needs a lawful state and a root, 170 to 179. It reads the root and each node of the tree, and
 /// one of them again where more than 64 right links are pending at one time: for n keys at most
-/// 2n + 1 reads, whatever the tree's form. It never refuses, and takes no memory.
+/// 2n + 1 reads, whatever the tree's form among up to 65,535 objects. Where more than 32,768 right
+/// links are pending at one time, it reads each node of the state as well. It never refuses, and takes
+/// no memory.
 pub fn size_in<V: View>(view: &mut V, root: u32) -> u64
     requires root_from { 170 ≤ root }
     requires root_in { root < 180 }
@@ -30,11 +38,14 @@ pub fn size_in<V: View>(view: &mut V, root: u32) -> u64
     if leaves.is_over() {
         return count;
     }
-    count + count_rest(view, leaves, &pending)
+    match count_rest(view, leaves, &pending) {
+        Some(rest) => count + rest,
+        None => count_nodes(view, root),
+    }
 }
 
 // How many leaves the walk passes until it is over or the table is full.
-fn count_on<V: View>(view: &mut V, leaves: &mut Leaves, pending: &mut [u16]) -> u64
+fn count_on<V: View>(view: &mut V, leaves: &mut Leaves, pending: &mut [u32]) -> u64
     requires lawful { IsLawful (V.state view.old) }
     requires walk { (m : Map) × Passes (V.state view.old) pending.old leaves.old m }
     ensures counted { (m : Map) → Passes (V.state view.old) pending.old leaves.old m → AfterCount (V.state view.old) pending.new leaves.new m result }
@@ -48,22 +59,53 @@ fn count_on<V: View>(view: &mut V, leaves: &mut Leaves, pending: &mut [u16]) -> 
     count
 }
 
-// How many leaves are left to a walk with these links pending.
-fn count_rest<V: View>(view: &mut V, leaves: Leaves, pending: &[u16]) -> u64
+// How many leaves are left to a walk with these links pending. None where more of them are pending at one time
+// than the longer table has places.
+fn count_rest<V: View>(view: &mut V, leaves: Leaves, pending: &[u32]) -> Option<u64>
     requires lawful { IsLawful (V.state view.old) }
     requires walk { (m : Map) × Passes (V.state view.old) pending.now leaves m }
     requires few { length pending.now ≤ 32768 }
-    ensures counted { (m : Map) → Passes (V.state view.old) pending.now leaves m → result ≡ length m }
+    ensures counted { (m : Map) → Passes (V.state view.old) pending.now leaves m → IfSome result (λ n. n ≡ length m) }
     ensures as_before { V.as_before view.old view.new }
 {
     let mut leaves = leaves;
-    let mut many = [0; MOST_PENDING];
+    let mut many = [0; MANY_PENDING];
     copy_links(pending, &mut many);
-    count_on(view, &mut leaves, &mut many)
+    let count = count_on(view, &mut leaves, &mut many);
+    if leaves.is_over() {
+        return Some(count);
+    }
+    None
+}
+
+// How many leaves the tree of this root has, by all nodes of the state.
+fn count_nodes<V: View>(view: &mut V, root: u32) -> u64
+    requires root_from { 170 ≤ root }
+    requires root_in { root < 180 }
+    requires lawful { IsLawful (V.state view.old) }
+    ensures count { result ≡ length (map_of (name_of root) (catalogue_of (V.state view.old))) }
+    ensures as_before { V.as_before view.old view.new }
+{
+    let mut count = 0;
+    for object in FIRST_NODE..view.objects() {
+        count += one_if_leaf(view.read(object), root);
+    }
+    count
+}
+
+// 1 where these are the words of a leaf of this root's tree, and else 0.
+fn one_if_leaf(words: Words, root: u32) -> u64
+    ensures { result ≡ (if is_key_at root words then 1 else 0) }
+{
+    if words[0] == root as u64 + 1 && words[1] != 2 {
+        1
+    } else {
+        0
+    }
 }
 
 // Copies links to the first places of a longer table.
-fn copy_links(links: &[u16], table: &mut [u16])
+fn copy_links(links: &[u32], table: &mut [u32])
     requires longer { length links.now ≤ length table.old }
     ensures copied { table.new ≡ links.now ++ drop (length links.now) table.old }
     ensures places { length table.new ≡ length table.old }

@@ -1,6 +1,7 @@
 -- What is read along the list of a bucket.
 use Rattle.std.proofs.Common.{◌≡◌, ◌≢◌, ◌+◌, ◌<◌, ◌≤◌, ◌∷◌, ◌++◌, ℕ, zero, suc, inl, inr, List, [], length, get_or, take, drop, set, length-drop, refl, sym, ap}
 use Rattle.grow_hash.proofs.Terms.{subst, arith, take_more_set, State, Writes, words_at, objects_of, word, IsIn, tally-bound, IsCount, IsRead, IsPath}
+use Rattle.set_script.specs.Objects.{most_objects}
 
 pub read_first : (s : State) (o : ℕ) (w : List ℕ) → w ≡ words_at s o → IsRead s o [] (word 3 w)
 read_first s o w e = sym (ap (word 3) e)
@@ -29,7 +30,7 @@ read_words s o (w ∷ ws) to zero d r lt = (inl refl, r.2)
 read_words s o (w ∷ ws) to (suc i) d r lt = let m = read_words s w.0 ws to i d r.3 (omega arith) in (inr m.0, m.1)
 
 -- a count along a list is of at most as many objects as there are
-pub count_small : (s : State) (head node n : ℕ) → IsCount s head node n → length s ≤ 65535 → n ≤ 65535
+pub count_small : (s : State) (head node n : ℕ) → IsCount s head node n → length s ≤ most_objects → n ≤ most_objects
 count_small s head node n c few =
     let most : n ≤ length (drop 180 s) = subst (λ u. u ≤ length (drop 180 s)) (sym c.count) (tally-bound _ (drop 180 s)) in
     omega (arith, length-drop 180 s)

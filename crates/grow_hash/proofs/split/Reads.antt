@@ -5,6 +5,7 @@ use Rattle.grow_hash.proofs.Terms.{head_at, IsRead, ArePartedWrites, IsPath, IsP
 use Rattle.grow_hash.specs.SplitCalls.{keys_at_place}
 use Rattle.grow_hash.proofs.Buckets.{few_buckets}
 use Rattle.grow_hash.proofs.split.ReadBuckets.{read_path}
+use Rattle.set_script.specs.Objects.{most_objects}
 
 module _ (s t : State) (at place head : ℕ) (l : IsGrown s) (level_is : at ≡ level s) (place_is : place ≡ split_place s) (same : t ≡ s) where
   place_low : place < 1024
@@ -20,8 +21,8 @@ module _ (s t : State) (at place head : ℕ) (l : IsGrown s) (level_is : at ≡ 
       subst (λ (u : State). IsLinked u head) (sym same)
       (subst (IsLinked s) (sym (head_is e)) (l.lists (split_place s) (let x = place_low in omega arith)))
 
-  pub bucket_few : length t ≤ 65535
-  bucket_few = subst (λ (u : State). length u ≤ 65535) (sym same) l.few
+  pub bucket_few : length t ≤ most_objects
+  bucket_few = subst (λ (u : State). length u ≤ most_objects) (sym same) l.few
 
   pub table_low : place < buckets_at at
   table_low = subst (λ u. place < buckets_at u) (sym level_is) (subst (λ u. u < buckets_at (level s)) (sym place_is) l.table.place_in)

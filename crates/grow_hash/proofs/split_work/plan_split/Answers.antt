@@ -2,6 +2,7 @@ use Rattle.std.proofs.Common.{◌+◌, ◌≤◌}
 use Rattle.grow_hash.proofs.Terms.{refl, sym, subst, take, length, ℕ, State, IsPlannedSplit}
 use Rattle.grow_hash.proofs.split.Reads.{bucket_linked, planned_by}
 use Rattle.grow_hash.proofs.split_work.plan_split.Goals as goal
+use Rattle.set_script.specs.Objects.{most_objects}
 
 pub read_bucket-bucket-requires-clause-linked : goal.read_bucket-bucket-requires-clause-linked
 read_bucket-bucket-requires-clause-linked g c =
@@ -30,4 +31,4 @@ returns-then-bucket-gt-MOST_SPLIT-clause-as_before g c =
 
 pub read_bucket-bucket-requires-clause-few : goal.read_bucket-bucket-requires-clause-few
 read_bucket-bucket-requires-clause-few g c =
-    subst (λ (s : State). length s ≤ 65535) (sym (g.met.V.View.same_state _ _ c.table_of-level.ensures.as_before)) c.requires.lawful.few
+    subst (λ (s : State). length s ≤ most_objects) (sym (g.met.V.View.same_state _ _ c.table_of-level.ensures.as_before)) c.requires.lawful.few

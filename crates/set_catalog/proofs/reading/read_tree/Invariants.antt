@@ -1,4 +1,4 @@
-use Rattle.std.proofs.Common.{◌≤◌, length}
+use Rattle.std.proofs.Common.{◌*◌, ◌≤◌, length}
 use Rattle.set_script.specs.Catalogue.{Map}
 use Rattle.tree_set.specs.Leaves.{Passes, leaves_left}
 use Rattle.set_catalog.proofs.HeadReads.{HasPart}
@@ -8,7 +8,7 @@ use Rattle.set_catalog.proofs.reading.read_tree.Given as goal
 abbrev pub invariant-loop-leaf : goal.invariant-loop-leaf
 invariant-loop-leaf g l = record {
   before : g.V.View.as_before l.fn.view l.view;
-  places : 32768 ≤ length l.pending;
+  places : length (g.V.View.state l.fn.view) ≤ 2 * length l.pending;
   left : (m : Map) × Passes (g.V.View.state l.fn.view) l.pending l.leaves m × HasPart (g.V.View.state l.fn.view) l.root m l.all;
 }
 

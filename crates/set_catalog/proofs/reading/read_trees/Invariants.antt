@@ -1,4 +1,4 @@
-use Rattle.std.proofs.Common.{◌≤◌, length}
+use Rattle.std.proofs.Common.{◌*◌, ◌≤◌, length}
 use Rattle.set_catalog.specs.Readings.{HasHeads}
 use Rattle.set_catalog.proofs.reading.read_trees.Given as goal
 
@@ -6,6 +6,6 @@ use Rattle.set_catalog.proofs.reading.read_trees.Given as goal
 abbrev pub invariant-loop-root : goal.invariant-loop-root
 invariant-loop-root g l = record {
   before : g.V.View.as_before l.fn.view l.view;
-  places : 32768 ≤ length l.pending;
+  places : length (g.V.View.state l.fn.view) ≤ 2 * length l.pending;
   read : HasHeads (g.V.View.state l.fn.view) l.root l.all;
 }

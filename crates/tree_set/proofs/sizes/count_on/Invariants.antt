@@ -1,8 +1,9 @@
-use Rattle.std.proofs.Common.{◌-◌}
+use Rattle.std.proofs.Common.{suc, ◌-◌}
 use Rattle.set_script.specs.Catalogue.{Map}
 use Rattle.tree_set.specs.Leaves.{IsWalk}
 use Rattle.tree_set.proofs.LeafWalks.{IsUnderWay}
 use Rattle.tree_set.proofs.sizes.count_on.Given as goal
+use Rattle.set_script.specs.Objects.{most_objects}
 
 -- the walk passed so many of the entries that it had to pass
 abbrev pub invariant-loop-count : goal.invariant-loop-count
@@ -13,4 +14,4 @@ invariant-loop-count g l = record {
 }
 
 abbrev pub decreases-loop-count : goal.decreases-loop-count
-decreases-loop-count g l = 65536 - l.count
+decreases-loop-count g l = suc most_objects - l.count

@@ -21,13 +21,13 @@ count_rest-requires-clause-walk g c =
           (g.met.V.View.as_long_before _ _ _ c.of-leaves.ensures.as_before c.count_on-count.ensures.as_before)) counted.stopped.walk,
     )
 
-pub returns-clause-size : goal.returns-clause-size
-returns-clause-size g c =
+pub returns-in-Some-clause-size : goal.returns-in-Some-clause-size
+returns-in-Some-clause-size g c =
     counted_rest _ _ _ _ _ _ _ _ (g.met.V.View.same_state _ _
     (g.met.V.View.as_long_before _ _ _ c.of-leaves.ensures.as_before c.count_on-count.ensures.as_before))
     (counted_there _ _ _ _ _ _ _ _ _ _ (g.met.V.View.same_state _ _ c.of-leaves.ensures.as_before) c.count_on-count.ensures.counted
     (c.of-leaves.ensures.walk _))
-    c.count_rest.ensures.counted
+    c.in-Some.ensures.counted
 
 pub overflow_add-result : goal.overflow_add-result
 overflow_add-result g c =
@@ -36,7 +36,7 @@ overflow_add-result g c =
     (g.met.V.View.same_state _ _ (g.met.V.View.as_long_before _ _ _ c.of-leaves.ensures.as_before c.count_on-count.ensures.as_before))
     (counted_there _ _ _ _ _ _ _ _ _ _ (g.met.V.View.same_state _ _ c.of-leaves.ensures.as_before) c.count_on-count.ensures.counted
     (c.of-leaves.ensures.walk _))
-    c.count_rest.ensures.counted in omega arith
+    c.in-Some.ensures.counted in omega arith
 
 pub count_on-count-requires-clause-lawful : goal.count_on-count-requires-clause-lawful
 count_on-count-requires-clause-lawful g c = rw (g.met.V.View.same_state _ _ c.of-leaves.ensures.as_before) c.requires.lawful
@@ -49,7 +49,27 @@ count_rest-requires-clause-lawful g c =
 pub returns-then-is_over-clause-as_before : goal.returns-then-is_over-clause-as_before
 returns-then-is_over-clause-as_before g c = g.met.V.View.as_long_before _ _ _ c.of-leaves.ensures.as_before c.count_on-count.ensures.as_before
 
-pub returns-clause-as_before : goal.returns-clause-as_before
-returns-clause-as_before g c =
+pub returns-in-Some-clause-as_before : goal.returns-in-Some-clause-as_before
+returns-in-Some-clause-as_before g c =
     g.met.V.View.as_long_before _ _ _ (g.met.V.View.as_long_before _ _ _ c.of-leaves.ensures.as_before c.count_on-count.ensures.as_before)
     c.count_rest.ensures.as_before
+
+pub count_nodes-requires-clause-lawful : goal.count_nodes-requires-clause-lawful
+count_nodes-requires-clause-lawful g c =
+    rw (g.met.V.View.same_state _ _
+    (g.met.V.View.as_long_before _ _ _ (g.met.V.View.as_long_before _ _ _ c.of-leaves.ensures.as_before c.count_on-count.ensures.as_before)
+    c.count_rest.ensures.as_before))
+    c.requires.lawful
+
+pub returns-in-None-clause-size : goal.returns-in-None-clause-size
+returns-in-None-clause-size g c =
+    rw (g.met.V.View.same_state _ _
+    (g.met.V.View.as_long_before _ _ _ (g.met.V.View.as_long_before _ _ _ c.of-leaves.ensures.as_before c.count_on-count.ensures.as_before)
+    c.count_rest.ensures.as_before)) at c.count_nodes.ensures.count
+
+pub returns-in-None-clause-as_before : goal.returns-in-None-clause-as_before
+returns-in-None-clause-as_before g c =
+    g.met.V.View.as_long_before _ _ _
+    (g.met.V.View.as_long_before _ _ _ (g.met.V.View.as_long_before _ _ _ c.of-leaves.ensures.as_before c.count_on-count.ensures.as_before)
+    c.count_rest.ensures.as_before)
+    c.count_nodes.ensures.as_before

@@ -1,40 +1,44 @@
 -- The plan of an add with steps after it, from where the search ended.
-use Rattle.std.proofs.Common.{◌≡◌, ◌≢◌, ℕ, zero, suc, ◌^◌, ◌<◌, ◌≤◌, length, inr, false, [], refl, sym, ◌∙◌, subst, arith}
+use Rattle.std.proofs.Common.{◌≡◌, ◌≢◌, ℕ, zero, suc, ◌^◌, ◌<◌, ◌≤◌, leb, ◌⊎◌, inl, inr, length, Bool, true, false, refl, sym, ap, ◌∙◌, subst, arith}
+use Rattle.std.proofs.lemmas.Bool.Decides.{nat_tests}
 use Rattle.mv_history.specs.State.{State, Writes}
 use Rattle.set_script.specs.Catalogue.{map_of, has_key}
 use Rattle.set_script.specs.CatalogueOf.{catalogue_of}
 use Rattle.set_script.specs.Lawful.{IsLawful}
 use Rattle.set_script.specs.Objects.{owner}
+use Rattle.set_script.specs.Trees.{IsGrown}
 use Rattle.set_script.proofs.ObjectWords.{word}
 use Rattle.tree_set.specs.declared.search.Fork.{Fork}
+use Rattle.tree_set.specs.Places.{grow_writes}
 use Rattle.tree_set.proofs.Planning.{key_not}
 use Rattle.tree_balance.specs.declared.plan.Plan.{Plan}
+use Rattle.tree_balance.specs.Depths.{IsOfWay}
 use Rattle.tree_balance.specs.Drafts.{IsAddOnWay}
 use Rattle.set_catalog.specs.Ends.{EndsAt, adds_at}
 use Rattle.set_catalog.specs.Merges.{writes_in, merged}
 use Rattle.set_catalog.specs.Needs.{taken, AreEnough}
 use Rattle.set_catalog.specs.Picks.{IsVacant}
-use Rattle.set_catalog.specs.Plans.{head_of, AddPlan, AddsWithin}
+use Rattle.set_catalog.specs.Plans.{head_of, AddPlan, TurnedPlan, AddsWithin}
 use Rattle.set_catalog.specs.declared.ends.End.{End}
 use Rattle.set_catalog.specs.declared.ends.End.TheVariants.{Grown}
 use Rattle.set_catalog.proofs.EndFacts.{grown_has, grown_takes}
 use Rattle.set_catalog.proofs.EndPlans.{add_planned, grown_place}
 use Rattle.set_catalog.proofs.HeadNames.{head_below}
-use Rattle.set_catalog.proofs.Merging.{merged-none}
 use Rattle.set_catalog.proofs.PlanWays.{added_by, by_distinct}
-use Rattle.set_catalog.proofs.Planned.{adds_alone}
+use Rattle.set_catalog.proofs.Planned.{adds_alone, planned_alone}
 
 module _ (s : State) (name k : ℕ) (l : IsLawful s) (lt : name < 30) (fit : k < 2 ^ 32) (missed : has_key k (map_of name (catalogue_of s)) ≡ false)
     (v first second : ℕ) (enough : AreEnough s (taken name (map_of name (catalogue_of s))) first second) where
   -- an add with no steps
-  pub planned_none : (most : ℕ) (end : End) (plan : Plan) → EndsAt s name k end → writes_in plan ≡ merged [] (adds_at s k v first second end)
-      → AddsWithin most s name k v first second (writes_in plan)
-  planned_none most end plan e is =
+  pub planned_none : (most : ℕ) (end : End) (none plan : Plan) → EndsAt s name k end → none.count ≡ 0
+      → writes_in plan ≡ merged (writes_in none) (adds_at s k v first second end) → AddsWithin most s name k v first second (writes_in plan)
+  planned_none most end none plan e z is =
       let add = add_planned s name k l lt fit end v first second e missed enough in
       let d = added_by s name k lt fit v first second (adds_at s k v first second end) add in
-      let one = merged-none (adds_at s k v first second end) (by_distinct s (head_of name k) (head_below name k lt) l (adds_at s k v first second end) d) in
+      let one = planned_alone none plan (adds_at s k v first second end) z
+      (by_distinct s (head_of name k) (head_below name k lt) l (adds_at s k v first second end) d) is in
       adds_alone most s name k v first second (writes_in plan)
-      (subst (λ (ws : Writes). AddPlan s name k v first second ws) (sym (is ∙ one)) add)
+      (subst (λ (ws : Writes). AddPlan s name k v first second ws) (sym one) add)
 
   -- one in a tree that has keys
   module _ (root : ℕ) (fork : Fork) (e : EndsAt s name k (Grown root fork)) where
@@ -50,10 +54,9 @@ module _ (s : State) (name k : ℕ) (l : IsLawful s) (lt : name < 30) (fit : k <
     pub fork_second : IsVacant s second × (second ≢ first)
     fork_second = let two = wants_two in enough.two (omega arith)
 
-    pub planned_turned : (most : ℕ) (ws : Writes) → most ≢ 0 → IsAddOnWay s root k v fork.parent fork.leaf first second most ws
-        → AddsWithin most s name k v first second ws
-    planned_turned zero ws some a = absurd (some refl)
-    planned_turned (suc n) ws some a = inr (record {
+    turned : (n count : ℕ) (ws : Writes) → IsOfWay s root k count → 9 < count → IsAddOnWay s root k v fork.parent fork.leaf first second (suc n) ws
+        → TurnedPlan (suc n) s name k v first second ws
+    turned n count ws way long a = record {
       parent = fork.parent;
       leaf = fork.leaf;
       of_tree = e.0;
@@ -61,10 +64,28 @@ module _ (s : State) (name k : ℕ) (l : IsLawful s) (lt : name < 30) (fit : k <
       first_vacant = fork_first;
       second_vacant = fork_second.0;
       other = fork_second.1;
+      deep = λ t g. (let le = way t (subst (λ (h : ℕ). IsGrown s h t) (sym e.1) g) in omega arith);
       adds = subst (λ (h : ℕ). IsAddOnWay s h k v fork.parent fork.leaf first second (suc n) ws) e.1 a;
-    })
+    }
+
+    -- where few objects are remembered of the way, they are those of the add alone
+    pub planned_turned : (most count : ℕ) (ws : Writes) → most ≢ 0 → IsOfWay s root k count
+        → (count ≤ 9 → ws ≡ grow_writes s root k v fork.parent fork.leaf first second)
+        → IsAddOnWay s root k v fork.parent fork.leaf first second most ws → AddsWithin most s name k v first second ws
+    planned_turned zero count ws some way short a = absurd (some refl)
+    planned_turned (suc n) count ws some way short a = go (leb count 9) refl
+      where
+        go : (b : Bool) → leb count 9 ≡ b → AddPlan s name k v first second ws ⊎ TurnedPlan (suc n) s name k v first second ws
+        go true q =
+            inl (subst (λ (u : Writes). AddPlan s name k v first second u) (sym (short (grind (arith, nat_tests))))
+            (add_planned s name k l lt fit (Grown root fork) v first second e missed enough))
+        go false q = inr (turned n count ws way (grind (arith, nat_tests)) a)
 
 -- what holds in a state that is the same
+pub short_same : (s t : State) (root k v p n m w count : ℕ) (ws : Writes) → t ≡ s → (count ≤ 9 → ws ≡ grow_writes t root k v p n m w) → count ≤ 9
+    → ws ≡ grow_writes s root k v p n m w
+short_same s t root k v p n m w count ws e f le = f le ∙ ap (λ (u : State). grow_writes u root k v p n m w) e
+
 pub way_same : (s t : State) (root k v p n m w most : ℕ) (ws : Writes) → t ≡ s → IsAddOnWay t root k v p n m w most ws
     → IsAddOnWay s root k v p n m w most ws
 way_same s t root k v p n m w most ws e a = subst (λ (u : State). IsAddOnWay u root k v p n m w most ws) e a

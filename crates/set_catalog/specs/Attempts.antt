@@ -28,8 +28,8 @@ use Rattle.set_catalog.specs.Steps.{most_beside, most_locks_of}
 use Rattle.section_work.specs.Sections.{IsEntered}
 
 -- The command is the seat's last commit, at this printed time. Its reply is that of the state just before, which is not
--- at the last time. It wrote what it must lock in its snapshot, and nothing else: five objects at most, and of an add to a tree its own four
--- and those of the steps after it, for which a section has room. It is allowed on its snapshot, and on each
+-- at the last time. It wrote what it must lock in its snapshot, and nothing else: five objects at most, and of an add to a tree in which its search passes
+-- more than 8 inner nodes its own four and those of the steps after it, for which a section has room. It is allowed on its snapshot, and on each
 -- state to which others could have led meanwhile.
 pub record IsDoneBy (old new : Seat) (command : Command) (answer : Reply) (time : ℕ) : Type 0 where
   pub continues : Continues old new

@@ -15,7 +15,10 @@ use Rattle.set_catalog.specs.Steps.{most_locks_of}
 use Rattle.set_catalog.specs.Replies.{reply_in, changes_in}
 use Rattle.set_catalog.specs.declared.finding.Finding.{Finding}
 use Rattle.set_catalog.specs.declared.finding.Finding.TheVariants.{Settled, Open}
+use Rattle.set_catalog.specs.declared.outcome.Outcome.{Outcome}
+use Rattle.set_catalog.specs.declared.outcome.Outcome.TheVariants.{Settled as Answered, Open as Changing}
 use Rattle.set_catalog.specs.declared.plan.Gone.{Gone}
+use Rattle.tree_balance.specs.declared.plan.Plan.{Plan}
 
 -- These are exactly the objects that the command locks in this state, with what it writes, where an add to a tree may lock so many beside
 -- its own four: different ones, fit to be committed, and a del leaves these vacant.
@@ -41,6 +44,11 @@ IsPlanned command s ws gone = IsPlannedWithin 0 command s ws gone
 
 abbrev pub IsFound : Command → State → Finding → Type 0
 IsFound command s finding = IsFoundWithin 0 command s finding
+
+-- what was found, with what is planned for it
+abbrev pub with_plan : Outcome → Plan → Finding
+with_plan (Answered answer) plan = Settled answer
+with_plan (Changing gone) plan = Open plan gone
 
 -- the reply at the last time of what was found: a change comes too late
 abbrev pub reply_at_last : Finding → Reply

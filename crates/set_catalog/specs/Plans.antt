@@ -4,9 +4,11 @@ use Rattle.mv_history.specs.State.{State, Writes, written}
 use Rattle.set_script.specs.declared.commands.Command.{Command}
 use Rattle.set_script.specs.declared.commands.Command.TheVariants.{Add, Put, Del, Move}
 use Rattle.set_script.specs.Objects.{link, value}
+use Rattle.set_script.specs.Trees.{Tree, IsGrown}
 use Rattle.section_work.specs.OwnWrites.{with_locks, with_writes, objects_of}
 use Rattle.list_set.specs.Places.{IsAddPlace, add_writes, IsDelPlace, del_writes, IsPutPlace, put_writes}
 use Rattle.tree_set.specs.Places.{IsLeaf, plant_writes, IsGrowPlace, grow_writes, IsBarePlace, bare_writes, IsCutPlace, cut_writes}
+use Rattle.tree_balance.specs.Depths.{depth_of}
 use Rattle.tree_balance.specs.Drafts.{IsAddOnWay}
 use Rattle.set_catalog.specs.Needs.{first_tree}
 use Rattle.set_catalog.specs.Picks.{IsVacant}
@@ -34,8 +36,12 @@ pub data AddPlan (s : State) (name key v first second : ℕ) : Writes → Type 0
       → IsVacant s second → second ≢ first
       → AddPlan s name key v first second (grow_writes s (head_of name key) key v parent leaf first second)
 
--- an add of the key to a tree that is not empty, and steps after it by which the tree stays short: at most so many objects beside the
--- add's own four
+-- the search for the key in the tree of this name passes more than 8 inner nodes
+abbrev pub EndsDeep : State → ℕ → ℕ → Type 0
+EndsDeep s name key = (t : Tree) → IsGrown s (head_of name key) t → 8 < depth_of key t
+
+-- an add of the key to a tree in which its search passes more than 8 inner nodes, and steps after it by which the tree stays short: at
+-- most so many objects beside the add's own four
 pub record TurnedPlan (most : ℕ) (s : State) (name key v first second : ℕ) (ws : Writes) : Type 0 where
   pub parent : ℕ
   pub leaf : ℕ
@@ -44,6 +50,7 @@ pub record TurnedPlan (most : ℕ) (s : State) (name key v first second : ℕ) (
   pub first_vacant : IsVacant s first
   pub second_vacant : IsVacant s second
   pub other : second ≢ first
+  pub deep : EndsDeep s name key
   pub adds : IsAddOnWay s (head_of name key) key v parent leaf first second most ws
 
 -- an add, with steps after it or not; where it may lock nothing beside its own objects it has none

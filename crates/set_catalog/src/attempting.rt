@@ -33,8 +33,8 @@ pub fn attempt<S: Store<Rules = SetRules>>(store: S, command: &Command) -> (S, A
 /// Attempts a command in one section of the store, and gives the store back.
 ///
 /// It needs a `write_max` of at least 5: a command locks 5 objects at most. Only an add of a new key to a tree
-/// that has keys, or a put of one, locks its own 4 and those of the steps after it by which the tree stays
-/// short: `write_max` at most, and 16.
+/// in which the search for it passes more than 8 inner nodes, or a put of one, locks its own 4 and those of the
+/// steps after it by which the tree stays short: `write_max` at most, and 16.
 ///
 /// Vacant objects are looked for among the hints first; the objects that a del left vacant are noted once it
 /// is done, and no hint is added that wasn't vacant in this call. It never waits or tries again by itself, and

@@ -2,8 +2,9 @@
 ghost use Rattle.std.specs.Prelude.{◌≡◌};
 ghost use Rattle.set_script.specs.Tags.{tag_of as command_tag};
 
-use crate::finding::{Finding, answer, find_change};
+use crate::finding::{answer, find_change};
 use crate::memo::Memo;
+use crate::outcome::Outcome;
 use crate::plan::Gone;
 use crate::shortage::Shortage;
 use mv_history::{Tag, View, Words};
@@ -62,7 +63,9 @@ impl Work for CommandWork {
             return (view, Decision::Settled(Answer::of(reply)));
         }
         let mut few = memo.known.at(time);
-        let found = find_change(
+        let mut plan = Plan::nothing();
+        let outcome = find_change(
+            &mut plan,
             &mut view,
             &mut memo.hints,
             &mut memo.fingers,
@@ -71,9 +74,9 @@ impl Work for CommandWork {
             self.most,
         );
         memo.known = Shortage { time, few };
-        match found {
-            Finding::Settled(reply) => (view, Decision::Settled(Answer::of(reply))),
-            Finding::Open { plan, gone } => {
+        match outcome {
+            Outcome::Settled(reply) => (view, Decision::Settled(Answer::of(reply))),
+            Outcome::Open(gone) => {
                 let reply = Answer {
                     reply: Reply::Yes,
                     gone,

@@ -121,27 +121,19 @@ impl End {
         }
     }
 
-    // The plan of an add of the key, which is not there, with this value, in these vacant nodes, with no step after it.
-    fn plan_alone(&self, key: u32, value: u64, picked: Picked) -> Plan
-        requires head { HasHead self.now }
-        ensures writes { Wherever self.now key (λ s name. writes_in result ≡ merged [] (adds_at s key value picked.first picked.second self.now)) }
-    {
-        let mut plan = Plan::nothing();
-        self.add(&mut plan, key, value, picked);
-        plan
-    }
-
-    // The plan of an add of the key to the set of this name, where it is not, with this value, in these vacant nodes. In a
+    // Plans an add of the key to the set of this name, where it is not, with this value, in these vacant nodes. In a
     // tree that has keys steps follow by which it stays short, within `most` objects beside the add's own, if that isn't 0.
     pub(crate) fn plan_new<V: View>(
         &self,
+        plan: &mut Plan,
         view: &mut V,
         name: Name,
         key: u32,
         value: u64,
         picked: Picked,
         most: u32,
-    ) -> Plan
+    )
+        requires none { plan.old.count ≡ 0 }
         requires lawful { IsLawful (V.state view.old) }
         requires head { HasHead self.now }
         requires name_in { name < 30 }
@@ -149,29 +141,31 @@ impl End {
         requires absent { has_key key (map_of name (catalogue_of (V.state view.old))) ≡ false }
         requires enough { AreEnough (V.state view.old) (taken name (map_of name (catalogue_of (V.state view.old)))) picked.first picked.second }
         requires most { most ≤ 12 }
-        ensures plan { AddsWithin most (V.state view.old) name key value picked.first picked.second (writes_in result) }
+        ensures plan { AddsWithin most (V.state view.old) name key value picked.first picked.second (writes_in plan.new) }
         ensures as_before { V.as_before view.old view.new }
     {
         if most == 0 {
-            return self.plan_alone(key, value, picked);
+            self.add(plan, key, value, picked);
+            return;
         }
         match self {
             End::Grown { root, fork } => {
                 let Picked { first, second } = picked;
                 let way = find_way(view, *root, key);
                 plan_add(
+                    plan,
                     view,
                     *root,
                     key,
                     value,
                     fork,
-                    way.objects(),
+                    &way,
                     first,
                     second,
                     most as usize,
-                )
+                );
             }
-            _ => self.plan_alone(key, value, picked),
+            _ => self.add(plan, key, value, picked),
         }
     }
 

@@ -10,11 +10,12 @@ ghost use Rattle.set_catalog.specs.Hinted.{TakesHints};
 ghost use Rattle.set_catalog.specs.Ends.{EndsAt, HasHead};
 ghost use Rattle.set_catalog.specs.Picks.{vacant_nodes};
 ghost use Rattle.set_catalog.specs.Needs.{AreEnough, may_change, wanted};
-ghost use Rattle.set_catalog.specs.Findings.{IsFound, IsFoundWithin, IsNew, reply_at_last};
+ghost use Rattle.set_catalog.specs.Findings.{IsFound, IsFoundWithin, IsNew, reply_at_last, with_plan};
 ghost use Rattle.set_catalog.specs.declared.finding.Finding.TheVariants.{Settled};
 
 use crate::ends::{End, search_near};
 use crate::hints::Hints;
+use crate::outcome::Outcome;
 use crate::picks::{Picked, pick};
 use crate::plan::Gone;
 use crate::sets::{has, next, size, value};
@@ -83,7 +84,10 @@ pub fn find_plan_near<V: View>(
 {
     match answer(view, fingers, command) {
         Some(reply) => Finding::Settled(reply),
-        None => find_change(view, hints, fingers, few, command, 0),
+        None => {
+            let mut plan = Plan::nothing();
+            find_change(&mut plan, view, hints, fingers, few, command, 0).with(plan)
+        }
     }
 }
 
@@ -116,34 +120,36 @@ pub(crate) fn answer<V: View>(
 // isn't 0.
 #[inline(never)]
 pub(crate) fn find_change<V: View>(
+    plan: &mut Plan,
     view: &mut V,
     hints: &mut Hints,
     fingers: &mut Fingers,
     few: &mut u32,
     command: &Command,
     most: u32,
-) -> Finding
+) -> Outcome
+    requires none { plan.old.count ≡ 0 }
     requires changes { may_change command.now ≡ true }
     requires lawful { IsLawful (V.state view.old) }
     requires few { vacant_nodes (V.state view.old) < few.old }
     requires most { most ≤ 12 }
-    ensures found { IsFoundWithin most command.now (V.state view.old) result }
+    ensures found { IsFoundWithin most command.now (V.state view.old) (with_plan result plan.new) }
     ensures few { vacant_nodes (V.state view.old) < few.new }
     ensures hints { TakesHints hints.old hints.new }
     ensures untouched { wanted command.now (catalogue_of (V.state view.old)) ≡ 0 → hints.new ≡ hints.old }
     ensures as_before { V.as_before view.old view.new }
 {
     match *command {
-        Command::Add { name, key } => find_add(view, hints, fingers, few, name, key, most),
+        Command::Add { name, key } => find_add(plan, view, hints, fingers, few, name, key, most),
         Command::Put { name, key, value } => {
-            find_put(view, hints, fingers, few, name, key, value, most)
+            find_put(plan, view, hints, fingers, few, name, key, value, most)
         }
-        Command::Del { name, key } => find_del(view, fingers, name, key),
+        Command::Del { name, key } => find_del(plan, view, fingers, name, key),
         Command::Move {
             source,
             target,
             key,
-        } => find_move(view, hints, fingers, few, source, target, key),
+        } => find_move(plan, view, hints, fingers, few, source, target, key),
         _ => unreachable!(),
     }
 }
@@ -212,6 +218,7 @@ fn yes_or_no(holds: bool) -> Reply
 }
 
 fn find_add<V: View>(
+    plan: &mut Plan,
     view: &mut V,
     hints: &mut Hints,
     fingers: &mut Fingers,
@@ -219,11 +226,12 @@ fn find_add<V: View>(
     name: Name,
     key: u32,
     most: u32,
-) -> Finding
+) -> Outcome
+    requires none { plan.old.count ≡ 0 }
     requires lawful { IsLawful (V.state view.old) }
     requires few { vacant_nodes (V.state view.old) < few.old }
     requires most { most ≤ 12 }
-    ensures found { IsFoundWithin most (Add name key) (V.state view.old) result }
+    ensures found { IsFoundWithin most (Add name key) (V.state view.old) (with_plan result plan.new) }
     ensures few { vacant_nodes (V.state view.old) < few.new }
     ensures hints { TakesHints hints.old hints.new }
     ensures untouched { wanted (Add name key) (catalogue_of (V.state view.old)) ≡ 0 → hints.new ≡ hints.old }
@@ -231,12 +239,13 @@ fn find_add<V: View>(
 {
     let end = search_near(view, fingers, name, key);
     if end.has(key) {
-        return Finding::Settled(Reply::No);
+        return Outcome::Settled(Reply::No);
     }
-    find_new(view, hints, few, &end, name, key, 0, most)
+    find_new(plan, view, hints, few, &end, name, key, 0, most)
 }
 
 fn find_put<V: View>(
+    plan: &mut Plan,
     view: &mut V,
     hints: &mut Hints,
     fingers: &mut Fingers,
@@ -245,11 +254,12 @@ fn find_put<V: View>(
     key: u32,
     value: u64,
     most: u32,
-) -> Finding
+) -> Outcome
+    requires none { plan.old.count ≡ 0 }
     requires lawful { IsLawful (V.state view.old) }
     requires few { vacant_nodes (V.state view.old) < few.old }
     requires most { most ≤ 12 }
-    ensures found { IsFoundWithin most (Put name key value) (V.state view.old) result }
+    ensures found { IsFoundWithin most (Put name key value) (V.state view.old) (with_plan result plan.new) }
     ensures few { vacant_nodes (V.state view.old) < few.new }
     ensures hints { TakesHints hints.old hints.new }
     ensures untouched { wanted (Put name key value) (catalogue_of (V.state view.old)) ≡ 0 → hints.new ≡ hints.old }
@@ -257,19 +267,18 @@ fn find_put<V: View>(
 {
     let end = search_near(view, fingers, name, key);
     match end.value(key) {
-        None => find_new(view, hints, few, &end, name, key, value, most),
-        Some(old) if old == value => Finding::Settled(Reply::No),
+        None => find_new(plan, view, hints, few, &end, name, key, value, most),
+        Some(old) if old == value => Outcome::Settled(Reply::No),
         Some(_) => {
-            let mut plan = Plan::nothing();
-            end.put(&mut plan, value);
-            let gone = Gone::nothing();
-            Finding::Open { plan, gone }
+            end.put(plan, value);
+            Outcome::Open(Gone::nothing())
         }
     }
 }
 
 // What the add or the put of a key comes to that is not there, by where the search for it ended.
 fn find_new<V: View>(
+    plan: &mut Plan,
     view: &mut V,
     hints: &mut Hints,
     few: &mut u32,
@@ -278,7 +287,8 @@ fn find_new<V: View>(
     key: u32,
     value: u64,
     most: u32,
-) -> Finding
+) -> Outcome
+    requires none { plan.old.count ≡ 0 }
     requires lawful { IsLawful (V.state view.old) }
     requires few { vacant_nodes (V.state view.old) < few.old }
     requires head { HasHead end.now }
@@ -286,38 +296,43 @@ fn find_new<V: View>(
     requires ends { EndsAt (V.state view.old) name key end.now }
     requires absent { has_key key (map_of name (catalogue_of (V.state view.old))) ≡ false }
     requires most { most ≤ 12 }
-    ensures found { (command : Command) → IsNew name key value command → IsFoundWithin most command (V.state view.old) result }
+    ensures found { (command : Command) → IsNew name key value command → IsFoundWithin most command (V.state view.old) (with_plan result plan.new) }
     ensures few { vacant_nodes (V.state view.old) < few.new }
     ensures hints { TakesHints hints.old hints.new }
     ensures as_before { V.as_before view.old view.new }
 {
     match vacant_for(view, hints, few, end.takes()) {
-        None => Finding::Settled(Reply::Full),
+        None => Outcome::Settled(Reply::Full),
         Some(picked) => {
-            let plan = end.plan_new(view, name, key, value, picked, most);
-            let gone = Gone::nothing();
-            Finding::Open { plan, gone }
+            end.plan_new(plan, view, name, key, value, picked, most);
+            Outcome::Open(Gone::nothing())
         }
     }
 }
 
-fn find_del<V: View>(view: &mut V, fingers: &mut Fingers, name: Name, key: u32) -> Finding
+fn find_del<V: View>(
+    plan: &mut Plan,
+    view: &mut V,
+    fingers: &mut Fingers,
+    name: Name,
+    key: u32,
+) -> Outcome
+    requires none { plan.old.count ≡ 0 }
     requires lawful { IsLawful (V.state view.old) }
-    ensures found { IsFound (Del name key) (V.state view.old) result }
+    ensures found { IsFound (Del name key) (V.state view.old) (with_plan result plan.new) }
     ensures as_before { V.as_before view.old view.new }
 {
     let end = search_near(view, fingers, name, key);
     if !end.has(key) {
-        return Finding::Settled(Reply::No);
+        return Outcome::Settled(Reply::No);
     }
-    let mut plan = Plan::nothing();
-    let gone = end.del(&mut plan);
-    Finding::Open { plan, gone }
+    Outcome::Open(end.del(plan))
 }
 
 // The add of a move takes the objects that its del leaves vacant before others. The del writes none
 // that the search in the target read.
 fn find_move<V: View>(
+    plan: &mut Plan,
     view: &mut V,
     hints: &mut Hints,
     fingers: &mut Fingers,
@@ -325,10 +340,11 @@ fn find_move<V: View>(
     source: Name,
     target: Name,
     key: u32,
-) -> Finding
+) -> Outcome
+    requires none { plan.old.count ≡ 0 }
     requires lawful { IsLawful (V.state view.old) }
     requires few { vacant_nodes (V.state view.old) < few.old }
-    ensures found { IsFound (Move source target key) (V.state view.old) result }
+    ensures found { IsFound (Move source target key) (V.state view.old) (with_plan result plan.new) }
     ensures few { vacant_nodes (V.state view.old) < few.new }
     ensures hints { TakesHints hints.old hints.new }
     ensures untouched { wanted (Move source target key) (catalogue_of (V.state view.old)) ≡ 0 → hints.new ≡ hints.old }
@@ -336,21 +352,19 @@ fn find_move<V: View>(
 {
     let from = search_near(view, fingers, source, key);
     let Some(value) = from.value(key) else {
-        return Finding::Settled(Reply::No);
+        return Outcome::Settled(Reply::No);
     };
     let to = search_near(view, fingers, target, key);
     if to.has(key) {
-        return Finding::Settled(Reply::No);
+        return Outcome::Settled(Reply::No);
     }
-    let mut plan = Plan::nothing();
-    let gone = from.del(&mut plan);
+    let gone = from.del(plan);
     let Some(picked) = vacant_for(view, hints, few, gone.still_wanted(to.takes())) else {
-        return Finding::Settled(Reply::Full);
+        return Outcome::Settled(Reply::Full);
     };
     let picked = gone.before(picked);
-    to.add(&mut plan, key, value, picked);
-    let gone = Gone::nothing();
-    Finding::Open { plan, gone }
+    to.add(plan, key, value, picked);
+    Outcome::Open(Gone::nothing())
 }
 
 // So many vacant objects, 2 at most. Where fewer are known to be vacant, it doesn't look.

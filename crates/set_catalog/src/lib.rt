@@ -15,15 +15,15 @@
 //! takes stands in the plan once.
 //!
 //! An add to a tree that has keys goes down the way of its search once more, and plans the steps by which
-//! the tree stays short after it (`tree_balance`), as far as the store's `write_max` leaves room. The
-//! add of a move, and commands of a block, make no steps.
+//! the tree stays short after it (`tree_balance`), as far as the store's `write_max` leaves room. Where its
+//! search passes at most 8 inner nodes, and in the add of a move and in commands of a block, there are none.
 //!
 //! # The contract
 //!
 //! - `Done` at `Commit(t)`: the entry of time t is the seat's last commit, with the command's tag.
 //!   It writes exactly what the command locks in its snapshot (`specs/Plans.antt`), and is fit: five
-//!   objects at most, and of an add to a tree its own four and those of its steps, 16 at most and no
-//!   more than `write_max` (`specs/Steps.antt`). The reply is that of the catalogue just before t, at a
+//!   objects at most, and of an add to a tree where its search passes more than 8 inner nodes its own four
+//!   and those of its steps, 16 at most and no more than `write_max` (`specs/Steps.antt`). The reply is that of the catalogue just before t, at a
 //!   place that is not the last time.
 //! - `Done` at `Read(t)`: no commit was made. Time t is that of a section that this call entered, the
 //!   reply is that of the catalogue there, and the command changes nothing there. `Full`, `Worn` and
@@ -74,6 +74,7 @@ mod hinted_store;
 mod hints;
 mod memo;
 mod names;
+mod outcome;
 mod picks;
 mod plan;
 mod reading;

@@ -149,3 +149,10 @@ merged_first xs n z ws d = ap (λ (m : ℕ). merged (take m xs) ws) z ∙ merged
 -- a plan has as many writes as it counts
 pub count_is : (plan : Plan) → length (writes_in plan) ≡ plan.count
 count_is plan = let few : plan.count ≤ 16 = plan.few in omega (arith, length-take plan.count plan.writes, few, plan.whole)
+
+-- what was written to a plan that had nothing is all of it
+pub first_is : (xs : Writes) (n : ℕ) → n ≡ 0 → (ws vs : Writes) → are_distinct ws ≡ true → vs ≡ merged (take n xs) ws → vs ≡ ws
+first_is xs n z ws vs d e = e ∙ merged_first xs n z ws d
+
+pub first_distinct : (xs : Writes) (n : ℕ) → n ≡ 0 → (ws vs : Writes) → are_distinct ws ≡ true → vs ≡ merged (take n xs) ws → are_distinct vs ≡ true
+first_distinct xs n z ws vs d e = ap are_distinct (first_is xs n z ws vs d e) ∙ d

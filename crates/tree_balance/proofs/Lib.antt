@@ -7,6 +7,7 @@ pub mod Keeping
 pub mod Merging
 pub mod Drafting
 pub mod Making
+pub mod Depths
 pub mod Planning
 pub mod Drifting
 pub mod Fitting

@@ -9,6 +9,7 @@ ghost use Rattle.tree_balance.specs.Drafts.{writes_in, Extends, IsAddOnWay};
 
 use crate::plan::Plan;
 use crate::steps::Step;
+use crate::way::Way;
 use mv_history::{View, Words};
 use tree_set::Fork;
 
@@ -22,6 +23,13 @@ struct Choice {
     count: usize,
     next: u32,
     ghost few: { count ≤ 5 },
+}
+
+// Where a climb stands: at an inner node of this rank.
+#[derive(Clone, Copy)]
+struct Place {
+    node: u32,
+    rank: u64,
 }
 
 // The rank of a node with these words: a leaf has rank 0.
@@ -60,8 +68,8 @@ impl Plan {
         Some((object, self.words(view, object)))
     }
 
-    // What is to be done where the child's rank should be below that of its parent; None where there is
-    // no room.
+    // What is to be done where the child's rank isn't below that of its parent; None where there is no room.
+    // These are the words of the parent.
     fn choose<V: View>(
         &self,
         view: &mut V,
@@ -69,27 +77,16 @@ impl Plan {
         parent: u32,
         child: u32,
         limit: usize,
+        above: Words,
     ) -> Option<Choice>
         requires limit { limit ≤ 16 }
         requires distinct { are_distinct (writes_in self.now) ≡ true }
         ensures as_before { V.as_before view.old view.new }
     {
-        let (_, above) = self.look(view, parent as u64)?;
-        let (_, here) = self.look(view, child as u64)?;
-        let stay = Step::Rank {
-            node: parent,
-            rank: above[5],
-        };
-        if here[5] < above[5] {
-            return Some(Choice {
-                steps: [stay; 5],
-                count: 0,
-                next: parent,
-            });
-        }
         if self.count() + 3 > limit {
             return None;
         }
+        let (_, here) = self.look(view, child as u64)?;
         let (_, sibling) = self.look(view, child_beside(above, child))?;
         let beside = rank_of(sibling);
         if above[5] <= beside.saturating_add(1) {
@@ -167,8 +164,68 @@ impl Plan {
         })
     }
 
+    // Makes the steps at this parent of a node whose rank isn't below its own, and goes to the node that is
+    // on the way above it then; None where there is no room.
+    fn mend<V: View>(
+        &mut self,
+        view: &mut V,
+        root: u32,
+        grand: u32,
+        parent: u32,
+        child: u32,
+        above: Words,
+        limit: usize,
+    ) -> Option<Place>
+        requires root_in { root < 180 }
+        requires limit { limit ≤ 16 }
+        requires distinct { are_distinct (writes_in self.old) ≡ true }
+        ensures extends { Extends (V.state view.old) root limit (writes_in self.old) (writes_in self.new) }
+        ensures as_before { V.as_before view.old view.new }
+    {
+        let choice = self.choose(view, grand, parent, child, limit, above)?;
+        if !self.take_all(view, root, &choice.steps[..choice.count], limit) {
+            return None;
+        }
+        let (node, words) = self.look(view, choice.next as u64)?;
+        Some(Place {
+            node,
+            rank: words[5],
+        })
+    }
+
+    // Goes from a node of the way to the parent, with the steps that are due there; None where nothing is left
+    // to do, or there is no room. Where the ranks of the way fall, none is due above a parent of a higher rank.
+    fn rise<V: View>(
+        &mut self,
+        view: &mut V,
+        root: u32,
+        grand: u32,
+        parent: u32,
+        at: Place,
+        falls: bool,
+        limit: usize,
+    ) -> Option<Place>
+        requires root_in { root < 180 }
+        requires limit { limit ≤ 16 }
+        requires distinct { are_distinct (writes_in self.old) ≡ true }
+        ensures extends { Extends (V.state view.old) root limit (writes_in self.old) (writes_in self.new) }
+        ensures as_before { V.as_before view.old view.new }
+    {
+        let (_, above) = self.look(view, parent as u64)?;
+        if at.rank >= above[5] {
+            return self.mend(view, root, grand, parent, at.node, above, limit);
+        }
+        if falls {
+            return None;
+        }
+        Some(Place {
+            node: parent,
+            rank: above[5],
+        })
+    }
+
     // Goes up the way from this node, which stands where the last object of the way leads.
-    fn climb<V: View>(&mut self, view: &mut V, root: u32, way: &[u32], from: u32, limit: usize)
+    fn climb<V: View>(&mut self, view: &mut V, root: u32, way: &Way, from: u32, limit: usize)
         requires root_in { root < 180 }
         requires limit { limit ≤ 16 }
         requires distinct { are_distinct (writes_in self.old) ≡ true }
@@ -182,16 +239,19 @@ impl Plan {
         if !self.take_all(view, root, &[first], limit) {
             return;
         }
-        let mut node = from;
+        let falls = way.falls();
+        let way = way.objects();
+        let mut at = Place {
+            node: from,
+            rank: 1,
+        };
         for i in 1..way.len() {
             let place = way.len() - i;
-            let Some(choice) = self.choose(view, way[place - 1], way[place], node, limit) else {
+            let Some(next) = self.rise(view, root, way[place - 1], way[place], at, falls, limit)
+            else {
                 return;
             };
-            if !self.take_all(view, root, &choice.steps[..choice.count], limit) {
-                return;
-            }
-            node = choice.next;
+            at = next;
         }
     }
 
@@ -203,7 +263,7 @@ impl Plan {
         &mut self,
         view: &mut V,
         root: u32,
-        way: &[u32],
+        way: &Way,
         inner: u32,
         limit: usize,
     )
@@ -211,18 +271,18 @@ impl Plan {
         requires limit { limit ≤ 16 }
         requires distinct { are_distinct (writes_in self.old) ≡ true }
         ensures extends { Extends (V.state view.old) root limit (writes_in self.old) (writes_in self.new) }
-        ensures short { length way.now ≤ 9 → writes_in self.new ≡ writes_in self.old }
+        ensures short { way.now.count ≤ 9 → writes_in self.new ≡ writes_in self.old }
         ensures as_before { V.as_before view.old view.new }
     {
-        if way.len() <= SHORT {
+        if way.objects().len() <= SHORT {
             return;
         }
         self.climb(view, root, way, inner, limit);
     }
 }
 
-/// The writes of an add of the key, with this value, where the search for it ended, and of the steps
-/// after it by which the tree stays short.
+/// Plans an add of the key, with this value, where the search for it ended, and the steps after it by which the
+/// tree stays short, in a plan that has nothing yet.
 ///
 /// It needs a lawful state in which that search ended at this fork, at a leaf of another key, and two
 /// vacant objects. The way is what [`find_way`](crate::find_way) remembers; `most` is how many objects
@@ -231,16 +291,18 @@ impl Plan {
 /// A commit of these writes is an add. Where the way has at most [`SHORT`] objects the writes are
 /// those of the add alone.
 pub fn plan_add<V: View>(
+    plan: &mut Plan,
     view: &mut V,
     root: u32,
     key: u32,
     value: u64,
     fork: &Fork,
-    way: &[u32],
+    way: &Way,
     leaf: u32,
     inner: u32,
     most: usize,
-) -> Plan
+)
+    requires none { plan.old.count ≡ 0 }
     requires root_from { 170 ≤ root }
     requires root_in { root < 180 }
     requires lawful { IsLawful (V.state view.old) }
@@ -250,12 +312,10 @@ pub fn plan_add<V: View>(
     requires inner_vacant { (180 ≤ inner) × (inner < length (V.state view.old)) × (owner (V.state view.old) inner ≡ 0) }
     requires differ { leaf ≢ inner }
     requires most { most ≤ 12 }
-    ensures plan { IsAddOnWay (V.state view.old) root key value fork.now.parent fork.now.leaf leaf inner most (writes_in result) }
-    ensures short { length way.now ≤ 9 → writes_in result ≡ grow_writes (V.state view.old) root key value fork.now.parent fork.now.leaf leaf inner }
+    ensures plan { IsAddOnWay (V.state view.old) root key value fork.now.parent fork.now.leaf leaf inner most (writes_in plan.new) }
+    ensures short { way.now.count ≤ 9 → writes_in plan.new ≡ grow_writes (V.state view.old) root key value fork.now.parent fork.now.leaf leaf inner }
     ensures as_before { V.as_before view.old view.new }
 {
-    let writes = fork.grow_writes(root, key, value, leaf, inner);
-    let mut plan = Plan::of(&writes);
+    plan.write(&fork.grow_writes(root, key, value, leaf, inner));
     plan.rebalance(view, root, way, inner, most + 4);
-    plan
 }

@@ -16,10 +16,10 @@
 //!
 //! # The contract
 //!
-//! [`find_way`] remembers the last objects of a search's way. They are advice: a step is made only where
-//! the words of the objects allow it.
+//! [`find_way`] remembers the last objects of a search's way, no more than the root and the inner nodes that
+//! the search passes. They are advice: a step is made only where the words of the objects allow it.
 //!
-//! [`plan_add`] gives the writes of an add where a search ended, and of the steps after it, at most as many
+//! [`plan_add`] plans the writes of an add where a search ended, and of the steps after it, at most as many
 //! objects beside the add's own four as it is told. They leave the very state that the add and then these
 //! steps leave, and are of the objects that these name, each once (`IsAddOnWay`). That state is lawful,
 //! and its catalogue is the one before with the key at its value. A way of at most 8 inner nodes is left

@@ -22,17 +22,6 @@ pub struct Plan {
 impl Plan {
     ghost use Rattle.tree_balance.specs.Drafts.{writes_in, IsPlaceOf, merged_one, merged, Extends};
 
-    /// These writes, of at most four objects.
-    pub fn of(writes: &[(u32, Words)]) -> Plan
-        requires few { length writes.now ≤ 4 }
-        requires distinct { are_distinct writes.now ≡ true }
-        ensures writes { writes_in result ≡ writes.now }
-    {
-        let mut plan = Plan::nothing();
-        plan.write(writes);
-        plan
-    }
-
     /// No writes.
     pub fn nothing() -> Plan
         ensures count { result.count ≡ 0 }

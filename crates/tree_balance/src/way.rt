@@ -1,8 +1,9 @@
 // The last objects of the way that a search takes.
-ghost use Rattle.std.specs.Prelude.{◌≡◌, ◌<◌, ◌≤◌, length, take};
+ghost use Rattle.std.specs.Prelude.{◌≡◌, ◌+◌, ◌<◌, ◌≤◌, length, take};
 ghost use Rattle.set_script.specs.Lawful.{IsLawful};
+ghost use Rattle.tree_balance.specs.Depths.{child_for, IsOfWay};
 
-use mv_history::{View, Words};
+use mv_history::View;
 
 /// How many objects of a way are remembered: 32 inner nodes, and the one before them or the root.
 pub const MOST_REMEMBERED: usize = 33;
@@ -13,6 +14,10 @@ pub const MOST_REMEMBERED: usize = 33;
 pub struct Way {
     objects: [u32; 33],
     count: usize,
+    // The rank of the last inner node.
+    rank: u64,
+    // Whether each inner node of the search, also one that isn't remembered, has a lower rank than the one above it.
+    falls: bool,
     ghost few: { count ≤ 33 },
 }
 
@@ -24,60 +29,81 @@ impl Way {
         &self.objects[..self.count]
     }
 
-    // Takes the next object; where it is full, the first one is forgotten.
-    fn push(&mut self, object: u32) {
+    // Whether the rank falls at each inner node.
+    pub(crate) fn falls(&self) -> bool {
+        self.falls
+    }
+
+    // Takes the next object, of this rank; where it is full, the first one is forgotten.
+    fn push(&mut self, object: u32, rank: u64)
+        ensures count { self.new.count ≤ self.old.count + 1 }
+    {
+        self.falls = self.falls && rank < self.rank;
+        self.rank = rank;
         if self.count < MOST_REMEMBERED {
             self.objects[self.count] = object;
             self.count += 1;
-            return;
+        } else {
+            forget_first(&mut self.objects);
+            self.objects[MOST_REMEMBERED - 1] = object;
         }
-        for i in 1..MOST_REMEMBERED {
-            self.objects[i - 1] = self.objects[i];
-        }
-        self.objects[MOST_REMEMBERED - 1] = object;
     }
 }
 
-// The object of this number, with its words, if there is such an object.
-fn look<V: View>(view: &mut V, object: u64) -> Option<(u32, Words)>
+// Moves each object to the place before its own.
+fn forget_first(objects: &mut [u32; 33]) {
+    for i in 1..MOST_REMEMBERED {
+        objects[i - 1] = objects[i];
+    }
+}
+
+// The object to which the search for the key goes from this one, or 0 where it ends here, and the rank of an inner node.
+#[inline(always)]
+fn child_for<V: View>(view: &mut V, object: u32, key: u32) -> (u64, u64)
+    requires object { object < length (V.state view.old) }
+    ensures child { result.0 ≡ child_for (V.state view.old) key object }
     ensures as_before { V.as_before view.old view.new }
 {
-    if object >= view.objects() as u64 {
-        return None;
+    let [divider, left, right, rank] = view.read_four(object, 2);
+    if left == 0 {
+        return (0, rank);
     }
-    let object = object as u32;
-    let words = view.read(object);
-    Some((object, words))
+    if (key as u64) < divider {
+        (left, rank)
+    } else {
+        (right, rank)
+    }
 }
 
-/// The way that the search for the key takes in the tree of this root: its last 33 objects.
+/// The way that the search for the key takes in the tree of this root: its last 33 objects, and no more than the
+/// root and the inner nodes that the search passes.
 ///
-/// It needs a lawful state and a root. It reads the objects from the root down to one leaf.
+/// It needs a lawful state and a root. It reads four words of each object from the root down to one leaf.
 pub fn find_way<V: View>(view: &mut V, root: u32, key: u32) -> Way
     requires root_in { root < 180 }
     requires lawful { IsLawful (V.state view.old) }
+    ensures remembers { IsOfWay (V.state view.old) root key result.count }
     ensures as_before { V.as_before view.old view.new }
 {
     let mut way = Way {
         objects: [root; 33],
         count: 1,
+        rank: u64::MAX,
+        falls: true,
     };
     let objects = view.objects();
     let (_, mut node) = view.read_pair(root, 2);
     for _ in 0..objects {
-        let Some(found) = look(view, node) else {
-            return way;
-        };
-        let words = found.1;
-        if words[1] != 2 {
+        if node >= objects as u64 {
             return way;
         }
-        way.push(found.0);
-        node = if (key as u64) < words[2] {
-            words[3]
-        } else {
-            words[4]
-        };
+        let object = node as u32;
+        let (child, rank) = child_for(view, object, key);
+        if child == 0 {
+            return way;
+        }
+        way.push(object, rank);
+        node = child;
     }
     way
 }

@@ -13,8 +13,8 @@ returns-clause-found g c =
     let there = (sym (c.has.ensures _ _ c.requires.lawful c.search_near-end.ensures.name_in (omega (arith, c.ranges.key.fits)) c.search_near-end.ensures.ends)
     ∙ c.if-not-has.false) in
     del_open _ c.args.name c.args.key c.requires.lawful c.search_near-end.ensures.name_in
-    (omega (arith, c.ranges.key.fits)) _ c.nothing-plan.result c.del-gone.new.plan _ c.search_near-end.ensures.ends there
-    c.nothing-plan.ensures.count
-    (c.del-gone.ensures.writes c.args.key _ c.args.name c.requires.lawful c.search_near-end.ensures.name_in
+    (omega (arith, c.ranges.key.fits)) _ c.args.plan.now c.del.new.plan _ c.search_near-end.ensures.ends there
+    c.requires.none
+    (c.del.ensures.writes c.args.key _ c.args.name c.requires.lawful c.search_near-end.ensures.name_in
     (omega (arith, c.ranges.key.fits)) c.search_near-end.ensures.ends there)
-    c.del-gone.ensures.node c.del-gone.ensures.inner
+    c.del.ensures.node c.del.ensures.inner

@@ -57,7 +57,7 @@ add-requires-clause-room g c =
     let room = move_has_room (g.V.View.state c.args.view.now) c.args.source c.args.target c.args.key
     c.requires.lawful c.search_near-from.ensures.name_in c.search_near-to.ensures.name_in (omega (arith, c.ranges.key.fits)) c.in-Some.value has missed
     c.search_near-from.result c.search_near-from.ensures.ends
-    c.nothing-plan.result c.del-gone.new.plan c.in-Some-vacant_for.picked.first _ _ _ c.search_near-to.result c.nothing-plan.ensures.count dels
+    c.args.plan.now c.del-gone.new.plan c.in-Some-vacant_for.picked.first _ _ _ c.search_near-to.result c.requires.none dels
     c.del-gone.ensures.inner (c.before-picked.ensures.first ∙ c.del-gone.ensures.node) c.before-picked.ensures.second in omega (arith, room)
 
 pub returns-clause-found : goal.returns-clause-found
@@ -72,16 +72,16 @@ returns-clause-found g c =
     move_open (g.V.View.state c.args.view.now) c.args.source c.args.target c.args.key
     c.requires.lawful c.search_near-from.ensures.name_in c.search_near-to.ensures.name_in (omega (arith, c.ranges.key.fits)) c.in-Some.value has missed
     c.search_near-from.result c.search_near-from.ensures.ends
-    c.nothing-plan.result c.del-gone.new.plan c.add.new.plan c.nothing-gone.result _ _ _ c.in-Some-vacant_for.picked.first
+    c.args.plan.now c.del-gone.new.plan c.add.new.plan c.nothing.result _ _ _ c.in-Some-vacant_for.picked.first
     c.in-Some-vacant_for.picked.second _ _ c.search_near-to.result to
     (c.takes.ensures.takes c.args.key _ c.args.target c.requires.lawful c.search_near-to.ensures.name_in (omega
     (arith, c.ranges.key.fits)) to) c.del-gone.ensures.inner c.still_wanted.ensures (there_same _ _ _ (g.met.V.View.same_state _ _
     (g.met.V.View.as_long_before _ _ _ c.search_near-from.ensures.as_before c.search_near-to.ensures.as_before)) c.in-Some-vacant_for.ensures.none)
     (enough_same _ _ _ _ _ (g.met.V.View.same_state _ _
     (g.met.V.View.as_long_before _ _ _ c.search_near-from.ensures.as_before c.search_near-to.ensures.as_before)) c.in-Some-vacant_for.ensures.enough)
-    (c.before-picked.ensures.first ∙ c.del-gone.ensures.node) c.before-picked.ensures.second c.nothing-plan.ensures.count dels
+    (c.before-picked.ensures.first ∙ c.del-gone.ensures.node) c.before-picked.ensures.second c.requires.none dels
     (c.add.ensures.writes _ c.args.target c.requires.lawful c.search_near-to.ensures.name_in (omega (arith, c.ranges.key.fits)) to)
-    (c.nothing-gone.ensures.node, c.nothing-gone.ensures.inner)
+    (c.nothing.ensures.node, c.nothing.ensures.inner)
 
 pub returns-clause-untouched : goal.returns-clause-untouched
 returns-clause-untouched g c z =

@@ -29,11 +29,11 @@ returns-in-Some-2-clause-found g c =
     let there = has_key-some c.args.key c.in-Some.old (map_of c.args.name (catalogue_of (g.V.View.state c.args.view.now))) (sym has) in
     put_open _ c.args.name c.args.key c.requires.lawful c.search_near-end.ensures.name_in
     (omega (arith, c.ranges.key.fits)) c.args.value c.in-Some.old
-    (omega (arith, c.ranges.value.fits)) has c.args.most c.search_near-end.result c.nothing-plan.result c.put.new.plan c.nothing-gone.result
-    c.search_near-end.ensures.ends c.if-old-value.false c.nothing-plan.ensures.count
+    (omega (arith, c.ranges.value.fits)) has c.args.most c.search_near-end.result c.args.plan.now c.put.new.plan c.nothing.result
+    c.search_near-end.ensures.ends c.if-old-value.false c.requires.none
     (c.put.ensures.writes c.args.key _ c.args.name c.requires.lawful c.search_near-end.ensures.name_in
     (omega (arith, c.ranges.key.fits)) c.search_near-end.ensures.ends there)
-    (c.nothing-gone.ensures.node, c.nothing-gone.ensures.inner)
+    (c.nothing.ensures.node, c.nothing.ensures.inner)
 
 pub find_new-requires-clause-lawful : goal.find_new-requires-clause-lawful
 find_new-requires-clause-lawful g c = rw (g.met.V.View.same_state _ _ c.search_near-end.ensures.as_before) c.requires.lawful

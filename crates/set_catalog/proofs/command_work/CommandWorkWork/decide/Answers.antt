@@ -13,13 +13,13 @@ pub answer-requires : goal.answer-requires
 answer-requires g c =
     let here = c.requires.here.1 in record { lawful = subst IsLawful (sym here.state_is) (lawful_read c.requires.here.0 here.lawful here.own) }
 
-pub find_change-found-requires-clause-lawful : goal.find_change-found-requires-clause-lawful
-find_change-found-requires-clause-lawful g c =
+pub find_change-outcome-requires-clause-lawful : goal.find_change-outcome-requires-clause-lawful
+find_change-outcome-requires-clause-lawful g c =
     let here = c.requires.here.1 in
     subst IsLawful (sym (g.met.V.View.same_state _ _ c.answer.ensures.as_before ∙ here.state_is)) (lawful_read c.requires.here.0 here.lawful here.own)
 
-pub find_change-found-requires-clause-few : goal.find_change-found-requires-clause-few
-find_change-found-requires-clause-few g c =
+pub find_change-outcome-requires-clause-few : goal.find_change-outcome-requires-clause-few
+find_change-outcome-requires-clause-few g c =
     let here = c.requires.here.1 in
     let same = g.met.V.View.same_state _ _ c.answer.ensures.as_before ∙ here.state_is in
     subst (λ (n : ℕ). vacant_nodes (g.V.View.state c.answer.new.view) < n) (sym c.at-few.ensures)
@@ -40,4 +40,4 @@ returns-in-Settled-clause-found g c = λ last.
 pub returns-in-Open-clause-found : goal.returns-in-Open-clause-found
 returns-in-Open-clause-found g c =
     let found = rw (g.met.V.View.same_state _ _ c.answer.ensures.as_before) at c.in-Open.ensures.found in
-    (found.0, planned_as c.args.self.now.most c.args.self.now.command (g.V.View.state c.args.view) c.in-Open.plan _ refl found.2)
+    (found.0, planned_as c.args.self.now.most c.args.self.now.command (g.V.View.state c.args.view) c.find_change-outcome.new.plan _ refl found.2)

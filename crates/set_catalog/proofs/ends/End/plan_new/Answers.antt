@@ -1,14 +1,15 @@
 use Rattle.std.proofs.Common.{sym, arith, subst}
 use Rattle.set_catalog.specs.Ends.{EndsAt}
 use Rattle.set_catalog.specs.declared.ends.End.{End}
-use Rattle.set_catalog.proofs.Turned.{planned_none, fork_lacks, fork_second, planned_turned, way_same, vacant_same}
+use Rattle.set_catalog.proofs.Turned.{planned_none, fork_lacks, fork_second, planned_turned, short_same, way_same, vacant_same}
 use Rattle.set_catalog.proofs.ends.End.plan_new.Goals as goal
 
 pub returns-then-most-eq0-clause-plan : goal.returns-then-most-eq0-clause-plan
 returns-then-most-eq0-clause-plan g c =
     planned_none _ c.args.name c.args.key c.requires.lawful c.requires.name_in (omega (arith, c.ranges.key.fits)) c.requires.absent c.args.value
-    c.args.picked.first c.args.picked.second c.requires.enough c.args.most c.args.self.now c.plan_alone.result c.requires.ends
-    (c.plan_alone.ensures.writes _ c.args.name c.requires.lawful c.requires.name_in (omega (arith, c.ranges.key.fits)) c.requires.ends)
+    c.args.picked.first c.args.picked.second c.requires.enough c.args.most c.args.self.now c.args.plan.now c.add.new.plan c.requires.ends
+    c.requires.none
+    (c.add.ensures.writes _ c.args.name c.requires.lawful c.requires.name_in (omega (arith, c.ranges.key.fits)) c.requires.ends)
 
 pub plan_add-requires-clause-ends : goal.plan_add-requires-clause-ends
 plan_add-requires-clause-ends g c =
@@ -38,7 +39,9 @@ pub returns-in-Grown-clause-plan : goal.returns-in-Grown-clause-plan
 returns-in-Grown-clause-plan g c =
     let e = subst (λ (u : End). EndsAt (g.V.View.state c.args.view.now) c.args.name c.args.key u) c.in-Grown.is c.requires.ends in
     planned_turned _ c.args.name c.args.key c.requires.lawful c.requires.name_in (omega (arith, c.ranges.key.fits)) c.requires.absent c.args.value
-    c.args.picked.first c.args.picked.second c.requires.enough _ _ e c.args.most _ c.if-most-eq0.false
+    c.args.picked.first c.args.picked.second c.requires.enough _ _ e c.args.most _ _ c.if-most-eq0.false
+    c.find_way-way.ensures.remembers
+    (short_same _ _ _ _ _ _ _ _ _ _ _ (g.met.V.View.same_state _ _ c.find_way-way.ensures.as_before) c.plan_add.ensures.short)
     (way_same _ _ _ _ _ _ _ _ _ _ _ (g.met.V.View.same_state _ _ c.find_way-way.ensures.as_before) c.plan_add.ensures.plan)
 
 pub returns-in-Grown-clause-as_before : goal.returns-in-Grown-clause-as_before
@@ -47,5 +50,6 @@ returns-in-Grown-clause-as_before g c = g.met.V.View.as_long_before _ _ _ c.find
 pub returns-in_default-clause-plan : goal.returns-in_default-clause-plan
 returns-in_default-clause-plan g c =
     planned_none _ c.args.name c.args.key c.requires.lawful c.requires.name_in (omega (arith, c.ranges.key.fits)) c.requires.absent c.args.value
-    c.args.picked.first c.args.picked.second c.requires.enough c.args.most c.args.self.now c.plan_alone-in_default.result c.requires.ends
-    (c.plan_alone-in_default.ensures.writes _ c.args.name c.requires.lawful c.requires.name_in (omega (arith, c.ranges.key.fits)) c.requires.ends)
+    c.args.picked.first c.args.picked.second c.requires.enough c.args.most c.args.self.now c.args.plan.now c.add-in_default.new.plan c.requires.ends
+    c.requires.none
+    (c.add-in_default.ensures.writes _ c.args.name c.requires.lawful c.requires.name_in (omega (arith, c.ranges.key.fits)) c.requires.ends)

@@ -1,0 +1,29 @@
+// What a command comes to that may change something, with its plan beside it.
+ghost use Rattle.std.specs.Prelude.{◌≡◌};
+ghost use Rattle.set_catalog.specs.Findings.{with_plan};
+
+use crate::finding::Finding;
+use crate::plan::Gone;
+use set_script::Reply;
+use tree_balance::Plan;
+
+// What a command comes to whose writes are planned in a plan of the caller's.
+#[derive(Clone, Copy, Drop)]
+pub(crate) enum Outcome {
+    // It changes nothing, and this is its reply.
+    Settled(Reply),
+    // It changes something by the planned writes, and a del leaves these objects vacant.
+    Open(Gone),
+}
+
+impl Outcome {
+    // The same, with what was planned.
+    pub(crate) fn with(self, plan: Plan) -> Finding
+        ensures { result ≡ with_plan self plan }
+    {
+        match self {
+            Outcome::Settled(reply) => Finding::Settled(reply),
+            Outcome::Open(gone) => Finding::Open { plan, gone },
+        }
+    }
+}

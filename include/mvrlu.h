@@ -319,7 +319,7 @@ static inline int32_t mvrlu_leave(mvrlu_seat *seat) { MVRLU_ON(seat, mvrlu_raw_l
 #define MVRLU_HASH(i) (10u + (i)) /* hash table 0 to 9 */
 #define MVRLU_TREE(i) (20u + (i)) /* tree 0 to 9 */
 #define MVRLU_SETS_OBJECTS_MIN 181u
-#define MVRLU_SETS_OBJECTS_MAX 65535u
+#define MVRLU_SETS_OBJECTS_MAX 16777216u
 #define MVRLU_BLOCK_MAX 8u
 
 /* Of the objects 180 are the heads of the sets, and the others nodes: a key takes one, and in a tree one more for each key but the first. */

@@ -47,7 +47,7 @@ static void close_sets(mvrlu_sets sets[], size_t count) {
 
 static void options_out_of_range(void) {
     static mvrlu_sets sets[MVRLU_SEATS_MAX + 1];
-    static const struct { uint32_t objects, slots; } wrong[] = {{0, 64}, {180, 64}, {65536, 64}, {181, 63}, {181, 4097}};
+    static const struct { uint32_t objects, slots; } wrong[] = {{0, 64}, {180, 64}, {MVRLU_SETS_OBJECTS_MAX + 1, 64}, {181, 63}, {181, 4097}};
     mvrlu_sets_options options = MVRLU_SETS_OPTIONS_INIT;
     for (size_t i = 0; i < sizeof wrong / sizeof *wrong; i++) {
         mvrlu_sets_options other = MVRLU_SETS_OPTIONS_INIT;
@@ -67,7 +67,7 @@ static void options_out_of_range(void) {
 static void all_seats_of_a_domain(void) {
     static mvrlu_sets sets[MVRLU_SEATS_MAX];
     mvrlu_sets_options options = MVRLU_SETS_OPTIONS_INIT;
-    open_sets(sets, MVRLU_SEATS_MAX, MVRLU_SETS_OBJECTS_MAX, MVRLU_SLOTS_MAX);
+    open_sets(sets, MVRLU_SEATS_MAX, 70000, MVRLU_SLOTS_MAX);
     WANT(mvrlu_sets_open(&options, sets, MVRLU_SEATS_MAX), MVRLU_IN_USE);
     close_sets(sets, MVRLU_SEATS_MAX);
     WANT(mvrlu_sets_close(&sets[0]), MVRLU_CLOSED);

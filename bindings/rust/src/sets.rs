@@ -11,7 +11,7 @@ use std::thread::yield_now;
 /// The fewest objects that a domain of sets may have.
 pub const SETS_OBJECTS_MIN: u32 = 181;
 /// The most objects that a domain of sets may have.
-pub const SETS_OBJECTS_MAX: u32 = 65_535;
+pub const SETS_OBJECTS_MAX: u32 = 16_777_216;
 
 /// The numbers of a domain of sets that its opener chooses.
 ///

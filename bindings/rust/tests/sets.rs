@@ -27,7 +27,7 @@ fn read<T>(value: T, time: u64) -> Result<Done<T>, Failed> {
 fn numbers_and_their_ranges() {
     let asked = [
         (SETS_OBJECTS_MIN, SLOTS_MIN, 1, true),
-        (SETS_OBJECTS_MAX, SLOTS_MAX, 2, true),
+        (70_000, SLOTS_MAX, 2, true),
         (4096, 1024, SEATS_MAX, true),
         (SETS_OBJECTS_MIN - 1, 64, 1, false),
         (SETS_OBJECTS_MAX + 1, 64, 1, false),

@@ -232,7 +232,7 @@ fn fault_of(alloc: Global, sets: OpenSets) -> Option<SetsFault> {
 
 #[test]
 fn numbers_out_of_range_open_no_seats_of_sets(rt: HostRuntime) -> Result<(), Fail> {
-    for objects in [0, 180, 65_536] {
+    for objects in [0, 180, 16_777_217] {
         let fault = fault_of(rt.alloc(), OpenSets { objects, ..TWO });
         assert!(&rt; matches!(fault, Some(SetsFault::Objects)));
     }

@@ -15,7 +15,7 @@ use std::alloc::{AllocError, Global};
 pub struct MvrluSetsOptions {
     /// How many bytes the caller's options have: 24.
     pub size: u32,
-    /// How many objects, 181 to 65,535.
+    /// How many objects, 181 to 16,777,216.
     pub objects: u32,
     /// How many slots the log of each seat has, 64 to 4,096.
     pub slots: u32,

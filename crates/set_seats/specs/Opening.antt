@@ -8,7 +8,7 @@ use Rattle.mvrlu.specs.declared.domain.Domain.{Domain}
 use Rattle.mvrlu.specs.declared.domain.Seat.{Seat}
 use Rattle.set_blocks.specs.contracts.rules.BlockRulesProtocol.TheImpl.{ghosts}
 use Rattle.set_blocks.specs.declared.rules.BlockRules.{BlockRules}
-use Rattle.set_script.specs.Objects.{no_words}
+use Rattle.set_script.specs.Objects.{no_words, most_objects}
 use Rattle.shared_domain.specs.Met.{domain_of}
 use Rattle.set_seats.specs.declared.opening.OpenSets.{OpenSets}
 use Rattle.set_seats.specs.declared.opening.SetsFault.{SetsFault}
@@ -28,9 +28,9 @@ config_of o = record {
   base = o.opening_time;
 }
 
--- the 180 heads and a node at least, and no more than a link can name
+-- the 180 heads and a node at least, and no more than a lawful state has
 abbrev pub HasObjects : OpenSets → Type 0
-HasObjects o = (180 < o.objects) × (o.objects ≤ 65535)
+HasObjects o = (180 < o.objects) × (o.objects ≤ most_objects)
 
 -- a seat of the domain may hold what a block locks
 pub record MayShare {rules : _} (d : Domain BlockRules) (s : Seat BlockRules rules) : Type 0 where

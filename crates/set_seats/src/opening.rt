@@ -2,7 +2,7 @@
 ghost use Rattle.std.specs.Prelude.{◌≡◌, ◌<◌, ◌≤◌, map, All, IfOk, IfErr, replicate};
 ghost use Rattle.mvrlu.specs.Opened.{IsOpened};
 ghost use Rattle.shared_domain.specs.Met.{domain_of};
-ghost use Rattle.set_script.specs.Objects.{no_words};
+ghost use Rattle.set_script.specs.Objects.{no_words, most_objects};
 ghost use Rattle.set_seats.specs.Opening.{AreOpened, HasObjects, MayShare, Refuses, Shares, config_of, seat_in};
 
 use crate::seat::SetSeat;
@@ -11,6 +11,7 @@ use mv_layout::{Config, ConfigFault};
 use mvrlu::{Domain, Seat, open_zeros};
 use set_blocks::BlockRules;
 use set_catalog::Hints;
+use set_script::MOST_OBJECTS;
 use shared_domain::Share;
 use std::alloc::{AllocError, Global};
 
@@ -19,7 +20,7 @@ use std::alloc::{AllocError, Global};
 pub struct OpenSets {
     /// How many seats, 1 to 64.
     pub seats: u32,
-    /// How many objects, 181 to 65,535: 180 heads of the sets, and the nodes for their keys.
+    /// How many objects, 181 to 16,777,216 (`set_script::MOST_OBJECTS`): 180 heads of the sets, and the nodes for their keys.
     pub objects: u32,
     /// How many slots the log of each seat has, 64 to 4,096.
     pub slots: u32,
@@ -30,7 +31,7 @@ pub struct OpenSets {
 /// Why a domain of the sets can't be opened. Nothing is left of it.
 #[derive(Clone, Copy)]
 pub enum SetsFault {
-    /// There are fewer than 181 objects, or more than 65,535.
+    /// There are fewer than 181 objects, or more than 16,777,216.
     Objects,
     /// Another number is out of its range: the first fault that `Config::check` finds.
     Config(ConfigFault),
@@ -39,8 +40,6 @@ pub enum SetsFault {
 }
 
 const FEWEST_OBJECTS: u32 = 181;
-
-const MOST_OBJECTS: u32 = 65_535;
 
 // As many objects as a block of 8 commands locks or holds at most.
 const WRITE_MAX: u32 = 40;
@@ -104,7 +103,7 @@ fn open_sets(
     alloc: Global,
     config: Config,
 ) -> Result<(Domain<BlockRules>, Vec<Seat<BlockRules>>), AllocError>
-    requires objects { (180 < config.objects) × (config.objects ≤ 65535) }
+    requires objects { (180 < config.objects) × (config.objects ≤ most_objects) }
     ensures { IfOk result (λ r. IsOpened config (replicate config.objects no_words) r.0 r.1.items) }
 {
     match open_zeros(alloc, config) {

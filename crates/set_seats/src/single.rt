@@ -47,10 +47,12 @@ pub(crate) struct Remembered {
 }
 
 impl Remembered {
+    ghost use Rattle.set_catalog.specs.declared.shortage.TheConstants.{NO_BOUND};
+
     // Nothing but these hints.
     pub(crate) fn of(hints: Hints) -> Remembered
         ensures time { result.memo.known.time ≡ 0 }
-        ensures few { result.memo.known.few ≡ 65536 }
+        ensures few { result.memo.known.few ≡ NO_BOUND }
     {
         Remembered {
             memo: Memo::of(hints),

@@ -1,5 +1,6 @@
 // Blocks over the plain store, row by row.
 ghost use Rattle.std.specs.Prelude.{◌≡◌, ◌<◌, ◌≤◌, length, IfOk};
+ghost use Rattle.set_script.specs.Objects.{most_objects};
 
 use crate::asked::Ask::{Add, Del, Get, Has, Move, Next, Pair, Put, Size};
 use crate::asked::{Ask, commands_of};
@@ -19,7 +20,7 @@ type Row = (&'static [Ask], &'static [Reply], Place);
 // A store of so many objects of zeros with room for so many commits, whose times begin at 0.
 fn open(alloc: Global, count: u32, room: u32) -> Result<PlainStore<BlockRules>, AllocError>
     requires some { 180 < count }
-    requires few { count ≤ 65535 }
+    requires few { count ≤ most_objects }
 {
     let zeros = vec![in alloc; [0; WORDS]; count as usize]?;
     PlainStore::new(alloc, &zeros, 0, room)

@@ -1,7 +1,8 @@
 // Commands over the plain store, row by row.
 ghost use Rattle.std.specs.Prelude.{◌≡◌, ◌<◌, ◌≤◌, length, IfOk};
+ghost use Rattle.set_script.specs.Objects.{most_objects};
 
-use crate::asked::Ask::{Add, Del, Get, Move, Put};
+use crate::asked::Ask::{Add, Del, Get, Has, Move, Put, Size};
 use crate::asked::{Ask, attempt_hinting, command, expect_attempt};
 use mv_history::{Section, Store, WORDS};
 use plain_store::PlainStore;
@@ -19,7 +20,7 @@ type Row = (Ask, Reply, Place);
 // A store of so many objects of zeros, whose times begin at 0.
 fn open(alloc: Global, count: u32, room: u32) -> Result<PlainStore<SetRules>, AllocError>
     requires some { 180 < count }
-    requires few { count ≤ 65535 }
+    requires few { count ≤ most_objects }
 {
     let zeros = vec![in alloc; [0; WORDS]; count as usize]?;
     PlainStore::new(alloc, &zeros, 0, room)
@@ -164,4 +165,30 @@ fn values_are_put_got_and_moved(rt: HostRuntime) -> Result<(), Fail> {
     let _store = play_with(&rt, open(rt.alloc(), 190, 8)?, &mut hints, &VALUES);
     assert_eq!(rt; hints.len(), 1);
     Ok(())
+}
+
+// Nodes of a list and of a tree among the last of 70,000 objects.
+static LAST_OBJECTS: [Row; 8] = [
+    (Add(0, 7), Reply::Yes, Commit(1)),
+    (Has(0, 7), Reply::Yes, Read(1)),
+    (Add(20, 9), Reply::Yes, Commit(2)),
+    (Add(20, 5), Reply::Yes, Commit(3)),
+    (Has(20, 9), Reply::Yes, Read(3)),
+    (Size(20), Reply::Count { count: 2 }, Read(3)),
+    (Del(0, 7), Reply::Yes, Commit(4)),
+    (Has(0, 7), Reply::No, Read(4)),
+];
+
+static ENDS_OF_LAST: [Keys; 1] = [(20, &[5, 9])];
+
+#[test]
+fn links_lead_to_objects_above_65_535(rt: HostRuntime) -> Result<(), Fail> {
+    let mut hints = Hints::new(rt.alloc(), 8)?;
+    for object in 69_992..70_000 {
+        hints.note(object);
+    }
+    let store = open(rt.alloc(), 70_000, 8)?;
+    let store = play_with(&rt, store, &mut hints, &LAST_OBJECTS);
+    assert_eq!(rt; hints.len(), 5);
+    Ok(expect_end(&rt, rt.alloc(), store, &ENDS_OF_LAST)?)
 }

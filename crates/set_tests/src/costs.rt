@@ -1,6 +1,7 @@
 // How many reads of objects it takes to count the keys of a set, to read the whole catalogue, and to
 // answer that a store is full.
 ghost use Rattle.std.specs.Prelude.{◌≡◌, ◌<◌, ◌≤◌, length, IfOk};
+ghost use Rattle.set_script.specs.Objects.{most_objects};
 
 use crate::asked::Ask::{Add, Del, Has, Move, Next, Put, Size};
 use crate::asked::{Ask, attempt_hinting, command, expect_attempt};
@@ -18,7 +19,7 @@ use std::test::*;
 // A store of so many objects of zeros, with room for so many commits.
 pub(crate) fn open(alloc: Global, count: u32, room: u32) -> Result<PlainStore<SetRules>, AllocError>
     requires some { 180 < count }
-    requires few { count ≤ 65535 }
+    requires few { count ≤ most_objects }
 {
     let zeros = vec![in alloc; [0; WORDS]; count as usize]?;
     PlainStore::new(alloc, &zeros, 0, room)

@@ -1,6 +1,7 @@
 // How many reads of objects it takes to attempt a command on a growing hash set.
 ghost use Rattle.std.specs.Prelude.{◌≡◌, ◌<◌, ◌≤◌};
 ghost use Rattle.grow_hash.specs.GrowPlans.{IsOfGrown};
+ghost use Rattle.set_script.specs.Objects.{most_objects};
 
 use crate::counted::Counted;
 use grow_hash::{GrowRules, GrowStep, attempt_grow};
@@ -102,7 +103,7 @@ fn play<S: Store<Rules = GrowRules>>(rt: &impl Abort, mut store: S, rows: &[Row]
 // A store of so many objects of zeros.
 fn open(alloc: Global, count: u32) -> Result<PlainStore<GrowRules>, AllocError>
     requires some { 1025 < count }
-    requires few { count ≤ 65535 }
+    requires few { count ≤ most_objects }
 {
     let zeros = vec![in alloc; [0; WORDS]; count as usize]?;
     PlainStore::new(alloc, &zeros, 0, 8)

@@ -1,10 +1,12 @@
 // Which objects are picked, and how many reads that takes.
 ghost use Rattle.std.specs.Prelude.{◌<◌, ◌≤◌};
+ghost use Rattle.set_script.specs.Objects.{most_objects};
 
 use crate::counted::Counted;
 use mv_history::{AnyRules, Section, Store, View, WORDS};
 use plain_store::{PlainSection, PlainStore};
 use set_catalog::{Hints, Picked, pick};
+use set_script::MOST_OBJECTS;
 use std::alloc::{AllocError, Global};
 use std::process::Abort;
 use std::test::Fail;
@@ -12,7 +14,7 @@ use std::test::Fail;
 // A section over so many objects of zeros.
 fn open(alloc: Global, count: u32) -> Result<PlainSection<AnyRules>, AllocError>
     requires some { 0 < count }
-    requires few { count ≤ 65535 }
+    requires few { count ≤ most_objects }
 {
     let zeros = vec![in alloc; [0; WORDS]; count as usize]?;
     let store = PlainStore::<AnyRules>::new(alloc, &zeros, 0, 1)?;
@@ -30,7 +32,7 @@ fn occupy<S: Section>(rt: &impl Abort, section: &mut S, object: u32) {
 // Picks one vacant object.
 fn pick_one<V: View>(rt: &impl Abort, view: &mut V, hints: &mut Hints) -> Option<Picked> {
     assert!(rt; view.objects() > 180);
-    assert!(rt; view.objects() <= 65_535);
+    assert!(rt; view.objects() <= MOST_OBJECTS);
     pick(view, hints, 1)
 }
 

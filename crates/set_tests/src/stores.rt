@@ -19,7 +19,7 @@ enum Outcome {
 // A store of so many objects of zeros, with room for so many commits.
 fn open(alloc: Global, count: u32, base: u64, room: u32) -> Result<PlainStore<AnyRules>, AllocError>
     requires some { 0 < count }
-    requires few { count ≤ 65535 }
+    requires few { count ≤ 16777216 }
     requires early { base < 100 }
     ensures { IfOk result (λ store. length (seat_of store).start ≡ count) }
 {

@@ -1,5 +1,5 @@
 -- What the seats of a new domain of the sets are.
-use Rattle.std.proofs.Common.{◌≡◌, ℕ, suc, ◌-◌, ◌<◌, ◌≤◌, List, [], ◌∷◌, ◌++◌, length, slice_index_or, map, replicate, Result, Ok, Err, IfOk}
+use Rattle.std.proofs.Common.{◌≡◌, ℕ, suc, ◌+◌, ◌-◌, ◌<◌, ◌≤◌, List, [], ◌∷◌, ◌++◌, length, slice_index_or, map, replicate, Result, Ok, Err, IfOk}
 use Rattle.std.proofs.Common.{ap, refl, sym, ◌∙◌, subst, arith}
 use Rattle.std.specs.List.{All, remove}
 use Rattle.std.proofs.lemmas.List.{append_assoc, map-append}
@@ -13,14 +13,13 @@ use Rattle.mvrlu.specs.Opened.{IsOpened}
 use Rattle.mvrlu.specs.declared.domain.Domain.{Domain}
 use Rattle.mvrlu.specs.declared.domain.Seat.{Seat}
 use Rattle.set_script.specs.Lawful.{IsOpening}
-use Rattle.set_script.specs.Objects.{no_words}
+use Rattle.set_script.specs.Objects.{no_words, most_objects}
 use Rattle.set_blocks.specs.BlockRules.{IsBlockCommit}
 use Rattle.set_blocks.specs.contracts.rules.BlockRulesProtocol.TheImpl.{ghosts}
 use Rattle.set_blocks.specs.declared.rules.BlockRules.{BlockRules}
 use Rattle.set_blocks.proofs.Deciding.{lawful_at}
 use Rattle.set_catalog.specs.Shortages.{IsKnown}
 use Rattle.set_catalog.specs.declared.shortage.Shortage.{Shortage}
-use Rattle.set_catalog.specs.declared.shortage.TheConstants.{NO_BOUND}
 use Rattle.set_catalog.proofs.Knowing.{known_unknown}
 use Rattle.set_seats.specs.Opening.{AreOpened, HasObjects, MayShare, Shares, config_of, seat_in}
 use Rattle.set_seats.specs.declared.opening.OpenSets.{OpenSets}
@@ -41,7 +40,7 @@ new_may c start d seats o le = each_all (λ s. MayShare d s) seats (λ k s is. r
 })
 
 -- of a new seat's vacant nodes nothing is known
-pub known_none : (s : history.Seat) (k : Shortage) → IsSeat IsOpening IsBlockCommit s → k.time ≡ 0 → k.few ≡ NO_BOUND → IsKnown s k
+pub known_none : (s : history.Seat) (k : Shortage) → IsSeat IsOpening IsBlockCommit s → k.time ≡ 0 → k.few ≡ most_objects + 1 → IsKnown s k
 known_none s k law time few = known_unknown s k (lawful_at s law (k.time - s.base)) time few
 
 -- the shares of all the seats of a domain that was just opened are what opening gives

@@ -1,5 +1,5 @@
 // One command as a block of one, as a work.
-ghost use Rattle.std.specs.Prelude.{◌≡◌, [], ◌∷◌};
+ghost use Rattle.std.specs.Prelude.{◌≡◌, ◌+◌, [], ◌∷◌};
 
 use mv_history::{Tag, View, Words};
 use section_work::{Decision, Place, Work};
@@ -47,12 +47,12 @@ pub(crate) struct Remembered {
 }
 
 impl Remembered {
-    ghost use Rattle.set_catalog.specs.declared.shortage.TheConstants.{NO_BOUND};
+    ghost use Rattle.set_script.specs.Objects.{most_objects};
 
     // Nothing but these hints.
     pub(crate) fn of(hints: Hints) -> Remembered
         ensures time { result.memo.known.time ≡ 0 }
-        ensures few { result.memo.known.few ≡ NO_BOUND }
+        ensures few { result.memo.known.few ≡ most_objects + 1 }
     {
         Remembered {
             memo: Memo::of(hints),

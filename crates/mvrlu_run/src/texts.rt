@@ -126,7 +126,14 @@ fn run_text<R: Threads + Wait + Sync, G: Gate>(
         lines,
         end,
     } = run_sets(rt, alloc, options, scripts, gate)?;
-    let text = render(alloc, &lines, &end, closing.tables())?;
+    let text = render(
+        rt,
+        alloc,
+        scripts.len(),
+        &lines,
+        &end,
+        closing.tables(),
+    )?;
     Ok((text, closing))
 }
 

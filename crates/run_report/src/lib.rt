@@ -38,6 +38,7 @@
 
 mod counts;
 mod line;
+mod lines;
 mod row;
 mod text;
 

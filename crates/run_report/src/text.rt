@@ -4,7 +4,6 @@ ghost use Rattle.std.specs.List.{flat_map, zip};
 ghost use Rattle.set_script.specs.Catalogue.{map_of, IsCatalogue};
 ghost use Rattle.set_script.specs.Names.{name_text};
 ghost use Rattle.run_report.specs.Text.{
-  text_of_line,
   text_of_key,
   text_of_set,
   text_of_sets,
@@ -14,11 +13,12 @@ ghost use Rattle.run_report.specs.Text.{
 };
 
 use crate::line::Line;
-use crate::row::{ROW, put_line};
+use crate::lines::{append, text_of_lines};
 use itoa::Buffer;
 use mv_history::LogTable;
 use set_script::Catalogue;
 use std::alloc::{AllocError, Global};
+use std::thread::Threads;
 
 // How many sets there are.
 pub(crate) const NAMES: u32 = 30;
@@ -29,17 +29,19 @@ pub(crate) const NAMES: u32 = 30;
 /// which is `yes`, `no`, `full` or `worn`, two of `yes` and `no`, a number, or `none` where there is no key.
 /// A set is its name and its rising keys; a key whose value is not 0 is followed by `=` and the value.
 /// A table is `log S live A freed B back C commits D aborts E rests F`. Each line ends with LF.
-/// The error is want of memory.
-pub fn render(
+/// So many threads render the lines, each an even part, where there are enough of them; where a thread can't be started, another does its
+/// work. The error is want of memory.
+pub fn render<R: Threads + Sync>(
+    rt: &R,
     alloc: Global,
+    threads: usize,
     lines: &[Line],
     end: &Catalogue,
     tables: &[LogTable],
 ) -> Result<Vec<u8>, AllocError>
     ensures { IfOk result (λ text. text.items ≡ text_of_run lines.now end.now tables.now) }
 {
-    let mut text = Vec::new(alloc);
-    write_lines(&mut text, lines)?;
+    let mut text = text_of_lines(rt, alloc, threads, lines)?;
     let rest = text_behind(alloc, end, tables)?;
     append(&mut text, rest.as_bytes())?;
     Ok(text)
@@ -53,26 +55,6 @@ fn text_behind(alloc: Global, end: &Catalogue, tables: &[LogTable]) -> Result<St
     write_sets(&mut text, end)?;
     write_tables(&mut text, tables)?;
     Ok(text)
-}
-
-// Appends the text of each line, which is made in a row of bytes on the stack.
-fn write_lines(text: &mut Vec<u8>, lines: &[Line]) -> Result<(), AllocError>
-    ensures { OnOk result (text.new.items ≡ text.old.items ++ flat_map text_of_line lines.now) }
-{
-    let mut row = [0; ROW];
-    for line in lines {
-        let start = put_line(&mut row, line);
-        append(text, &row[start..])?;
-    }
-    Ok(())
-}
-
-// Appends these bytes.
-#[inline(always)]
-fn append(text: &mut Vec<u8>, bytes: &[u8]) -> Result<(), AllocError>
-    ensures { OnOk result (text.new.items ≡ text.old.items ++ bytes.now) }
-{
-    text.extend_from_slice(bytes)
 }
 
 // Writes a number in decimal digits, which are made on the stack.

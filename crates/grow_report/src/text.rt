@@ -7,17 +7,13 @@ use run_report::{Line, render};
 use set_script::Catalogue;
 use std::alloc::{AllocError, Global};
 use std::fmt::Write;
-use std::thread::Threads;
 
 /// The text of a run on a growing hash set: that of [`render`], with the line `buckets B splits K` ahead of the tables of the
 /// logs, where K is the number of splits, at most 1,008, and B is 16 more.
-/// So many threads render the lines, as in [`render`].
 ///
 /// The error is want of memory.
-pub fn render_grown<R: Threads + Sync>(
-    rt: &R,
+pub fn render_grown(
     alloc: Global,
-    threads: usize,
     lines: &[Line],
     end: &Catalogue,
     splits: u32,
@@ -26,9 +22,9 @@ pub fn render_grown<R: Threads + Sync>(
     requires few { splits ≤ 1008 }
     ensures { IfOk result (λ text. text.items ≡ text_of_grown lines.now end.now splits tables.now) }
 {
-    let mut text = render(rt, alloc, threads, lines, end, &[])?;
+    let mut text = render(alloc, lines, end, &[])?;
     let none = Catalogue::new(alloc)?;
-    let tables = render(rt, alloc, 1, &[], &none, tables)?;
+    let tables = render(alloc, &[], &none, tables)?;
     let line = buckets_line(alloc, splits)?;
     text.extend_from_slice(line.as_bytes())?;
     text.extend_from_slice(&tables)?;

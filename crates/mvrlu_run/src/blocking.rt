@@ -81,14 +81,7 @@ fn blocks_text<R: Threads + Wait + Sync, G: Gate>(
         lines,
         end,
     } = run_block_sets(rt, alloc, USUAL, scripts, gate)?;
-    let text = render(
-        rt,
-        alloc,
-        scripts.len(),
-        &lines,
-        &end,
-        closing.tables(),
-    )?;
+    let text = render(alloc, &lines, &end, closing.tables())?;
     Ok((text, closing))
 }
 

@@ -92,15 +92,7 @@ fn grown_text<R: Threads + Wait + Sync, G: Gate>(
         end,
         splits,
     } = run_grown_set(rt, alloc, USUAL, scripts, gate)?;
-    let text = render_grown(
-        rt,
-        alloc,
-        scripts.len(),
-        &lines,
-        &end,
-        splits,
-        closing.tables(),
-    )?;
+    let text = render_grown(alloc, &lines, &end, splits, closing.tables())?;
     Ok((text, closing))
 }
 

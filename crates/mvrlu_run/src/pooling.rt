@@ -70,14 +70,7 @@ fn pool_text<R: Threads + Wait + Sync, G: Gate>(
         lines,
         end,
     } = pool_sets(rt, alloc, USUAL, seats, commands, gate)?;
-    let text = render(
-        rt,
-        alloc,
-        seats as usize,
-        &lines,
-        &end,
-        closing.tables(),
-    )?;
+    let text = render(alloc, &lines, &end, closing.tables())?;
     Ok((text, closing))
 }
 

@@ -37,11 +37,15 @@
 #![tactic(auto)]
 
 mod counts;
+mod cuts;
+mod in_order;
 mod line;
 mod lines;
+mod parts;
 mod row;
 mod text;
 
 pub use counts::summary;
+pub use in_order::render_in_order;
 pub use line::{Line, order};
 pub use text::render;

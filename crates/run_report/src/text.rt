@@ -13,12 +13,11 @@ ghost use Rattle.run_report.specs.Text.{
 };
 
 use crate::line::Line;
-use crate::lines::{append, text_of_lines};
+use crate::lines::{append, write_lines};
 use itoa::Buffer;
 use mv_history::LogTable;
 use set_script::Catalogue;
 use std::alloc::{AllocError, Global};
-use std::thread::Threads;
 
 // How many sets there are.
 pub(crate) const NAMES: u32 = 30;
@@ -29,26 +28,28 @@ pub(crate) const NAMES: u32 = 30;
 /// which is `yes`, `no`, `full` or `worn`, two of `yes` and `no`, a number, or `none` where there is no key.
 /// A set is its name and its rising keys; a key whose value is not 0 is followed by `=` and the value.
 /// A table is `log S live A freed B back C commits D aborts E rests F`. Each line ends with LF.
-/// So many threads render the lines, each an even part, where there are enough of them; where a thread can't be started, another does its
-/// work. The error is want of memory.
-pub fn render<R: Threads + Sync>(
-    rt: &R,
+/// The error is want of memory.
+pub fn render(
     alloc: Global,
-    threads: usize,
     lines: &[Line],
     end: &Catalogue,
     tables: &[LogTable],
 ) -> Result<Vec<u8>, AllocError>
     ensures { IfOk result (λ text. text.items ≡ text_of_run lines.now end.now tables.now) }
 {
-    let mut text = text_of_lines(rt, alloc, threads, lines)?;
+    let mut text = Vec::new(alloc);
+    write_lines(&mut text, lines)?;
     let rest = text_behind(alloc, end, tables)?;
     append(&mut text, rest.as_bytes())?;
     Ok(text)
 }
 
-// The text behind the lines.
-fn text_behind(alloc: Global, end: &Catalogue, tables: &[LogTable]) -> Result<String, AllocError>
+/// The text behind the lines.
+pub(crate) fn text_behind(
+    alloc: Global,
+    end: &Catalogue,
+    tables: &[LogTable],
+) -> Result<String, AllocError>
     ensures { IfOk result (λ rest. string_bytes rest ≡ text_of_sets 0 end.now ++ text_of_tables 0 tables.now) }
 {
     let mut text = String::new(alloc);

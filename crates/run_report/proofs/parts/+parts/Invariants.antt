@@ -1,8 +1,8 @@
 use Rattle.std.proofs.Common.{◌+◌, ◌*◌}
-use Rattle.run_report.proofs.lines.+parts.Given as goal
+use Rattle.run_report.proofs.parts.+parts.Given as goal
 
-abbrev pub decreases-text_of_parts : goal.decreases-text_of_parts
-decreases-text_of_parts g l = 2 * l.parts
+abbrev pub decreases-part_of : goal.decreases-part_of
+decreases-part_of g l = 2 * l.parts
 
 abbrev pub decreases-first : goal.decreases-first
 decreases-first g l = 2 * l.low + 1

@@ -126,14 +126,7 @@ fn run_text<R: Threads + Wait + Sync, G: Gate>(
         mut lines,
         end,
     } = run_sets(rt, alloc, options, scripts, gate)?;
-    let text = render_in_order(
-        rt,
-        alloc,
-        scripts.len(),
-        &mut lines,
-        &end,
-        closing.tables(),
-    )?;
+    let text = render_in_order(rt, alloc, scripts.len(), &mut lines, &end, closing.tables())?;
     Ok((text, closing))
 }
 

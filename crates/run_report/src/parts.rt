@@ -38,39 +38,36 @@ pub(crate) fn text_in_parts<R: Threads + Sync>(
 {
     let stretches = stretches_of(alloc, lines)?;
     let each = lines.len() / parts.max(1);
-    let Part { text, .. } = part_of(rt, alloc, parts, each, lines.len() * ROOM, stretches)?;
+    let Part { text, .. } = part_of(rt, alloc, parts, each, stretches)?;
     Ok(text)
 }
 
-// The text of the lines of these stretches, made in so many parts of about so many lines, with room for so many bytes: the
-// text of the first part is where the others are put behind.
+// The text of the lines of these stretches, made in so many parts of about so many lines.
 #[cycle(parts)]
 fn part_of<R: Threads + Sync>(
     rt: &R,
     alloc: Global,
     parts: usize,
     each: usize,
-    room: usize,
     stretches: Vec<&[Line]>,
 ) -> Result<Part, AllocError>
     ensures { IfOk result (λ part. IsPart (lines_of stretches.entry.items) part.text.items part.first part.last) }
 {
     if parts < 2 {
-        return merged(alloc, room, &stretches);
+        return merged(alloc, &stretches);
     }
     let low = parts / 2;
     let high = parts - low;
     let pivot = pivot_of(alloc, low, parts, each, &stretches)?;
     let (fronts, backs) = cut(alloc, &stretches, &pivot)?;
-    let back_room = each.saturating_mul(high).saturating_mul(ROOM);
     let first = move || -> Result<Part, AllocError>
         requires { IsSync R.row }
         ensures { IfOk result (λ part. IsPart (lines_of fronts.entry.items) part.text.items part.first part.last) }
-    { part_of(rt, alloc, low, each, room, fronts) };
+    { part_of(rt, alloc, low, each, fronts) };
     let second = move || -> Result<Part, AllocError>
         requires { IsSync R.row }
         ensures { IfOk result (λ part. IsPart (lines_of backs.entry.items) part.text.items part.first part.last) }
-    { part_of(rt, alloc, high, each, back_room, backs) };
+    { part_of(rt, alloc, high, each, backs) };
     let (behind, front) = join(rt, second, first);
     let front = front?;
     let behind = behind?;
@@ -98,9 +95,8 @@ fn both(front: Part, behind: Part) -> Result<Part, AllocError>
     })
 }
 
-// The text of the lines of these stretches, merged by this thread, with room for so many bytes. The error is want of memory, or
-// that there is no line.
-fn merged(alloc: Global, room: usize, stretches: &[&[Line]]) -> Result<Part, AllocError>
+// The text of the lines of these stretches, merged by this thread. The error is want of memory, or that there is no line.
+fn merged(alloc: Global, stretches: &[&[Line]]) -> Result<Part, AllocError>
     ensures { IfOk result (λ part. IsPart (lines_of stretches.now) part.text.items part.first part.last) }
 {
     let lines = sorted(alloc, stretches)?;
@@ -108,7 +104,7 @@ fn merged(alloc: Global, room: usize, stretches: &[&[Line]]) -> Result<Part, All
     if count == 0 {
         return Err(AllocError);
     }
-    let mut text = Vec::with_capacity(alloc, room)?;
+    let mut text = Vec::with_capacity(alloc, count.saturating_mul(ROOM))?;
     write_each(&mut text, &lines)?;
     Ok(Part {
         text,
@@ -129,12 +125,21 @@ fn sorted<'a>(alloc: Global, stretches: &[&'a [Line]]) -> Result<Vec<&'a Line>, 
     ensures same { IfOk result (λ lines. IsPermutation (lines_of stretches.now) (lines_at lines.items)) }
     ensures in_order { IfOk result (λ lines. IsOrdered (lines_at lines.items)) }
 {
-    let mut lines = Vec::new(alloc);
+    let mut lines = Vec::with_capacity(alloc, count_of(stretches))?;
     for stretch in stretches {
         add_lines(&mut lines, *stretch)?;
     }
     lines.sort_by_key(|line: &&Line| line.order_key())?;
     Ok(lines)
+}
+
+// How many lines the stretches have.
+fn count_of(stretches: &[&[Line]]) -> usize {
+    let mut count: usize = 0;
+    for stretch in stretches {
+        count = count.saturating_add(stretch.len());
+    }
+    count
 }
 
 fn add_lines<'a>(all: &mut Vec<&'a Line>, lines: &'a [Line]) -> Result<(), AllocError>

@@ -1,13 +1,11 @@
 -- The lines of stretches that are found, cut and gathered one after another.
-use Rattle.std.proofs.Common.{◌≡◌, ℕ, ◌+◌, ◌<◌, List, [], ◌∷◌, ◌++◌, length, take, map, get_or, refl, sym, ap, ◌∙◌, append_assoc, subst}
+use Rattle.std.proofs.Common.{◌≡◌, ℕ, ◌+◌, ◌<◌, List, [], ◌∷◌, ◌++◌, length, take, get_or, sym, ap, ◌∙◌, append_assoc, subst}
 use Rattle.std.specs.Borrow.{Bor}
-use Rattle.std.specs.List.{flat_map}
 use Rattle.std.specs.List.Sorted.{IsPermutation}
-use Rattle.std.proofs.lemmas.List.{take_more, flat_map_more, map-append}
+use Rattle.std.proofs.lemmas.List.{take_more, flat_map_more}
 use Rattle.std.proofs.lemmas.List.Sorted.{IsPermutation-append_left, IsPermutation-append_right, IsPermutation-append_comm, IsPermutation-trans}
 use Rattle.run_report.specs.declared.line.Line.{Line}
-use Rattle.run_report.specs.InOrder.{lines_at, lines_of}
-use Rattle.run_report.specs.Text.{text_of_line}
+use Rattle.run_report.specs.InOrder.{lines_of}
 
 -- one stretch more
 pub one_more : (done : List (Bor (List Line))) (s : Bor (List Line)) → lines_of (done ++ s ∷ []) ≡ lines_of done ++ s.now

@@ -1,5 +1,6 @@
 -- Parts of lines in their order, one behind another.
-use Rattle.std.proofs.Common.{◌≡◌, ℕ, ◌+◌, ◌-◌, ◌<◌, ◌≤◌, false, List, ◌++◌, length, take, get_or, refl, sym, ap, ◌∙◌, inl, inr, arith, length-append, append_assoc, subst}
+use Rattle.std.proofs.Common.{◌≡◌, ℕ, ◌+◌, ◌-◌, ◌<◌, ◌≤◌, false, List, [], ◌++◌, length, take, get_or, refl, sym, ap, ◌∙◌}
+use Rattle.std.proofs.Common.{inl, inr, arith, length-append, append_assoc, subst}
 use Rattle.std.specs.Borrow.{Bor}
 use Rattle.std.specs.List.{flat_map}
 use Rattle.std.specs.List.Sorted.{IsPermutation, IsSortedBy}
@@ -11,7 +12,7 @@ use Rattle.mv_history.specs.declared.answers.LogTable.{LogTable}
 use Rattle.set_script.specs.Catalogue.{Maps}
 use Rattle.run_report.specs.declared.line.Line.{Line}
 use Rattle.run_report.specs.declared.parts.Part.{Part}
-use Rattle.run_report.specs.InOrder.{HasInOrder, IsPart, IsTextInOrder, lines_at, lines_of}
+use Rattle.run_report.specs.InOrder.{HasInOrder, IsPart, IsPartBehind, IsTextInOrder, lines_at, lines_of}
 use Rattle.run_report.specs.Order.{is_ahead, IsOrdered}
 use Rattle.run_report.specs.Text.{text_of_line, text_of_run, text_of_sets, text_of_tables}
 
@@ -105,6 +106,34 @@ merged_part lines refs text f l same ordered is some first last =
       first_is = first;
       last_is = rw n last;
     }
+
+-- the piece that has them, behind what stood before
+pub behind_piece : (lines : List Line) (refs : List (Bor Line)) (before text : List ℕ) (f l : Line) → IsPermutation lines (lines_at refs)
+    → IsOrdered (lines_at refs) → text ≡ before ++ flat_map text_of_line (lines_at refs) → 0 < length refs → f ≡ get_or (lines_at refs) 0 f
+    → l ≡ get_or (lines_at refs) (length refs - 1) l → IsPartBehind before lines text f l
+behind_piece lines refs before text f l same ordered is some first last =
+    record {
+      own = flat_map text_of_line (lines_at refs);
+      part = merged_part lines refs (flat_map text_of_line (lines_at refs)) f l same ordered refl some first last;
+      behind = is;
+    }
+
+-- a piece behind another
+pub behind_both : (lines xs ys : List Line) (before middle text : List ℕ) (first last next end : Line) → IsPermutation lines (xs ++ ys)
+    → IsPartBehind before xs middle first last → IsPartBehind middle ys text next end → is_ahead next last ≡ false
+    → IsPartBehind before lines text first end
+behind_both lines xs ys before middle text first last next end cut p q apart =
+    record {
+      own = p.own ++ q.own;
+      part = both_parts lines xs ys p.own q.own (p.own ++ q.own) first last next end cut p.part q.part apart refl;
+      behind = q.behind ∙ ap (λ (t : List ℕ). t ++ q.own) p.behind ∙ append_assoc before p.own q.own;
+    }
+
+-- pieces before which nothing stood
+pub behind_nothing : (lines : List Line) (before text : List ℕ) (first last : Line) → before ≡ [] → IsPartBehind before lines text first last
+    → IsPart lines text first last
+behind_nothing lines before text first last none p =
+    subst (λ (t : List ℕ). IsPart lines t first last) (sym (p.behind ∙ ap (λ (t : List ℕ). t ++ p.own) none)) p.part
 
 -- two parts that were joined
 pub joined_parts : (lines xs ys : List Line) (p q r : Part) → IsPermutation lines (xs ++ ys) → IsPart xs p.text.items p.first p.last

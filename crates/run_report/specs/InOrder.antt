@@ -1,5 +1,5 @@
 -- The text of lines in their order, which are given in any.
-use Rattle.std.specs.Prelude.{◌≡◌, ℕ, ◌-◌, ◌<◌, List, length, map, slice_index_or}
+use Rattle.std.specs.Prelude.{◌≡◌, ℕ, ◌-◌, ◌<◌, ◌++◌, List, length, map, slice_index_or}
 use Rattle.std.specs.Borrow.{Bor}
 use Rattle.std.specs.List.{flat_map}
 use Rattle.std.specs.List.Sorted.{IsPermutation}
@@ -32,6 +32,12 @@ pub record IsPart (lines : List Line) (text : List ℕ) (first last : Line) : Ty
   pub some : 0 < length ordered
   pub first_is : first ≡ slice_index_or ordered 0 first
   pub last_is : last ≡ slice_index_or ordered (length ordered - 1) last
+
+-- The text has these lines in their order behind what stood before.
+pub record IsPartBehind (before : List ℕ) (lines : List Line) (text : List ℕ) (first last : Line) : Type 0 where
+  pub own : List ℕ
+  pub part : IsPart lines own first last
+  pub behind : text ≡ before ++ own
 
 -- the lines of some stretches, one behind another
 abbrev pub lines_of : List (Bor (List Line)) → List Line

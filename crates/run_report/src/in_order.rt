@@ -14,10 +14,13 @@ use std::thread::Threads;
 // How many lines a thread orders and renders at least.
 const LEAST: usize = 2048;
 
+// How many threads do so at most, as each has memory of its own for its part of the text, which stands there twice once it is joined.
+const MOST: usize = 4;
+
 /// The text of a run, as [`render`] makes it, of lines that come in any order: they are put in theirs, as [`order`] does.
 ///
-/// So many threads put them in order and render them, each an even part, where there are enough lines and memory for it, and where the
-/// lines of each seat stand together in order; else this thread does all. Where a thread can't be started, another does its work.
+/// So many threads, but at most four, put them in order and render them, each an even part, where there are enough lines and memory for
+/// it, and where the lines of each seat stand together in order; else this thread does all. Where a thread can't be started, another does its work.
 /// The lines stay, in some order. The error is want of memory.
 ///
 /// [`render`]: crate::render
@@ -48,7 +51,7 @@ fn text_in_order<R: Threads + Sync>(
 ) -> Result<Vec<u8>, AllocError>
     ensures { IfOk result (λ text. HasInOrder lines.old.items text.items) }
 {
-    let parts = threads.min(lines.len() / LEAST);
+    let parts = threads.min(MOST).min(lines.len() / LEAST);
     if parts > 1 {
         if let Ok(text) = text_in_parts(rt, alloc, parts, lines) {
             return Ok(text);

@@ -1,5 +1,5 @@
 -- A run stays one, and left of its domain, whatever the order of its lines; and the text of its lines in their order is that of the run.
-use Rattle.std.proofs.Common.{ℕ, List}
+use Rattle.std.proofs.Common.{ℕ, List, length}
 use Rattle.std.specs.List.Sorted.{IsPermutation}
 use Rattle.std.proofs.lemmas.List.Sorted.{IsPermutation-trans}
 use Rattle.domain_lines.specs.Joined.{past_of_whole}
@@ -16,9 +16,10 @@ use Rattle.run_report.specs.Worked.{Past}
 use Rattle.run_report.proofs.history.OneRun.{run_permuted}
 use Rattle.run_words.specs.declared.request.Options.{Options}
 use Rattle.set_script.specs.Catalogue.{Maps}
+use Rattle.set_script.specs.Rules.{IsSetCommit}
 use Rattle.set_script.specs.declared.commands.Command.{Command}
 use Rattle.set_script.specs.declared.rules.SetRules.{SetRules}
-use Rattle.mvrlu_run.specs.Kinds.{IsLeft, IsRunAlong, IsTextOf, runs}
+use Rattle.mvrlu_run.specs.Kinds.{IsLeft, IsRunAlong, IsTextOf, chain_of, config_of, runs}
 
 -- the chains of a run are those of its lines in any order
 pub along_permuted : (allows : List ℕ → State → Writes → Type 0) (chain : List Seat → List Seat → List Line → Type 0) (numbers : Config)
@@ -40,7 +41,10 @@ pub left_permuted : (options : Options) (scripts : List (List Command)) (lines o
 left_permuted options scripts lines others end closing same left = record {
   start = left.start;
   base = left.base;
-  run = along_permuted _ _ _ _ _ lines others (whole_of closing) same (run_permuted _ scripts lines others end _ same) left.run;
+  run = along_permuted IsSetCommit (chain_of scripts) (config_of options 16 (length scripts))
+      (λ past. RunOf past scripts lines end (whole_of closing).tables) (λ past. RunOf past scripts others end (whole_of closing).tables)
+      lines others (whole_of closing) same
+      (run_permuted (past_of_whole (whole_of closing)) scripts lines others end (whole_of closing).tables same) left.run;
 }
 
 -- and the text of such a run

@@ -14,6 +14,13 @@ pub struct Picked {
     pub second: u32,
 }
 
+// A store of so many objects at most is looked through at once, from where the last look ended.
+const FEW_OBJECTS: u32 = 65_535;
+
+// How many nodes a look in a larger one tries from there on, and then of those that lie far from one another.
+const NEAR: u32 = 64;
+const FAR: u32 = 1024;
+
 /// Finds `want` vacant objects, 1 or 2, from 180 on.
 ///
 /// It needs a view of 181 to 16,777,216 objects. None exactly where fewer than `want` objects from 180 on
@@ -21,7 +28,8 @@ pub struct Picked {
 ///
 /// Hints are tried before other objects, the last noted first, and those that were tried are gone: a
 /// wrong one, and one that is picked. Where none is left, it looks through the nodes, from where the
-/// last look ended and once round. It takes no memory.
+/// last look ended and once round; among more than 65,535 objects it tries 64 nodes from there on, and
+/// 1,024 that lie far from one another, before that. It takes no memory.
 pub fn pick<V: View>(view: &mut V, hints: &mut Hints, want: u32) -> Option<Picked>
     requires want { (want ≡ 1) ⊎ (want ≡ 2) }
     requires some { 180 < length (V.state view.old) }
@@ -73,7 +81,8 @@ fn hinted<V: View>(view: &mut V, hints: &mut Hints, but: u32) -> Option<u32>
     None
 }
 
-// A vacant node other than this one, from where the last look ended and once round.
+// A vacant node other than this one, from where the last look ended. In a store of many objects it tries some
+// nodes that lie far from one another before it goes once round.
 fn look<V: View>(view: &mut V, hints: &mut Hints, but: u32) -> Option<u32>
     requires some { 180 < length (V.state view.old) }
     requires few { length (V.state view.old) ≤ most_objects }
@@ -81,16 +90,68 @@ fn look<V: View>(view: &mut V, hints: &mut Hints, but: u32) -> Option<u32>
     ensures hints { hints.new ≡ hints.old }
     ensures as_before { V.as_before view.old view.new }
 {
-    let objects = view.objects();
-    let from = hints.next().clamp(FIRST_NODE, objects);
-    let found = match vacant_between(view, from, objects, but) {
+    let from = hints.next().clamp(FIRST_NODE, view.objects());
+    let found = match vacant_soon(view, from, but) {
         Some(object) => Some(object),
-        None => vacant_between(view, FIRST_NODE, from, but),
+        None => vacant_round(view, from, but),
     };
     if let Some(object) = found {
         hints.look_on_from(object + 1);
     }
     found
+}
+
+// A vacant node other than this one, from a node on and once round.
+fn vacant_round<V: View>(view: &mut V, from: u32, but: u32) -> Option<u32>
+    requires from { 180 ≤ from }
+    requires few { length (V.state view.old) ≤ most_objects }
+    ensures found { MatchOption result ((o : ℕ) → IsVacant (V.state view.old) o → o ≡ but) (λ o. IsVacant (V.state view.old) o × (o ≢ but)) }
+    ensures as_before { V.as_before view.old view.new }
+{
+    let objects = view.objects();
+    match vacant_between(view, from, objects, but) {
+        Some(object) => Some(object),
+        None => vacant_between(view, FIRST_NODE, from.min(objects), but),
+    }
+}
+
+// In a store of many objects, a vacant node other than this one among the next ones and some that lie far from one
+// another. Where it finds none, one may be vacant.
+fn vacant_soon<V: View>(view: &mut V, from: u32, but: u32) -> Option<u32>
+    requires some { 180 < length (V.state view.old) }
+    requires from_node { 180 ≤ from }
+    requires few { length (V.state view.old) ≤ most_objects }
+    ensures found { IfSome result (λ o. IsVacant (V.state view.old) o × (o ≢ but)) }
+    ensures as_before { V.as_before view.old view.new }
+{
+    let objects = view.objects();
+    if objects <= FEW_OBJECTS {
+        return None;
+    }
+    match vacant_between(view, from, from.saturating_add(NEAR).min(objects), but) {
+        Some(object) => Some(object),
+        None => vacant_far(view, from, but),
+    }
+}
+
+// A vacant node other than this one among some that lie far from one another: each is a part of about 0.618 of all
+// nodes behind the last one, so any so many of them leave no large gap.
+fn vacant_far<V: View>(view: &mut V, from: u32, but: u32) -> Option<u32>
+    requires some { 180 < length (V.state view.old) }
+    requires few { length (V.state view.old) ≤ most_objects }
+    ensures found { IfSome result (λ o. IsVacant (V.state view.old) o × (o ≢ but)) }
+    ensures as_before { V.as_before view.old view.new }
+{
+    let nodes = u64::from(view.objects() - FIRST_NODE);
+    let mut place = u64::from(from);
+    for _ in 0..FAR {
+        place = (place + nodes * 618_034 / 1_000_000) % nodes;
+        let object = FIRST_NODE + place as u32;
+        if object != but && is_vacant(view, object) {
+            return Some(object);
+        }
+    }
+    None
 }
 
 // The first vacant object of a range of nodes, other than this one.

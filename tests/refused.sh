@@ -95,6 +95,28 @@ for words in 'run script' 'run script empty' 'block blocks empty' 'pool 1 script
     }
 done
 
+# Two files so long that two threads put their lines in order and render them. Where these get no memory, one thread does it, and the
+# text is whole; all lines are reads of time 0, so there is one text. Other allocations are refused as in a short run.
+sweep_parts() {
+    local at whole=0 refused=0
+    for ((at = 0; at < 2100; at++)); do echo 'has l0 5'; done >long
+    "$program" run long long >text 2>/dev/null || { fail 'no text of long files'; return; }
+    for ((at = 1; at <= 400 && failed == 0; at++)); do
+        refuse alloc "$at" 1000000 "$program" run long long
+        must_free "alloc $at of long files"
+        if [ "$status" = 0 ]; then
+            must 0 "alloc $at of long files" '' "$(wc -c <text)"
+            whole=$((whole + 1))
+        else
+            must 7 "alloc $at of long files" 'out of memory' 0
+            refused=$((refused + 1))
+        fi
+    done
+    [ "$refused" -gt 0 ] && [ "$whole" -gt 0 ] || fail 'no alloc of long files was refused'
+    counts+=", $refused of alloc with long files"
+}
+sweep_parts
+
 # A read or a write that a signal interrupts (4), or that would wait (11), is made again: the text is whole.
 pass_again() {
     local kind error at

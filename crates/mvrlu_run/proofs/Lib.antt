@@ -4,6 +4,7 @@ pub mod Failing
 pub mod FileTexts
 pub mod OneFile
 pub mod Opened
+pub mod InOrder
 pub mod Still
 pub mod Along
 pub mod WorkTexts

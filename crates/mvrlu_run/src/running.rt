@@ -3,7 +3,6 @@ ghost use Rattle.std.specs.Prelude.{◌≡◌, ◌≤◌, All, IfErr, IfOk, Ok, 
 ghost use Rattle.set_script.specs.Objects.{no_words};
 ghost use Rattle.mvrlu.specs.Opened.{IsOpened};
 ghost use Rattle.mvrlu.specs.Meeting.{AreAll};
-ghost use Rattle.run_report.specs.Order.{IsOrdered};
 ghost use Rattle.run_words.specs.Words.{FitOptions};
 ghost use Rattle.script_workers.specs.Workers.{items_of};
 ghost use Rattle.mvrlu_run.specs.Kinds.{IsLeft, config_of, runs};
@@ -12,7 +11,7 @@ use mv_history::Protocol;
 use mv_layout::Config;
 use mvrlu::{Closing, Domain, OpenFault, Seat, open_zeros};
 use run_outside::Gate;
-use run_report::{Line, order};
+use run_report::Line;
 use run_words::Options;
 use script_domain::run_domain;
 use set_catalog::read_all;
@@ -31,8 +30,8 @@ pub const USUAL: Options = Options {
 // How many objects a command may hold.
 const WRITE_MAX: u32 = 16;
 
-/// What a run of scripts gives: what is left of its domain, which has the table of each seat's log, its lines in their
-/// order, and the sets as they are at the end.
+/// What a run of scripts gives: what is left of its domain, which has the table of each seat's log, its lines, those
+/// of one seat behind those of another, and the sets as they are at the end.
 #[derive(Drop)]
 pub struct Told {
     pub closing: Closing<SetRules>,
@@ -53,12 +52,10 @@ pub fn run_sets<R: Threads + Wait + Sync, G: Gate>(
     requires some { 1 ≤ length scripts.now }
     requires few { length scripts.now ≤ 64 }
     requires short { All (λ script. length script.items ≤ 65536) scripts.now }
-    ensures ran { IfOk result (λ told. IsLeft (runs options (map items_of scripts.now)) told.lines.items told.end told.closing) }
-    ensures ordered { IfOk result (λ told. IsOrdered told.lines.items) }
+    ensures { IfOk result (λ told. IsLeft (runs options (map items_of scripts.now)) told.lines.items told.end told.closing) }
 {
     let (domain, seats) = open_sets(alloc, options, scripts.len() as u32)?;
-    let (mut closing, mut lines) = ran_or_met(run_domain(rt, alloc, domain, seats, scripts, gate))?;
-    order(&mut lines);
+    let (mut closing, lines) = ran_or_met(run_domain(rt, alloc, domain, seats, scripts, gate))?;
     let end = read_all(alloc, &mut closing)?;
     Ok(Told {
         closing,

@@ -17,7 +17,7 @@ use crate::running::{Told, run_sets};
 use crate::scripts::{Grammar, read_scripts};
 use mvrlu::Closing;
 use run_outside::{Files, Gate};
-use run_report::{render, summary};
+use run_report::{order, render_in_order, summary};
 use run_words::{Options, Request};
 use script_gen::text;
 use set_script::{Command, SetRules};
@@ -123,10 +123,10 @@ fn run_text<R: Threads + Wait + Sync, G: Gate>(
 {
     let Told {
         closing,
-        lines,
+        mut lines,
         end,
     } = run_sets(rt, alloc, options, scripts, gate)?;
-    let text = render(alloc, &lines, &end, closing.tables())?;
+    let text = render_in_order(rt, alloc, scripts.len(), &mut lines, &end, closing.tables())?;
     Ok((text, closing))
 }
 
@@ -142,9 +142,10 @@ fn work_text<R: Threads + Wait + Sync, G: Gate>(
     let scripts = four_scripts(alloc, number)?;
     let Told {
         closing,
-        lines,
+        mut lines,
         end,
     } = run_sets(rt, alloc, WORK, &scripts, gate)?;
+    order(&mut lines);
     let text = summary(alloc, number, &lines, &end)?;
     Ok((text, closing))
 }

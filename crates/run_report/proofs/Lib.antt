@@ -2,6 +2,8 @@ pub mod Texts
 pub mod Counted
 pub mod Pairs
 pub mod Ordering
+pub mod Stretches
+pub mod InParts
 pub mod Replaying
 pub mod Runs
 pub mod history

@@ -1,4 +1,5 @@
 pub mod Order
+pub mod InOrder
 pub mod Legal
 pub mod Worked
 pub mod Whole

@@ -27,7 +27,8 @@
 //! of seats that each worked off its script are such a run (proofs/history), whose replay is then a consequence.
 //!
 //! **The text.** [`render`] writes exactly `text_of_run lines end tables` (specs/Text.antt): the lines as they stand, the
-//! sets that aren't empty, and the table of each seat's log.
+//! sets that aren't empty, and the table of each seat's log. [`render_in_order`] takes lines in any order, and writes the text of
+//! the same lines in theirs (`IsTextInOrder`, specs/InOrder.antt): several threads merge and render even parts of them.
 //!
 //! **The summary.** [`summary`] writes exactly `summary number lines end` (specs/Summary.antt), of a run of the scripts of a number: how many
 //! lines reply `yes`, `no` and `worn`, how many are commits, and the size of each set that isn't empty.
@@ -37,10 +38,15 @@
 #![tactic(auto)]
 
 mod counts;
+mod cuts;
+mod in_order;
 mod line;
+mod lines;
+mod parts;
 mod row;
 mod text;
 
 pub use counts::summary;
+pub use in_order::render_in_order;
 pub use line::{Line, order};
 pub use text::render;

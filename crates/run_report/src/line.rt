@@ -5,7 +5,7 @@ ghost use Rattle.mv_history.specs.declared.answers.LogTable.{LogTable};
 ghost use Rattle.set_script.specs.Catalogue.{Maps};
 ghost use Rattle.set_script.specs.declared.commands.Command.{Command};
 ghost use Rattle.run_report.specs.Legal.{LegalRun};
-ghost use Rattle.run_report.specs.Order.{order_key, IsOrdered};
+ghost use Rattle.run_report.specs.Order.{order_key, is_ahead, IsOrdered};
 ghost use Rattle.run_report.specs.Whole.{RunOf};
 ghost use Rattle.run_report.specs.Worked.{Past};
 
@@ -51,8 +51,17 @@ fn sort(lines: &mut Vec<Line>)
 }
 
 impl Line {
-    // What lines are ordered by.
-    fn order_key(&self) -> (u64, u8, u32, u32)
+    /// Whether this line is ahead of the other.
+    #[inline(always)]
+    pub(crate) fn is_ahead(&self, other: &Line) -> bool
+        ensures { result ≡ is_ahead self.now other.now }
+    {
+        self.order_key() < other.order_key()
+    }
+
+    /// What lines are ordered by.
+    #[inline(always)]
+    pub(crate) fn order_key(&self) -> (u64, u8, u32, u32)
         ensures { result ≡ order_key self.now }
     {
         let (time, rank) = match self.place {

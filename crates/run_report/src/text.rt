@@ -4,7 +4,6 @@ ghost use Rattle.std.specs.List.{flat_map, zip};
 ghost use Rattle.set_script.specs.Catalogue.{map_of, IsCatalogue};
 ghost use Rattle.set_script.specs.Names.{name_text};
 ghost use Rattle.run_report.specs.Text.{
-  text_of_line,
   text_of_key,
   text_of_set,
   text_of_sets,
@@ -14,7 +13,7 @@ ghost use Rattle.run_report.specs.Text.{
 };
 
 use crate::line::Line;
-use crate::row::{ROW, put_line};
+use crate::lines::{append, write_lines};
 use itoa::Buffer;
 use mv_history::LogTable;
 use set_script::Catalogue;
@@ -45,34 +44,18 @@ pub fn render(
     Ok(text)
 }
 
-// The text behind the lines.
-fn text_behind(alloc: Global, end: &Catalogue, tables: &[LogTable]) -> Result<String, AllocError>
+/// The text behind the lines.
+pub(crate) fn text_behind(
+    alloc: Global,
+    end: &Catalogue,
+    tables: &[LogTable],
+) -> Result<String, AllocError>
     ensures { IfOk result (λ rest. string_bytes rest ≡ text_of_sets 0 end.now ++ text_of_tables 0 tables.now) }
 {
     let mut text = String::new(alloc);
     write_sets(&mut text, end)?;
     write_tables(&mut text, tables)?;
     Ok(text)
-}
-
-// Appends the text of each line, which is made in a row of bytes on the stack.
-fn write_lines(text: &mut Vec<u8>, lines: &[Line]) -> Result<(), AllocError>
-    ensures { OnOk result (text.new.items ≡ text.old.items ++ flat_map text_of_line lines.now) }
-{
-    let mut row = [0; ROW];
-    for line in lines {
-        let start = put_line(&mut row, line);
-        append(text, &row[start..])?;
-    }
-    Ok(())
-}
-
-// Appends these bytes.
-#[inline(always)]
-fn append(text: &mut Vec<u8>, bytes: &[u8]) -> Result<(), AllocError>
-    ensures { OnOk result (text.new.items ≡ text.old.items ++ bytes.now) }
-{
-    text.extend_from_slice(bytes)
 }
 
 // Writes a number in decimal digits, which are made on the stack.

@@ -16,6 +16,8 @@ mod domains;
 #[cfg(test)]
 mod outside;
 #[cfg(test)]
+mod parts;
+#[cfg(test)]
 mod pools;
 #[cfg(test)]
 mod reports;

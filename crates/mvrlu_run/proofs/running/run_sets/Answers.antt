@@ -1,5 +1,6 @@
 use Rattle.std.proofs.Common.{◌∙◌, ap, length, map, sym}
 use Rattle.std.proofs.lemmas.List.{length-map}
+use Rattle.std.proofs.lemmas.List.Sorted.{IsPermutation-refl}
 use Rattle.mv_layout.specs.declared.config.Config.{Config}
 use Rattle.set_script.proofs.Times.{lawful_after}
 use Rattle.script_workers.specs.Workers.{items_of}
@@ -26,15 +27,15 @@ read_all-requires g c =
     let run = rw c.in_ok-closing.ensures at c.run_domain.ensures.ran in
     record { lawful = lawful_after c.in_ok-closing.closing.last.start c.in_ok-closing.closing.last.history run.opening run.allowed }
 
-pub returns-clause-ran : goal.returns-clause-ran
-returns-clause-ran g c =
+pub returns : goal.returns
+returns g c =
     let run = rw c.in_ok-closing.ensures at c.run_domain.ensures.ran in
     let still = c.read_all.ensures.as_before in
     let ends = rw c.in_ok-closing.ensures at c.run_domain.ensures.opening in
     let linked = rw c.in_ok-closing.ensures at c.run_domain.ensures.linked in
     let many = sym (length-map c.args.scripts.now items_of) in
     let scripts = map items_of c.args.scripts.now in
-    let lines = c.order.new.lines.items in
+    let lines = c.in_ok-closing.lines.items in
     record {
       start = still.start ∙ ends.0 ∙ c.in_ok-domain.ensures.opening;
       base = still.base ∙ ends.1 ∙ ap (λ (n : Config). n.base) c.in_ok-domain.ensures.numbers;
@@ -42,7 +43,7 @@ returns-clause-ran g c =
           (ap (config_of c.args.options 16) many) IsSetCommit (chain_of scripts)
           (λ past. RunOf past scripts lines c.in_ok-end.end c.read_all.new.view.last.tables)
           c.in_ok-closing.lines.items lines
-          c.in_ok-closing.closing.last c.read_all.new.view.last c.order.ensures.permutation still linked
+          c.in_ok-closing.closing.last c.read_all.new.view.last (IsPermutation-refl lines) still linked
           (still_run c.in_ok-closing.closing.last c.read_all.new.view.last scripts lines c.in_ok-end.end still
-          c.in_ok-end.ensures.catalogue (c.order.ensures.whole _ _ _ _ run));
+          c.in_ok-end.ensures.catalogue run);
     }

@@ -1,12 +1,10 @@
+use Rattle.std.proofs.Common.{map}
+use Rattle.script_workers.specs.Workers.{items_of}
+use Rattle.mvrlu_run.proofs.InOrder.{run_in_order}
 use Rattle.mvrlu_run.proofs.texts.run_text.Goals as goal
 
 pub returns : goal.returns
 returns g c =
     let told = c.in_ok-closing.field-0 in
-    record {
-      lines = told.lines.items;
-      end = told.end;
-      left = c.in_ok-closing.ensures.ran;
-      ordered = c.in_ok-closing.ensures.ordered;
-      is = rw (c.deref.ensures.value, c.tables.ensures) at c.in_ok-text.ensures;
-    }
+    run_in_order c.args.options (map items_of c.args.scripts.now) told.lines.items told.end _ _ c.in_ok-closing.ensures
+    (rw c.tables.ensures at c.in_ok-text.ensures)

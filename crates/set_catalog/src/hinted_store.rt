@@ -41,11 +41,12 @@ impl<S: Store<Rules = SetRules>> HintedStore<S> {
     ghost use Rattle.section_work.specs.Sections.{TriesOne};
     ghost use Rattle.section_work.specs.Steps.{IsStepped};
 
-    /// The store, with these hints. It takes no memory.
+    /// The store, with these hints, which become those of its seat. It takes no memory.
     pub fn new(store: S, hints: Hints) -> HintedStore<S>
         ensures store { result.store ≡ store }
         ensures hints { result.hints ≡ hints }
     {
+        let hints = hints.of_seat(store.seat());
         HintedStore {
             store,
             memo: Memo::of(hints),

@@ -10,14 +10,16 @@ use std::mem::replace;
 /// Objects that are likely to be vacant, so that an add seldom looks through all nodes.
 ///
 /// It is seen as a list of at most `room` object numbers, in the order in which they were noted. A
-/// hint may be wrong, or no object at all. Beside the list it keeps where the last look through the
-/// nodes ended, and the fingers into lists of the store that gets these hints; no clause speaks of that.
+/// hint may be wrong, or no object at all. Beside the list it keeps of which seat they are, where its last look
+/// through the nodes ended, and the fingers into lists of the store that gets these hints; no clause speaks of that.
 #[derive(Drop)]
 pub struct Hints {
     // None in the form that takes no memory.
     objects: Option<Vec<u32>>,
     room: usize,
-    next: u32,
+    seat: u32,
+    // None before the first look.
+    next: Option<u32>,
     fingers: Fingers,
 }
 
@@ -40,7 +42,8 @@ impl Hints {
         Ok(Hints {
             objects: Some(Vec::with_capacity(alloc, room)?),
             room,
-            next: 0,
+            seat: 0,
+            next: None,
             fingers: Fingers::new(alloc)?,
         })
     }
@@ -52,9 +55,19 @@ impl Hints {
         Hints {
             objects: None,
             room: 0,
-            next: 0,
+            seat: 0,
+            next: None,
             fingers: Fingers::none(),
         }
+    }
+
+    /// These hints, as those of the seat of this number: its looks begin at a share of the nodes that is its own.
+    pub fn of_seat(self, seat: u32) -> Hints
+        ensures { result ≡ self }
+    {
+        let mut hints = self;
+        hints.seat = seat;
+        hints
     }
 
     /// Puts the object last, whatever it is. Where the list is full, the first object goes; with room
@@ -97,8 +110,13 @@ impl Hints {
         }
     }
 
-    // Where the next look through the nodes begins.
-    pub(crate) fn next(&self) -> u32 {
+    // The number of the seat.
+    pub(crate) fn seat(&self) -> u32 {
+        self.seat
+    }
+
+    // Where the next look through the nodes begins. None before the first one.
+    pub(crate) fn next(&self) -> Option<u32> {
         self.next
     }
 
@@ -106,7 +124,7 @@ impl Hints {
     pub(crate) fn look_on_from(&mut self, object: u32)
         ensures { self.new ≡ self.old }
     {
-        self.next = object;
+        self.next = Some(object);
     }
 
     // Takes the fingers out.

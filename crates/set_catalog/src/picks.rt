@@ -14,6 +14,18 @@ pub struct Picked {
     pub second: u32,
 }
 
+// A store of so many objects at most is looked through at once, from where the last look ended.
+const FEW_OBJECTS: u32 = 65_535;
+
+// How many nodes a look in a larger one tries from there on, and then of those that lie far from one another.
+const NEAR: u32 = 8;
+const FAR: u32 = 1024;
+
+// Strides in millionths of all nodes: of such a look, and from the share of one seat to that of the next one. Any number of strides
+// of one kind leaves no large gap (a golden and a plastic number), and the nodes of one seat's look are not those of another's.
+const LOOK_STRIDE: u64 = 618_034;
+const SEAT_STRIDE: u64 = 754_878;
+
 /// Finds `want` vacant objects, 1 or 2, from 180 on.
 ///
 /// It needs a view of 181 to 16,777,216 objects. None exactly where fewer than `want` objects from 180 on
@@ -21,7 +33,9 @@ pub struct Picked {
 ///
 /// Hints are tried before other objects, the last noted first, and those that were tried are gone: a
 /// wrong one, and one that is picked. Where none is left, it looks through the nodes, from where the
-/// last look ended and once round. It takes no memory.
+/// last look ended (the first one begins at the seat's own share) and once round; among more than 65,535
+/// objects it tries 8 nodes from there on, and 1,023 that lie far from one another, before that. It takes
+/// no memory.
 pub fn pick<V: View>(view: &mut V, hints: &mut Hints, want: u32) -> Option<Picked>
     requires want { (want ≡ 1) ⊎ (want ≡ 2) }
     requires some { 180 < length (V.state view.old) }
@@ -73,7 +87,8 @@ fn hinted<V: View>(view: &mut V, hints: &mut Hints, but: u32) -> Option<u32>
     None
 }
 
-// A vacant node other than this one, from where the last look ended and once round.
+// A vacant node other than this one, from where the last look ended. Among many objects it tries some nodes that lie
+// far from one another before it goes once round.
 fn look<V: View>(view: &mut V, hints: &mut Hints, but: u32) -> Option<u32>
     requires some { 180 < length (V.state view.old) }
     requires few { length (V.state view.old) ≤ most_objects }
@@ -82,15 +97,83 @@ fn look<V: View>(view: &mut V, hints: &mut Hints, but: u32) -> Option<u32>
     ensures as_before { V.as_before view.old view.new }
 {
     let objects = view.objects();
-    let from = hints.next().clamp(FIRST_NODE, objects);
-    let found = match vacant_between(view, from, objects, but) {
+    let from = match hints.next() {
+        Some(object) => object.clamp(FIRST_NODE, objects),
+        None => far_node(objects, FIRST_NODE, hints.seat(), SEAT_STRIDE),
+    };
+    let found = match vacant_soon(view, from, but) {
         Some(object) => Some(object),
-        None => vacant_between(view, FIRST_NODE, from, but),
+        None => vacant_round(view, from, but),
     };
     if let Some(object) = found {
         hints.look_on_from(object + 1);
     }
     found
+}
+
+// A vacant node other than this one, from this one on and once round.
+fn vacant_round<V: View>(view: &mut V, from: u32, but: u32) -> Option<u32>
+    requires from { (180 ≤ from) × (from ≤ length (V.state view.old)) }
+    requires few { length (V.state view.old) ≤ most_objects }
+    ensures found { MatchOption result ((o : ℕ) → IsVacant (V.state view.old) o → o ≡ but) (λ o. IsVacant (V.state view.old) o × (o ≢ but)) }
+    ensures as_before { V.as_before view.old view.new }
+{
+    let objects = view.objects();
+    match vacant_between(view, from, objects, but) {
+        Some(object) => Some(object),
+        None => vacant_between(view, FIRST_NODE, from, but),
+    }
+}
+
+// Among many objects, a vacant node other than this one: of the next ones, or of some that lie far from one another.
+// Where it finds none, one may be vacant.
+fn vacant_soon<V: View>(view: &mut V, from: u32, but: u32) -> Option<u32>
+    requires some { 180 < length (V.state view.old) }
+    requires from { (180 ≤ from) × (from ≤ length (V.state view.old)) }
+    requires few { length (V.state view.old) ≤ most_objects }
+    ensures found { IfSome result (λ o. IsVacant (V.state view.old) o × (o ≢ but)) }
+    ensures as_before { V.as_before view.old view.new }
+{
+    let objects = view.objects();
+    if objects <= FEW_OBJECTS {
+        return None;
+    }
+    match vacant_between(view, from, (from + NEAR).min(objects), but) {
+        Some(object) => Some(object),
+        None => vacant_far(view, from, but),
+    }
+}
+
+// A vacant node other than this one, of some that lie far from one another.
+fn vacant_far<V: View>(view: &mut V, from: u32, but: u32) -> Option<u32>
+    requires some { 180 < length (V.state view.old) }
+    requires from { (180 ≤ from) × (from ≤ length (V.state view.old)) }
+    requires few { length (V.state view.old) ≤ most_objects }
+    ensures found { IfSome result (λ o. IsVacant (V.state view.old) o × (o ≢ but)) }
+    ensures as_before { V.as_before view.old view.new }
+{
+    let objects = view.objects();
+    for strides in 1..FAR {
+        let object = far_node(objects, from, strides, LOOK_STRIDE);
+        if object != but && is_vacant(view, object) {
+            return Some(object);
+        }
+    }
+    None
+}
+
+// The node that lies so many strides behind this one, round and round. A stride is so many millionths of all nodes.
+fn far_node(objects: u32, from: u32, strides: u32, millionths: u64) -> u32
+    requires some { 180 < objects }
+    requires few { objects ≤ most_objects }
+    requires from { (180 ≤ from) × (from ≤ objects) }
+    requires part { millionths ≤ 1000000 }
+    ensures { (180 ≤ result) × (result ≤ objects) }
+{
+    let nodes = u64::from(objects - FIRST_NODE);
+    let stride = nodes * millionths / 1_000_000;
+    let place = u64::from(from - FIRST_NODE) + u64::from(strides) * stride;
+    FIRST_NODE + (place % nodes) as u32
 }
 
 // The first vacant object of a range of nodes, other than this one.

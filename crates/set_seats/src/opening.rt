@@ -127,7 +127,8 @@ fn share_all(
         return Err(AllocError);
     };
     while !seats.is_empty() {
-        match share(alloc, first, seats.remove(0)) {
+        let number = shared.len() as u32;
+        match share(alloc, first, number, seats.remove(0)) {
             Ok(seat) => shared.push_reserved(seat),
             Err(AllocError) => {
                 let_all_go(seats);
@@ -139,16 +140,17 @@ fn share_all(
     Ok(shared)
 }
 
-// Gives a seat of the domain a share of it.
+// Gives a seat of the domain, of this number, a share of it.
 fn share(
     alloc: Global,
     first: &Share<BlockRules>,
+    number: u32,
     seat: Seat<BlockRules>,
 ) -> Result<SetSeat, AllocError>
     requires may { MayShare (domain_of first.now) seat }
     ensures { IfOk result (λ shared. (shared.seat ≡ seat) × Shares (domain_of first.now) shared) }
 {
-    match share_and_hints(alloc, first) {
+    match share_and_hints(alloc, first, number) {
         Ok((share, hints)) => Ok(SetSeat {
             share,
             seat,
@@ -161,14 +163,15 @@ fn share(
     }
 }
 
-// One more share of the domain, and room for a seat's hints.
+// One more share of the domain, and room for the hints of the seat of this number.
 fn share_and_hints(
     alloc: Global,
     first: &Share<BlockRules>,
+    number: u32,
 ) -> Result<(Share<BlockRules>, Hints), AllocError>
     ensures { IfOk result (λ r. domain_of r.0 ≡ domain_of first.now) }
 {
-    let hints = Hints::new(alloc, HINTS)?;
+    let hints = Hints::new(alloc, HINTS)?.of_seat(number);
     let share = first.try_clone()?;
     Ok((share, hints))
 }

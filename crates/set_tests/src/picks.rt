@@ -1,9 +1,9 @@
 // Which objects are picked, and how many reads that takes.
-ghost use Rattle.std.specs.Prelude.{◌<◌, ◌≤◌};
+ghost use Rattle.std.specs.Prelude.{◌≡◌, ◌<◌, ◌≤◌, length, IfOk};
 ghost use Rattle.set_script.specs.Objects.{most_objects};
 
 use crate::counted::Counted;
-use mv_history::{AnyRules, Section, Store, View, WORDS};
+use mv_history::{AnyRules, Section, Store, View, WORDS, Words};
 use plain_store::{PlainSection, PlainStore};
 use set_catalog::{Hints, Picked, pick};
 use set_script::MOST_OBJECTS;
@@ -69,6 +69,35 @@ fn a_wrong_hint_is_dropped(rt: HostRuntime) -> Result<(), Fail> {
     assert!(rt; picked.is_some_and(|p| p.first != 4000));
     assert_eq!(rt; hints.len(), 0);
     let _store = section.abort();
+    Ok(())
+}
+
+// So many objects, of which those from the first node to this one are not vacant.
+fn taken_to(alloc: Global, count: u32, end: u32) -> Result<Vec<Words>, AllocError>
+    ensures { IfOk result (λ words. length words.items ≡ count) }
+{
+    let mut words = Vec::with_capacity(alloc, count as usize)?;
+    for object in 0..count {
+        let taken = object >= 180 && object < end;
+        words.push_reserved(if taken { [1; WORDS] } else { [0; WORDS] });
+    }
+    Ok(words)
+}
+
+#[test]
+fn a_first_look_among_many_objects_passes_by_the_nodes_in_front(rt: HostRuntime) -> Result<(), Fail> {
+    let mut hints = Hints::new(rt.alloc(), 8)?;
+    let words = taken_to(rt.alloc(), 70_000, 63_000)?;
+    let store = PlainStore::<AnyRules>::new(rt.alloc(), &words, 0, 1)?;
+    let mut view = Counted {
+        view: store.enter(),
+        reads: 0,
+    };
+    let picked = pick_one(&rt, &mut view, &mut hints);
+    assert!(rt; picked.is_some_and(|p| p.first >= 63_000));
+    assert!(rt; view.reads < 8 + 1_024);
+    let Counted { view, reads: _ } = view;
+    let _store = view.abort();
     Ok(())
 }
 

@@ -117,11 +117,11 @@ sweep_parts() {
 }
 sweep_parts
 
-# A read or a write that a signal interrupts (4), or that would wait (11), is made again: the text is whole.
+# A call that a signal interrupts (4), or that would wait (11), is made again: the text is whole.
 pass_again() {
     local kind error at
     "$program" "$@" >text || { fail "no text: $*"; return; }
-    for kind in read write; do
+    for kind in open read write; do
         for error in 4 11; do
             for at in 1 2 3; do
                 REFUSE_ERROR=$error refuse "$kind" "$at" 3 "$program" "$@"

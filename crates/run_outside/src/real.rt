@@ -16,9 +16,21 @@ fn is_passing(error: &io::Error) -> bool {
     matches!(error.kind(), ErrorKind::Interrupted | ErrorKind::WouldBlock)
 }
 
+// A file of the system, whose opening is made again where that passes.
+fn opened<R: rt::Files + Wait>(rt: &R, name: &str) -> Option<R::File> {
+    for _ in rt.forever() {
+        match fs::open(rt, name) {
+            Ok(file) => return Some(file),
+            Err(error) if is_passing(&error) => thread::yield_now(),
+            Err(_) => return None,
+        }
+    }
+    None
+}
+
 /// The files of the system, through the runtime. A name is a path. They tell no texts and aren't steady, but
 /// the names of those that failed. Each error of
-/// the system is a fault, and stands for no more than that, but for a read that a signal interrupted or that would
+/// the system is a fault, and stands for no more than that, but for a call that a signal interrupted or that would
 /// wait: it is made again, behind a turn of other threads. So where a stream never has a byte, no read returns.
 #[derive(Drop)]
 pub struct RealFiles<'r, R: rt::Files + Wait> {
@@ -58,13 +70,13 @@ impl<'r, R: rt::Files + Wait> Files for RealFiles<'r, R> {
     fn open(&mut self, name: &str) -> Result<(), Failed> {
         // So that no two are open at a time.
         self.opened = None;
-        match fs::open(self.rt, name) {
-            Ok(file) => {
+        match opened(self.rt, name) {
+            Some(file) => {
                 self.opened = Some(file);
                 self.told.opens(name);
                 Ok(())
             }
-            Err(_) => {
+            None => {
                 self.told.open_fails(name);
                 self.faults = self.faults.saturating_add(1);
                 Err(Failed)

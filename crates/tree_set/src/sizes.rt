@@ -12,9 +12,9 @@ use mv_history::{View, Words};
 // small tree takes to walk over.
 const FEW_PENDING: usize = 64;
 
-// The places of the table with which it goes on where that one is full. No tree among 65,535 objects
-// fills it, since each pending link has an inner node that was read and a node to which it leads.
-const MANY_PENDING: usize = 32_768;
+// The places of the table with which it goes on where that one is full: 8 KB of the stack. Only a tree that moves
+// made fills it, since an add keeps its way short.
+const MANY_PENDING: usize = 2_048;
 
 const FIRST_NODE: u32 = 180;
 
@@ -22,9 +22,8 @@ const FIRST_NODE: u32 = 180;
 ///
 /// It needs a lawful state and a root, 170 to 179. It reads the root and each node of the tree, and
 /// one of them again where more than 64 right links are pending at one time: for n keys at most
-/// 2n + 1 reads, whatever the tree's form among up to 65,535 objects. Where more than 32,768 right
-/// links are pending at one time, it reads each node of the state as well. It never refuses, and takes
-/// no memory.
+/// 2n + 1 reads. Where more than 2,048 are, it reads each node of the state as well. It never refuses,
+/// and takes no memory.
 pub fn size_in<V: View>(view: &mut V, root: u32) -> u64
     requires root_from { 170 ≤ root }
     requires root_in { root < 180 }
@@ -64,7 +63,7 @@ fn count_on<V: View>(view: &mut V, leaves: &mut Leaves, pending: &mut [u32]) -> 
 fn count_rest<V: View>(view: &mut V, leaves: Leaves, pending: &[u32]) -> Option<u64>
     requires lawful { IsLawful (V.state view.old) }
     requires walk { (m : Map) × Passes (V.state view.old) pending.now leaves m }
-    requires few { length pending.now ≤ 32768 }
+    requires few { length pending.now ≤ 2048 }
     ensures counted { (m : Map) → Passes (V.state view.old) pending.now leaves m → IfSome result (λ n. n ≡ length m) }
     ensures as_before { V.as_before view.old view.new }
 {

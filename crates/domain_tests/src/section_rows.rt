@@ -11,7 +11,7 @@ use std::test::Fail;
 
 const TWO_SEATS: Config = Config { seats: 2, ..SMALL };
 
-static SCHEDULES: [Schedule; 7] = [
+static SCHEDULES: [Schedule; 8] = [
     Schedule {
         name: "the closing has the time and the state after the commits of all seats",
         domain: Config {
@@ -50,6 +50,27 @@ static SCHEDULES: [Schedule; 7] = [
         ]],
         again: &[],
         closing: (1, &[[0; 6]; 4]),
+    },
+    Schedule {
+        name: "two sections that each write what the other one read both commit: write skew",
+        domain: Config {
+            objects: 2,
+            ..TWO_SEATS
+        },
+        turns: &[&[
+            (0, Enter, Entered(0)),
+            (1, Enter, Entered(0)),
+            (0, Read(1), Words([0; 6])),
+            (1, Read(0), Words([0; 6])),
+            (0, Lock(0), Tried(Held)),
+            (0, Write(0, [1, 0, 0, 0, 0, 0]), Written),
+            (1, Lock(1), Tried(Held)),
+            (1, Write(1, [2, 0, 0, 0, 0, 0]), Written),
+            (0, Commit, Done(1)),
+            (1, Commit, Done(2)),
+        ]],
+        again: &[],
+        closing: (2, &[[1, 0, 0, 0, 0, 0], [2, 0, 0, 0, 0, 0]]),
     },
     Schedule {
         name: "at the last time a commit ends, and its abort leaves the old words",

@@ -9,6 +9,7 @@ rows_of_real_runs() {
     rows_of_the_sample "$top/mvrlu" ''
     rows_of_real_faults
     rows_of_real_streams
+    rows_of_real_room
     rows_of_real_signals
     rows_of_time
 }
@@ -101,6 +102,32 @@ PYTHON
     [ "$?:$(cat "$scratch/err")" = '6:write fault' ] || fail "a closed output: $(cat "$scratch/err")"
     printf 'add l0 5\n' | "$top/mvrlu" run many - >"$scratch/out" || fail "a lone - ends with $?"
     grep -q '^1\.1 c[0-9]* yes$' "$scratch/out" || fail 'a lone - is not read'
+}
+
+# The program in little room, by a limit of ulimit and its kilobytes: its whole text, or that no memory was left.
+ends_in_room() {
+    (ulimit "$1" "$2" && exec "$program" run chain) >"$scratch/out" 2>"$scratch/err"
+    case $? in
+        0) cmp -s chained "$scratch/out" || fail "ulimit $*: another text" ;;
+        7) [ "$(cat "$scratch/err")" = 'out of memory' ] && [ ! -s "$scratch/out" ] || fail "ulimit $*: $(cat "$scratch/err")" ;;
+        *) fail "ulimit $*: status $? and $(cat "$scratch/err")" ;;
+    esac
+}
+
+# Small stacks, and little memory from where the program can say how it is used: a tree of one long branch to the left is counted.
+rows_of_real_room() {
+    local key kilobytes refused=0
+    for ((key = 300; key > 0; key--)); do printf 'add l0 %d\nmove l0 t0 %d\n' "$key" "$key"; done >chain
+    echo 'size t0' >>chain
+    "$program" run chain >chained || fail "a long branch ends with $?"
+    for kilobytes in 32 64 128 256; do ends_in_room -s "$kilobytes"; done
+    for ((kilobytes = 1024; kilobytes < 40960; kilobytes += 1024)); do
+        (ulimit -v "$kilobytes" && exec "$program") >/dev/null 2>&1
+        [ $? = 2 ] || continue
+        ends_in_room -v "$kilobytes"
+        [ -s "$scratch/out" ] || refused=$((refused + 1))
+    done
+    [ "$refused" -gt 0 ] && [ -s "$scratch/out" ] || fail "of the runs in little memory $refused were refused"
 }
 
 # A run that waits for a pipe without a writer.

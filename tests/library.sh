@@ -32,7 +32,7 @@ bash tests/library/archive.sh "$room/libmvrlu.a" || fail "the archive was not bu
 strict=(-std=c11 -Wall -Wextra -Werror -Iinclude)
 calls='calls: '
 sets='sets: '
-moves='moves 100000 beside pairs 100000, none wrong'
+moves='moves 200000 beside pairs 100000, none wrong'
 walks='walks 30000, each of one state'
 bank='transfers 100000, each sum 64000'
 list='changes 40000, each walk 64 keys'
@@ -73,7 +73,7 @@ if carries -fsanitize=thread; then
     sanitized=("${strict[@]}" -g -O1 -fsanitize=thread)
     expect "bank under the thread sanitizer" "$bank" gcc "${sanitized[@]}" examples/c/bank.c
     expect "random histories under the thread sanitizer" "histories 500: " gcc "${sanitized[@]}" -DHISTORIES=500 tests/library/histories.c
-    expect "moves under the thread sanitizer" "moves 10000 beside" gcc "${sanitized[@]}" -DROUNDS=5000 tests/library/sets_moves.c
+    expect "moves under the thread sanitizer" "moves 20000 beside pairs 10000" gcc "${sanitized[@]}" -DROUNDS=5000 tests/library/sets_moves.c
     expect "random histories of sets under the thread sanitizer" "histories of sets 300: " gcc "${sanitized[@]}" -DHISTORIES=300 \
         tests/library/sets_histories.c
     expect "walks under the thread sanitizer" "walks 3000, " gcc "${sanitized[@]}" -DROUNDS=500 tests/library/sets_walks.c

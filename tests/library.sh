@@ -1,7 +1,7 @@
 #!/bin/bash
-# The library for C: builds the archive, and runs each call of include/mvrlu.h, the bank and the list of examples/c, and
-# random histories, with each compiler and sanitizer that is there; an absent one is told as not run. Ends with 1 at the
-# first that fails.
+# The library for C: builds the archive, and runs each call of include/mvrlu.h, the bank and the list of examples/c,
+# and random histories, with each compiler and sanitizer that is there; an absent one is told as not run. Ends with 1 at
+# the first that fails.
 cd "$(dirname "$0")/.." || exit 1
 room=$(mktemp -d) || exit 1
 trap 'rm -rf "$room"' EXIT
@@ -91,7 +91,8 @@ by_gcc() {
             tests/library/sets_moves.c
         expect "random histories of sets under the thread sanitizer" "histories of sets 300: " "${watched[@]}" \
             -DHISTORIES=300 tests/library/sets_histories.c
-        expect "walks under the thread sanitizer" "walks 3000, " "${watched[@]}" -DROUNDS=500 tests/library/sets_walks.c
+        expect "walks under the thread sanitizer" "walks 3000, " "${watched[@]}" -DROUNDS=500 \
+            tests/library/sets_walks.c
         expect "closing under the thread sanitizer" "closed 161 domains" "${watched[@]}" -DROUNDS=100 \
             tests/library/closing.c
     fi

@@ -1,7 +1,7 @@
 /* A call of one seat is stopped after so many instructions, and another seat makes calls in the middle of it; so for one number of
  * instructions after another, until the call ends before. Each way in which the two can meet comes, on one thread:
  * MVRLU_STALE, MVRLU_BUSY, MVRLU_AGAIN and MVRLU_SHORT of the sets, and MVRLU_AGAIN of mvrlu_commit, with what they
- * tell and what they leave. MVRLU_WORN is in closing.c. Ends with 1 at an answer that is another than the header says. */
+ * tell and what they leave. MVRLU_WORN is in closing.c. Ends with 1 at an answer that is another than the header's. */
 #define _GNU_SOURCE
 #include <mvrlu.h>
 #include <signal.h>
@@ -232,7 +232,7 @@ int main(void) {
     if (block.both == 0 || block.stale == 0 || block.busy == 0) fail("blocks: a way that did not come", (long long)block.both);
     if (shortages == 0) fail("a log that has room", 0);
     if (commits.again == 0) fail("commits: none was lost", (long long)commits.before);
-    if (commits.before == 0 || commits.after == 0) fail("commits: an order that didn't come", (long long)commits.after);
+    if (commits.before == 0 || commits.after == 0) fail("commits: an order didn't come", (long long)commits.after);
     printf("steps: stale %lu, busy %lu, again %lu, short %lu, both done %lu; commits again %lu, both done %lu\n",
         same.stale + block.stale, same.busy + block.busy, apart.again, shortages, same.both + apart.both + block.both,
         commits.again, commits.before + commits.after);

@@ -1,7 +1,7 @@
 #!/bin/bash
 # The library for C: builds the archive, and runs each call of include/mvrlu.h, the bank and the list of examples/c,
-# and random histories, with each compiler and sanitizer that is there; an absent one is told as not run. Ends with 1 at
-# the first that fails.
+# and random histories, with each compiler and sanitizer that is there; an absent one is told as not run. Ends with 1
+# at the first that fails.
 cd "$(dirname "$0")/.." || exit 1
 room=$(mktemp -d) || exit 1
 trap 'rm -rf "$room"' EXIT

@@ -1,5 +1,5 @@
-/* Four threads move keys between a list and a tree while two others ask for them in both: each key is in one of them at
- * each time. Ends with 1 at a pair that says otherwise. */
+/* Four threads move keys between a list and a tree while two others ask for them in both: each key is in one of them
+ * at each time. Ends with 1 at a pair that says otherwise. */
 #include <mvrlu.h>
 #include <pthread.h>
 #include <stdio.h>

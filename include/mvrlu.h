@@ -6,7 +6,8 @@
  * Objects. A domain has up to 16,777,216 objects, all words 0 at first, and up to 64 seats. A thread uses a seat: it enters a section,
  * and all its reads see the one state of that moment, whatever others commit meanwhile. Readers and writers never wait for
  * each other. To write, a section locks each object, gives it new words, and commits: the commit takes place whole, at one
- * time of the one commit history, or not at all. No call blocks, sleeps or tries again by itself.
+ * time of the one commit history, or not at all. No call blocks or sleeps, and none tries again by itself, but a lock
+ * once where its object's chain was cut meanwhile.
  *
  *     static mvrlu_seat seats[4];                        // zeroed memory is a closed seat
  *     mvrlu_options options = MVRLU_OPTIONS_INIT;
@@ -77,7 +78,7 @@ typedef enum mvrlu_status {
     MVRLU_CLOSED = -5,      /* the seat is closed */
     MVRLU_IN_USE = -6,      /* the seat is in a call of another thread, or, for open, a seat is open already */
     MVRLU_BAD_NUMBER = -7,  /* open: an option or the count of seats is out of its range */
-    MVRLU_NO_MEMORY = -8,   /* open: there is too little memory */
+    MVRLU_NO_MEMORY = -8,   /* open, and block and walk of the sets: there is too little memory */
     MVRLU_NULL = -9,        /* a null pointer where one may not be */
     MVRLU_MOVED = -11,      /* the seat's bytes were copied elsewhere */
     MVRLU_OUTSIDE = -12,    /* the call is for a section, and the seat is outside */

@@ -1,6 +1,7 @@
 #!/bin/bash
-# The library for C: builds the archive, and runs each call of include/mvrlu.h, the bank and the list of examples/c, and random histories, with
-# each compiler and sanitizer that is there. Ends with 1 at the first that fails.
+# The library for C: builds the archive, and runs each call of include/mvrlu.h, the bank and the list of examples/c,
+# and random histories, with each compiler and sanitizer that is there; an absent one is told as not run. Ends with 1
+# at the first that fails.
 cd "$(dirname "$0")/.." || exit 1
 room=$(mktemp -d) || exit 1
 trap 'rm -rf "$room"' EXIT
@@ -14,9 +15,11 @@ fail() {
 expect() {
     local name=$1 wanted=$2 said
     shift 2
-    "$@" -pthread "$room/libmvrlu.a" -o "$room/program" >"$room/log" 2>&1 || { cat "$room/log"; fail "$name does not build"; }
+    "$@" -pthread "$room/libmvrlu.a" -o "$room/program" >"$room/log" 2>&1 ||
+        { cat "$room/log"; fail "$name does not build"; }
     said=$("${under[@]}" "$room/program" 2>&1) || { echo "$said"; fail "$name failed"; }
     [[ $said == "$wanted"* ]] || { echo "$said"; fail "$name says something else"; }
+    run=$((run + 1))
 }
 
 # Whether a program of nothing runs with these words of gcc: not every kernel carries each sanitizer.
@@ -32,62 +35,89 @@ bash tests/library/archive.sh "$room/libmvrlu.a" || fail "the archive was not bu
 strict=(-std=c11 -Wall -Wextra -Werror -Iinclude)
 calls='calls: '
 sets='sets: '
-moves='moves 100000 beside pairs 100000, none wrong'
+moves='moves 200000 beside pairs 100000, none wrong'
 walks='walks 30000, each of one state'
 bank='transfers 100000, each sum 64000'
+tellers='transfers 200000, each sum 64000'
 list='changes 40000, each walk 64 keys'
 closing='closed 1061 domains, each with its last time'
 grace='replaced 20000, freed 20000, read none that was freed'
 under=()
 run=0
+sed 's/TELLERS = 2/TELLERS = 4/' examples/c/bank.c >"$room/bank.c"
 for compiler in gcc clang; do
     command -v "$compiler" >/dev/null || { echo "library: $compiler isn't there, not run"; continue; }
     expect "calls by $compiler" "$calls" "$compiler" "${strict[@]}" -O2 tests/library/calls.c
     expect "bank by $compiler" "$bank" "$compiler" "${strict[@]}" -O2 examples/c/bank.c
+    expect "bank of four tellers by $compiler" "$tellers" "$compiler" "${strict[@]}" -O2 "$room/bank.c"
     expect "list by $compiler" "$list" "$compiler" "${strict[@]}" -O2 examples/c/list.c
     expect "grace by $compiler" "$grace" "$compiler" "${strict[@]}" -O2 tests/library/grace.c
     expect "closing by $compiler" "$closing" "$compiler" "${strict[@]}" -O2 tests/library/closing.c
     expect "calls on sets by $compiler" "$sets" "$compiler" "${strict[@]}" -O2 tests/library/sets_calls.c
     expect "moves by $compiler" "$moves" "$compiler" "${strict[@]}" -O2 tests/library/sets_moves.c
     expect "walks by $compiler" "$walks" "$compiler" "${strict[@]}" -O2 tests/library/sets_walks.c
-    run=$((run + 8))
 done
-if gcc "${strict[@]}" -O2 -pthread tests/library/single_steps.c -o "$room/single" 2>/dev/null && "$room/single"; then
-    expect "calls in the middle of a call" "steps: " gcc "${strict[@]}" -O2 tests/library/sets_steps.c
-    run=$((run + 1))
-else
-    echo "library: a thread can't be stepped here, calls in the middle of a call not run"
-fi
-expect "random histories" "histories 10000: " gcc "${strict[@]}" -O2 -DHISTORIES=10000 tests/library/histories.c
-expect "random histories of sets" "histories of sets 10000: " gcc "${strict[@]}" -O2 -DHISTORIES=10000 tests/library/sets_histories.c
-expect "refused memory" "refused requests: " gcc "${strict[@]}" -O2 tests/library/refused.c -Wl,--wrap=malloc,--wrap=realloc,--wrap=free
-run=$((run + 3))
-if carries -fsanitize=address,undefined; then
-    expect "calls under the address sanitizer" "$calls" gcc "${strict[@]}" -g -fsanitize=address,undefined tests/library/calls.c
-    expect "calls on sets under the address sanitizer" "$sets" gcc "${strict[@]}" -g -fsanitize=address,undefined tests/library/sets_calls.c
-    expect "grace under the address sanitizer" "$grace" gcc "${strict[@]}" -g -fsanitize=address,undefined tests/library/grace.c
-    expect "closing under the address sanitizer" "$closing" gcc "${strict[@]}" -g -fsanitize=address,undefined tests/library/closing.c
-    run=$((run + 4))
-fi
-if carries -fsanitize=thread; then
-    sanitized=("${strict[@]}" -g -O1 -fsanitize=thread)
-    expect "bank under the thread sanitizer" "$bank" gcc "${sanitized[@]}" examples/c/bank.c
-    expect "random histories under the thread sanitizer" "histories 500: " gcc "${sanitized[@]}" -DHISTORIES=500 tests/library/histories.c
-    expect "moves under the thread sanitizer" "moves 10000 beside" gcc "${sanitized[@]}" -DROUNDS=5000 tests/library/sets_moves.c
-    expect "random histories of sets under the thread sanitizer" "histories of sets 300: " gcc "${sanitized[@]}" -DHISTORIES=300 \
+
+# The programs that gcc alone builds.
+by_gcc() {
+    local fast=(gcc "${strict[@]}" -O2) debug=(gcc "${strict[@]}" -g) watched mixed
+    if "${fast[@]}" -pthread tests/library/single_steps.c -o "$room/single" 2>/dev/null && "$room/single"; then
+        expect "calls in the middle of a call" "steps: " "${fast[@]}" tests/library/sets_steps.c
+    else
+        echo "library: a thread can't be stepped here, calls in the middle of a call not run"
+    fi
+    expect "bank unchecked" "$bank" "${fast[@]}" -DMVRLU_UNCHECKED examples/c/bank.c
+    expect "random histories" "histories 10000: " "${fast[@]}" -DHISTORIES=10000 tests/library/histories.c
+    expect "random histories of sets" "histories of sets 10000: " "${fast[@]}" -DHISTORIES=10000 \
         tests/library/sets_histories.c
-    expect "walks under the thread sanitizer" "walks 3000, " gcc "${sanitized[@]}" -DROUNDS=500 tests/library/sets_walks.c
-    expect "closing under the thread sanitizer" "closed 161 domains" gcc "${sanitized[@]}" -DROUNDS=100 tests/library/closing.c
-    run=$((run + 6))
-fi
-if command -v valgrind >/dev/null; then
-    under=(valgrind -q --error-exitcode=9 --leak-check=full)
-    expect "calls under valgrind" "$calls" gcc "${strict[@]}" -g tests/library/calls.c
-    expect "calls on sets under valgrind" "$sets" gcc "${strict[@]}" -g tests/library/sets_calls.c
-    expect "closing under valgrind" "closed 81 domains" gcc "${strict[@]}" -g -DROUNDS=20 tests/library/closing.c
-    run=$((run + 3))
+    expect "refused memory" "refused requests: " "${fast[@]}" tests/library/refused.c \
+        -Wl,--wrap=malloc,--wrap=realloc,--wrap=free
+    if carries -fsanitize=address,undefined; then
+        watched=("${debug[@]}" "-fsanitize=address,undefined")
+        expect "calls under the address sanitizer" "$calls" "${watched[@]}" tests/library/calls.c
+        expect "calls on sets under the address sanitizer" "$sets" "${watched[@]}" tests/library/sets_calls.c
+        expect "grace under the address sanitizer" "$grace" "${watched[@]}" tests/library/grace.c
+        expect "closing under the address sanitizer" "$closing" "${watched[@]}" tests/library/closing.c
+    fi
+    if carries -fsanitize=thread; then
+        watched=("${debug[@]}" -O1 -fsanitize=thread)
+        expect "calls under the thread sanitizer" "$calls" "${watched[@]}" tests/library/calls.c
+        expect "calls on sets under the thread sanitizer" "$sets" "${watched[@]}" tests/library/sets_calls.c
+        expect "bank under the thread sanitizer" "$bank" "${watched[@]}" examples/c/bank.c
+        expect "bank of four tellers under the thread sanitizer" "$tellers" "${watched[@]}" "$room/bank.c"
+        expect "random histories under the thread sanitizer" "histories 500: " "${watched[@]}" -DHISTORIES=500 \
+            tests/library/histories.c
+        expect "moves under the thread sanitizer" "moves 20000 beside pairs 10000," "${watched[@]}" -DROUNDS=5000 \
+            tests/library/sets_moves.c
+        expect "random histories of sets under the thread sanitizer" "histories of sets 300: " "${watched[@]}" \
+            -DHISTORIES=300 tests/library/sets_histories.c
+        expect "walks under the thread sanitizer" "walks 3000, " "${watched[@]}" -DROUNDS=500 \
+            tests/library/sets_walks.c
+        expect "closing under the thread sanitizer" "closed 161 domains" "${watched[@]}" -DROUNDS=100 \
+            tests/library/closing.c
+    fi
+    if command -v valgrind >/dev/null; then
+        under=(valgrind -q --error-exitcode=9 --leak-check=full)
+        expect "calls under valgrind" "$calls" "${debug[@]}" tests/library/calls.c
+        expect "calls on sets under valgrind" "$sets" "${debug[@]}" tests/library/sets_calls.c
+        expect "closing under valgrind" "closed 81 domains" "${debug[@]}" -DROUNDS=20 tests/library/closing.c
+        under=()
+    else
+        echo "library: valgrind isn't there, not run"
+    fi
+    # A call of the one half on a handle of the other does not compile.
+    for mixed in 'static mvrlu_sets it; return mvrlu_enter(&it);' \
+        'static mvrlu_seat it; return mvrlu_sets_add(&it, 0, 0, NULL);'; do
+        printf '#include <mvrlu.h>\nint main(void) { %s }\n' "$mixed" >"$room/mixed.c"
+        "${fast[@]}" -c "$room/mixed.c" -o "$room/mixed.o" 2>/dev/null && fail "compiles: $mixed"
+    done
+    return 0
+}
+
+if command -v gcc >/dev/null; then
+    by_gcc
 else
-    echo "library: valgrind isn't there, not run"
+    echo "library: gcc isn't there, what it alone builds not run"
 fi
 cat >"$room/header.cpp" <<'EOF'
 #include <mvrlu.h>
@@ -97,13 +127,9 @@ int main() {
     return mvrlu_enter(&seat) == MVRLU_CLOSED && mvrlu_sets_has(&sets, 0, 0, NULL) == MVRLU_CLOSED ? 0 : 1;
 }
 EOF
-under=()
-expect "the header as C++" "" g++ -std=c++17 -Wall -Wextra -Werror -Iinclude "$room/header.cpp"
-run=$((run + 1))
-# A call of the one half on a handle of the other does not compile.
-for mixed in 'static mvrlu_sets it; return mvrlu_enter(&it);' \
-    'static mvrlu_seat it; return mvrlu_sets_add(&it, 0, 0, NULL);'; do
-    printf '#include <mvrlu.h>\nint main(void) { %s }\n' "$mixed" >"$room/mixed.c"
-    gcc "${strict[@]}" -c "$room/mixed.c" -o "$room/mixed.o" 2>/dev/null && fail "compiles: $mixed"
-done
+if command -v g++ >/dev/null; then
+    expect "the header as C++" "" g++ -std=c++17 -Wall -Wextra -Werror -Iinclude "$room/header.cpp"
+else
+    echo "library: g++ isn't there, not run"
+fi
 echo "library: $run programs ok"

@@ -1,5 +1,5 @@
-/* Two threads move keys between a list and a tree while two others ask for them in both: each key is in one of the two at each time.
- * Ends with 1 at a pair that says otherwise. */
+/* Four threads move keys between a list and a tree while two others ask for them in both: each key is in one of them
+ * at each time. Ends with 1 at a pair that says otherwise. */
 #include <mvrlu.h>
 #include <pthread.h>
 #include <stdio.h>
@@ -9,7 +9,7 @@
 #define ROUNDS 50000
 #endif
 
-enum { KEYS = 64, THREADS = 4 };
+enum { KEYS = 64, MOVERS = 4, ASKERS = 2, THREADS = MOVERS + ASKERS };
 
 typedef struct worker { mvrlu_sets *sets; uint32_t number; unsigned long done; } worker;
 
@@ -18,14 +18,15 @@ static void fail(const char *what, long long got) {
     exit(1);
 }
 
-/* Moves one key after another, from where it is. Each thread has keys of its own, so it knows where. */
+/* Moves one key after another, from where it is. Each mover has keys of its own, so it knows where. */
 static void *move(void *given) {
     worker *me = given;
     for (unsigned long i = 0; i < ROUNDS; i++) {
-        uint32_t key = 2 * (uint32_t)(i % (KEYS / 2)) + me->number, in_list = (i / (KEYS / 2)) % 2 == 0;
+        uint32_t key = MOVERS * (uint32_t)(i % (KEYS / MOVERS)) + me->number, in_list = (i / (KEYS / MOVERS)) % 2 == 0;
+        uint32_t source = in_list ? MVRLU_LIST(0) : MVRLU_TREE(3), target = in_list ? MVRLU_TREE(3) : MVRLU_LIST(0);
         int32_t status;
         do {
-            status = mvrlu_sets_move(me->sets, in_list ? MVRLU_LIST(0) : MVRLU_TREE(3), in_list ? MVRLU_TREE(3) : MVRLU_LIST(0), key, NULL);
+            status = mvrlu_sets_move(me->sets, source, target, key, NULL);
         } while (mvrlu_may_retry(status));
         if (status != MVRLU_OK) fail("a move", status);
         me->done++;
@@ -55,16 +56,21 @@ int main(void) {
     pthread_t threads[THREADS];
     mvrlu_reply reply;
     uint64_t commits = 0, rests = 0;
+    unsigned long moves = 0, pairs = 0;
     int32_t status = mvrlu_sets_open(&options, sets, THREADS);
     if (status != MVRLU_OK) fail("open", status);
     for (uint32_t key = 0; key < KEYS; key++) {
         if (mvrlu_sets_put(&sets[0], MVRLU_LIST(0), key, key + 1000, NULL) != MVRLU_OK) fail("a put", key);
     }
     for (uint32_t i = 0; i < THREADS; i++) {
-        workers[i] = (worker){&sets[i], i % 2, 0};
-        if (pthread_create(&threads[i], NULL, i < 2 ? move : ask, &workers[i]) != 0) fail("no thread", i);
+        workers[i] = (worker){&sets[i], i, 0};
+        if (pthread_create(&threads[i], NULL, i < MOVERS ? move : ask, &workers[i]) != 0) fail("no thread", i);
     }
-    for (int i = 0; i < THREADS; i++) pthread_join(threads[i], NULL);
+    for (int i = 0; i < THREADS; i++) {
+        pthread_join(threads[i], NULL);
+        if (i < MOVERS) moves += workers[i].done;
+        else pairs += workers[i].done;
+    }
     for (uint32_t key = 0; key < KEYS; key++) {
         int32_t there = mvrlu_sets_get(&sets[0], MVRLU_LIST(0), key, &reply);
         if (there == MVRLU_NO) there = mvrlu_sets_get(&sets[0], MVRLU_TREE(3), key, &reply);
@@ -76,11 +82,11 @@ int main(void) {
         commits += counts.commits;
         rests += counts.rests;
     }
-    if (commits != KEYS + workers[0].done + workers[1].done) fail("not one commit for each move", (long long)commits);
+    if (commits != KEYS + moves) fail("not one commit for each move", (long long)commits);
     if (reply.time != commits + rests) fail("entries that nobody made", (long long)reply.time);
     for (int i = 0; i < THREADS; i++) {
         if (mvrlu_sets_close(&sets[i]) != MVRLU_OK) fail("close", i);
     }
-    printf("moves %lu beside pairs %lu, none wrong\n", workers[0].done + workers[1].done, workers[2].done + workers[3].done);
+    printf("moves %lu beside pairs %lu, none wrong\n", moves, pairs);
     return 0;
 }

@@ -1,7 +1,7 @@
 /* A call of one seat is stopped after so many instructions, and another seat makes calls in the middle of it; so for one number of
- * instructions after another, until the call ends before. Each way in which the two can meet comes, on one thread: MVRLU_STALE,
- * MVRLU_BUSY, MVRLU_AGAIN and MVRLU_SHORT, with what they tell and what they leave. MVRLU_WORN would take 2^45 - 1 entries, and isn't
- * here. Ends with 1 at an answer that is another than the header says. */
+ * instructions after another, until the call ends before. Each way in which the two can meet comes, on one thread:
+ * MVRLU_STALE, MVRLU_BUSY, MVRLU_AGAIN and MVRLU_SHORT of the sets, and MVRLU_AGAIN of mvrlu_commit, with what they
+ * tell and what they leave. MVRLU_WORN is in closing.c. Ends with 1 at an answer that is another than the header's. */
 #define _GNU_SOURCE
 #include <mvrlu.h>
 #include <signal.h>
@@ -13,6 +13,7 @@
 enum { TRAP_FLAG = 0x100, SET = 0, OTHER = 1, KEY = 5, SLOTS = 64, WRITE_MAX = 40, STRIDE = 8 };
 
 static mvrlu_sets sets[2];
+static mvrlu_seat seats[2];
 static volatile unsigned long steps, stop_at;
 static void (*volatile between)(void);
 
@@ -145,26 +146,98 @@ static unsigned long run_short(void) {
     }
 }
 
+static uint64_t other_time;
+
+static void commit_in_between(void) { other_status = mvrlu_commit(&seats[1], NULL, &other_time); }
+
+/* A section of each seat holds the object of the seat's number, with this word. */
+static void hold_both(uint64_t word) {
+    const uint64_t words[MVRLU_WORDS] = {word};
+    for (uint32_t i = 0; i < 2; i++) {
+        if (mvrlu_prepare(&seats[i]) != MVRLU_OK) fail("no room for a section", i);
+    }
+    for (uint32_t i = 0; i < 2; i++) {
+        if (mvrlu_enter(&seats[i]) != MVRLU_OK) fail("no section", i);
+        if (mvrlu_lock(&seats[i], i, NULL) != MVRLU_OK) fail("a lock of the own object", i);
+        if (mvrlu_write(&seats[i], i, words) != MVRLU_OK) fail("a write", i);
+    }
+}
+
+/* In a section of seat 0. */
+static void want_word(uint32_t object, uint64_t word) {
+    uint64_t words[MVRLU_WORDS];
+    if (mvrlu_read(&seats[0], object, words) != MVRLU_OK || words[0] != word) fail("another word", object);
+}
+
+/* Two commits that took place, in which order, or where the one lost to the other. */
+typedef struct orders { unsigned long before, after, again; } orders;
+
+static void check_commits(orders *met, int32_t status, uint64_t time, uint64_t word) {
+    if (other_status != MVRLU_OK) fail("a commit in between", other_status);
+    if (status == MVRLU_AGAIN) {
+        met->again++;
+        if (time != other_time) fail("what came first of two commits", (long long)time);
+        want_word(0, word);
+        want_word(1, word - 1);
+        status = mvrlu_commit(&seats[0], NULL, &time);
+        if (time != other_time + 1) fail("the time of a commit again", (long long)time);
+    } else if (time < other_time) {
+        met->before++;
+    } else {
+        met->after++;
+    }
+    if (status != MVRLU_OK) fail("a commit", status);
+    if (time + 1 != other_time && time != other_time + 1) fail("two times that are apart", (long long)time);
+    if (mvrlu_enter(&seats[0]) != MVRLU_OK) fail("no section", 0);
+    want_word(0, word);
+    want_word(1, word);
+    if (mvrlu_leave(&seats[0]) != MVRLU_OK) fail("a section that isn't left", 0);
+}
+
+/* A commit of seat 0, and one of seat 1 after so many of its instructions, of another object. */
+static orders meet_commits(void) {
+    orders met = {0, 0, 0};
+    for (unsigned long at = 1;; at++) {
+        uint64_t time = 0;
+        int32_t status;
+        hold_both(at);
+        other_status = MVRLU_NULL;
+        count_from(at, commit_in_between);
+        status = mvrlu_commit(&seats[0], NULL, &time);
+        count_no_more();
+        if (other_status == MVRLU_NULL) return met;
+        check_commits(&met, status, time, at);
+    }
+}
+
 int main(void) {
     mvrlu_sets_options options = MVRLU_SETS_OPTIONS_INIT;
+    mvrlu_options objects = MVRLU_OPTIONS_INIT;
     struct sigaction action;
     memset(&action, 0, sizeof action);
     action.sa_sigaction = step;
     action.sa_flags = SA_SIGINFO;
     if (sigaction(SIGTRAP, &action, NULL) != 0) fail("no signal", 0);
     options.slots = SLOTS;
-    if (mvrlu_sets_open(&options, sets, 2) != MVRLU_OK) fail("open", 0);
+    objects.objects = 2;
+    objects.slots = SLOTS;
+    objects.write_max = 1;
+    if (mvrlu_sets_open(&options, sets, 2) != MVRLU_OK || mvrlu_open(&objects, seats, 2) != MVRLU_OK) fail("open", 0);
     if (mvrlu_sets_put(&sets[0], SET, KEY, 1, NULL) != MVRLU_OK || mvrlu_sets_put(&sets[0], OTHER, KEY, 1, NULL) != MVRLU_OK) fail("a put", 0);
     ways same = meet(SET, 0, 2 * STRIDE), apart = meet(OTHER, 0, STRIDE), block = meet(SET, 1, 4 * STRIDE);
     unsigned long shortages = run_short();
+    orders commits = meet_commits();
     if (same.both == 0 || same.stale == 0 || same.busy == 0) fail("one key: a way that did not come", (long long)same.both);
     if (apart.both == 0 || apart.again == 0) fail("two sets: a way that did not come", (long long)apart.both);
     if (block.both == 0 || block.stale == 0 || block.busy == 0) fail("blocks: a way that did not come", (long long)block.both);
     if (shortages == 0) fail("a log that has room", 0);
-    printf("steps: stale %lu, busy %lu, again %lu, short %lu, both done %lu\n", same.stale + block.stale, same.busy + block.busy, apart.again, shortages,
-        same.both + apart.both + block.both);
+    if (commits.again == 0) fail("commits: none was lost", (long long)commits.before);
+    if (commits.before == 0 || commits.after == 0) fail("commits: an order didn't come", (long long)commits.after);
+    printf("steps: stale %lu, busy %lu, again %lu, short %lu, both done %lu; commits again %lu, both done %lu\n",
+        same.stale + block.stale, same.busy + block.busy, apart.again, shortages, same.both + apart.both + block.both,
+        commits.again, commits.before + commits.after);
     for (int i = 0; i < 2; i++) {
-        if (mvrlu_sets_close(&sets[i]) != MVRLU_OK) fail("close", i);
+        if (mvrlu_sets_close(&sets[i]) != MVRLU_OK || mvrlu_close(&seats[i]) != MVRLU_OK) fail("close", i);
     }
     return 0;
 }

@@ -41,7 +41,8 @@
 //!
 //! **Misuse.** The types exclude most of it: a seat is used by one thread at a time, a section ends before its seat does
 //! anything else, and nothing is closed twice. What remains, as a number of an object that the domain doesn't have, is an
-//! error that left all as it was. No call waits, and none but [`Seat::retry`] and [`Sets::retry`] tries again.
+//! error that left all as it was. No call waits. None tries again but [`Seat::retry`] and [`Sets::retry`], and a lock once,
+//! where its object's chain was cut meanwhile.
 //!
 //! **Place.** The archive's calls carry the contracts, which are proved; that this package hands on what they answer, and that
 //! a seat which is dropped gives up what it holds, is tested. `build.rs` looks for `libmvrlu.a` in the folder that

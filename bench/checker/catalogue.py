@@ -55,7 +55,8 @@ class Table:
 
 
 class Tree:
-    """A leaf-oriented search tree. An inner node is a list of its dividing key and its children, a leaf is a key."""
+    """A leaf-oriented search tree, in which no add is followed by steps. An inner node is a list of its dividing key and its
+    children, a leaf is a key."""
 
     def __init__(self):
         self.root = [0, None, None]
@@ -145,11 +146,10 @@ class Catalogue:
         self.grown = set()
 
     def beside(self, command):
-        """How many objects a commit of the command may write by steps, beside what `run` says: only an add of a new key to a tree, or
-        a put of one, makes steps. They are those of its snapshot, where the tree may have had more keys than just before it."""
-        if command.verb not in ("add", "put") or command.key in self.values[command.first]:
-            return 0
-        return MOST_BESIDE if command.first in self.grown else 0
+        """How many objects a commit of the command may write by steps, beside those that `run` says. Only an add of a new key to a
+        tree, or a put of one, makes steps; any other commit is of a key that is there. They are those of its snapshot, where the
+        tree may have had more keys than just before it."""
+        return MOST_BESIDE if command.first in self.grown and command.key not in self.values[command.first] else 0
 
     def run(self, command, last):
         """Runs a command at the last time or before it: the reply, and how many objects its commit writes; a read writes none."""

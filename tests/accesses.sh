@@ -1,7 +1,7 @@
 #!/bin/bash
 # Checks by the sources that each access to a shared word of a domain is counted: the table of a domain is private to one module of
-# mv_core, each function of it makes at most one access, outside any loop, and an access of a word comes with one `tick`; no other code
-# has the table's calls, or atomics of its own, but a run's count of the threads that have begun.
+# mv_core, each function of it makes at most one access, outside any loop or closure, and an access of a word comes with one `tick`; no
+# other code has the table's calls, or atomics of its own, but a run's count of the threads that have begun.
 cd "$(dirname "$0")/.." || exit 1
 python3 - <<'PYTHON'
 import pathlib, re, sys
@@ -54,6 +54,9 @@ for name, body in functions(accesses):
         faults.append(f"{MODULE}: {name} uses the table twice")
     if re.search(r"\b(loop|while|for)\b", body):
         faults.append(f"{MODULE}: {name} has a loop")
+    # Any bar: that of a closure without parameters looks like that of a condition, and no function has either.
+    if "|" in body or re.search(r"\b\w*for_each\b", body):
+        faults.append(f"{MODULE}: {name} has a closure, which may be called many times")
 if seen != len(re.findall(r"\bfn \w+", accesses)):
     faults.append(f"{MODULE}: a function isn't read by this check")
 

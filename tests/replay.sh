@@ -20,6 +20,10 @@ def block(scripts, printed):
     text.check_blocks([script.parse_blocks(it) for it in scripts], printed)
 
 
+def pool(scripts, printed):
+    text.check_pool(2, script.parse(scripts[0]), printed)
+
+
 def grow(scripts, printed):
     growing.check_grow([script.parse_grow(it) for it in scripts], printed)
 
@@ -32,12 +36,20 @@ class Case:
         self.printed, self.options = printed, options
         check(self.scripts, printed.encode(), **options)
 
-    def refuses(self, change, into, why, **options):
-        """That the text is refused for that where what matches is changed."""
+    def changed(self, change, into):
         changed, count = re.subn(change, into, self.printed, flags=re.M)
         assert count, change
+        return changed.encode()
+
+    def takes(self, change, into):
+        """That the text is taken too where what matches is changed."""
+        self.check(self.scripts, self.changed(change, into), **self.options)
+
+    def refuses(self, change, into, why, **options):
+        """That the text is refused for that where what matches is changed."""
+        changed = self.changed(change, into)
         try:
-            self.check(self.scripts, changed.encode(), **self.options | options)
+            self.check(self.scripts, changed, **self.options | options)
         except text.Fault as fault:
             assert why in str(fault), (change, str(fault))
         else:
@@ -81,7 +93,8 @@ two.refuses("^log 1", "log 2", "not the log line")
 two.refuses("commits 1", "commits 2", "lines of commits")
 two.refuses("live 1 freed", "live 2 freed", "log 1: 2 versions")
 two.refuses("freed 6", "freed 5", "log 0: 12 versions")
-two.refuses("freed 6", "freed 11", "log 0: 18 versions")
+two.takes("freed 6", "freed 21")
+two.refuses("freed 6", "freed 22", "log 0: 29 versions")
 two.refuses("live 7", "live 6", "log 0: 12 versions")
 two.refuses("back 3", "back 13", "written back")
 two.refuses("rests 1", "rests 0", "end at 5")
@@ -140,6 +153,55 @@ writes = Case(run, [
     "log 0 live 0 freed 51 back 0 commits 16 aborts 0 rests 0\n")
 writes.refuses("freed 51", "freed 50", "for 51 writes")
 Case(run, [""], "log 0 live 0 freed 0 back 0 commits 0 aborts 0 rests 0\n")
+
+# The steps of adds to a tree: the tenth key finds 9, and no search among these passes more than 8 inner nodes; the eleventh and
+# the twelfth may write up to 12 objects more each, by an add or a put. A del, a put of a key that is there and a move make no steps.
+steps = Case(run, [
+    "format 2\n" + "".join(f"add t0 {key}\n" for key in range(1, 12)) +
+    "put t0 12 7\nput t0 12 8\ndel t0 1\nadd l0 1\nmove l0 t0 1\n"],
+    "".join(f"0.{n} c{n} yes\n" for n in range(1, 17)) +
+    "t0 1 2 3 4 5 6 7 8 9 10 11 12=8\n"
+    "log 0 live 57 freed 0 back 0 commits 16 aborts 0 rests 0\n")
+steps.takes("live 57", "live 81")
+steps.refuses("live 57", "live 56", "for 57 to 81 writes")
+steps.refuses("live 57", "live 82", "for 57 to 81 writes")
+steps.takes("live 57 freed 0 back 0", "live 0 freed 81 back 81")
+steps.refuses("back 0", "back 82", "82 written back")
+nine = Case(run, ["".join(f"add t9 {key}\n" for key in range(1, 11)) + "".join(f"add h0 {key}\n" for key in range(1, 13))],
+    "".join(f"0.{n} c{n} yes\n" for n in range(1, 23)) +
+    "h0 1 2 3 4 5 6 7 8 9 10 11 12\nt9 1 2 3 4 5 6 7 8 9 10\n"
+    "log 0 live 62 freed 0 back 0 commits 22 aborts 0 rests 0\n")
+nine.refuses("live 62", "live 63", "for 62 writes")
+nine.refuses("back 0", "back 63", "63 written back")
+
+# Steps are those of the snapshot, and a commit between may have taken the tenth key away: seat 1 adds key 11 to 9 keys by then.
+between = Case(run, ["".join(f"add t0 {key}\n" for key in range(1, 11)) + "del t0 1\n", "add t0 11\n"],
+    "".join(f"0.{n} c{n} yes\n" for n in range(1, 12)) + """\
+1.1 c12 yes
+t0 2 3 4 5 6 7 8 9 10 11
+log 0 live 41 freed 0 back 0 commits 11 aborts 0 rests 0
+log 1 live 4 freed 0 back 0 commits 1 aborts 0 rests 0
+""")
+between.takes("live 4 ", "live 16 ")
+between.refuses("live 4 ", "live 17 ", "log 1: 17 versions")
+between.refuses("live 41 ", "live 42 ", "log 0: 42 versions")
+
+# A pool's commands make steps, and those of a block make none.
+pooled = Case(pool, ["".join(f"add t0 {key}\n" for key in range(1, 12))],
+    "".join(f"0.{n} c{n} yes\n" for n in range(1, 11)) + """\
+1.11 c11 yes
+t0 1 2 3 4 5 6 7 8 9 10 11
+log 0 live 38 freed 0 back 0 commits 10 aborts 0 rests 0
+log 1 live 4 freed 0 back 0 commits 1 aborts 0 rests 0
+""")
+pooled.takes("live 4 ", "live 16 ")
+pooled.refuses("live 4 ", "live 17 ", "log 1: 17 versions")
+pooled.refuses("live 38 ", "live 39 ", "log 0: 39 versions")
+short = Case(block, ["".join(f"add t0 {key}\n" for key in range(1, 12))],
+    "".join(f"0.{n} c{n} yes\n" for n in range(1, 12)) +
+    "t0 1 2 3 4 5 6 7 8 9 10 11\n"
+    "log 0 live 42 freed 0 back 0 commits 11 aborts 0 rests 0\n")
+short.refuses("live 42", "live 56", "56 versions")
 
 # A block of three commands is one commit of three objects, and one that undoes its change is a commit too.
 blocks = Case(block, ["begin\nadd l0 5\nmove l0 t0 5\npair l0 t0 5\nend\nhas t0 5\n", "begin\nadd h0 1\ndel h0 1\nend\nbegin\nhas h0 1\nhas h0 2\nend\n"], """\

@@ -1,8 +1,14 @@
-"""The thirty sets as plain lists, tables and trees: what each command replies, how many objects its commit writes, and how
-many objects a search for its key reads."""
+"""The thirty sets as plain lists, tables and trees: what each command replies, how many objects its commit writes, how many it may
+write beside these, and how many objects a search for its key reads."""
 import bisect
 
 NAMES = [kind + str(i) for kind in "lht" for i in range(10)]
+
+# A tree of n keys has n - 1 inner nodes: with so many keys no search passes more than 8, and a commit makes no steps.
+MOST_SHORT = 9
+
+# How many objects an add to a tree may write by its steps, beside its own.
+MOST_BESIDE = 12
 
 
 class List:
@@ -49,7 +55,8 @@ class Table:
 
 
 class Tree:
-    """A leaf-oriented search tree. An inner node is a list of its dividing key and its children, a leaf is a key."""
+    """A leaf-oriented search tree, in which no add is followed by steps. An inner node is a list of its dividing key and its
+    children, a leaf is a key."""
 
     def __init__(self):
         self.root = [0, None, None]
@@ -135,6 +142,14 @@ class Catalogue:
         self.keys = {name: [] for name in NAMES}
         self.shapes = {name: SHAPES[name[0]]() for name in NAMES} if count_reads else None
         self.reads = 0
+        # The trees that have or had more than MOST_SHORT keys.
+        self.grown = set()
+
+    def beside(self, command):
+        """How many objects a commit of the command may write by steps, beside those that `run` says. Only an add of a new key to a
+        tree, or a put of one, makes steps; any other commit is of a key that is there. They are those of its snapshot, where the
+        tree may have had more keys than just before it."""
+        return MOST_BESIDE if command.first in self.grown and command.key not in self.values[command.first] else 0
 
     def run(self, command, last):
         """Runs a command at the last time or before it: the reply, and how many objects its commit writes; a read writes none."""
@@ -208,6 +223,8 @@ class Catalogue:
             if self.shapes:
                 self.shapes[name].add(key)
         self.values[name][key] = value
+        if name[0] == "t" and len(self.values[name]) > MOST_SHORT:
+            self.grown.add(name)
 
     def parts(self, names):
         """The sets of these names as they are, where no reads are counted."""

@@ -195,7 +195,7 @@ def check_grow(scripts, text):
     catalogue = Catalogue(Options().objects - HEADS)
     check_order(lines)
     check_scripts(lines, scripts, Options().base)
-    writes = check_replies(lines, scripts, catalogue)
+    writes, _ = check_replies(lines, scripts, catalogue)
     check_sets(sets, catalogue)
     check_logs(lines, scripts, logs, writes, splits)
     return count(lines, logs), splits

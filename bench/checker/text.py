@@ -6,6 +6,9 @@ from . import script
 from .catalogue import Catalogue
 
 LAST = 35184372088831
+
+# How many objects a section of a run or a pool holds at most, and how many of them each command of a block.
+MOST_HELD = 16
 MOST_LOCKS = 5
 
 Options = namedtuple("Options", "objects slots base", defaults=(4096, 1024, 0))
@@ -125,15 +128,17 @@ def check_shares(lines, commands, seats, base):
 
 
 def check_replies(lines, scripts, catalogue):
-    """Replays the lines in their order; answers how many objects the commits of each seat write."""
-    writes = [0] * len(scripts)
+    """Replays the lines in their order; answers how many objects the commits of each seat write, and how many they may write beside."""
+    writes, beside = [0] * len(scripts), [0] * len(scripts)
     for line in lines:
         command = scripts[line.seat][line.number - 1]
+        most = catalogue.beside(command)
         reply, written = catalogue.run(command, not line.commit and line.time == LAST)
         must(reply == line.reply, f"{name(line)} replies {line.reply} and not {reply}: {command}")
         must(line.commit == (written > 0), f"{name(line)} is {'a commit' if line.commit else 'a read'}: {command}")
         writes[line.seat] += written
-    return writes
+        beside[line.seat] += most if written else 0
+    return writes, beside
 
 
 def run_block(catalogue, block, last):
@@ -175,21 +180,25 @@ def check_sets(rows, catalogue):
     must(len(rows) == len(list(catalogue.lines())), "the lines of sets are too many or too few")
 
 
-def check_log(seat, log, lines, writes, slots):
-    """The table of a seat. Each abort that it counts gave up one to five objects."""
+def span(writes, beside):
+    return f"{writes} to {writes + beside}" if beside else str(writes)
+
+
+def check_log(seat, log, lines, writes, beside, slots):
+    """The table of a seat, whose commits may have written so many objects beside. Each abort that it counts gave up 1 to 16 objects."""
     commits = sum(1 for line in lines if line.seat == seat and line.commit)
     built = log.live + log.freed
     must(log.commits == commits, f"log {seat}: {log.commits} commits, and {commits} lines of commits")
-    must(writes + log.aborts <= built <= writes + MOST_LOCKS * log.aborts,
-         f"log {seat}: {built} versions, for {writes} writes of commits and {log.aborts} aborts")
+    must(writes + log.aborts <= built <= writes + beside + MOST_HELD * log.aborts,
+         f"log {seat}: {built} versions, for {span(writes, beside)} writes of commits and {log.aborts} aborts")
     must(log.live <= slots, f"log {seat}: {log.live} live in {slots} slots")
-    must(log.back <= writes, f"log {seat}: {log.back} written back, of {writes} writes of commits")
+    must(log.back <= writes + beside, f"log {seat}: {log.back} written back, of {span(writes, beside)} writes of commits")
 
 
-def check_logs(logs, lines, writes, options):
+def check_logs(logs, lines, writes, beside, options):
     must(len(logs) == len(writes), f"{len(logs)} log lines for {len(writes)} scripts")
     for seat, log in enumerate(logs):
-        check_log(seat, log, lines, writes[seat], options.slots)
+        check_log(seat, log, lines, writes[seat], beside[seat], options.slots)
     must(len(logs) > 1 or logs[0].aborts == 0, "one seat alone has aborted")
     end = options.base + sum(log.commits + log.rests for log in logs)
     latest = lines[-1].time if lines else options.base
@@ -223,7 +232,7 @@ def starts_of(blocks):
 
 
 def check_block_log(seat, log, commits, most, slots):
-    """The table of a seat of blocks. A commit writes 1 to five objects for each command, and an abort gave up as many at most."""
+    """The table of a seat of blocks. A commit writes 1 to 5 objects for each command, and an abort gave up as many at most."""
     built = log.live + log.freed
     must(log.commits == commits, f"log {seat}: {log.commits} commits, and blocks at {commits} commits")
     must(commits + log.aborts <= built <= most + MOST_LOCKS * script.MOST_IN_BLOCK * log.aborts,
@@ -258,9 +267,9 @@ def check_lines(options, scripts, text, count_reads, check_numbers):
     catalogue = Catalogue(options.objects - 180, count_reads)
     check_order(lines)
     check_numbers(lines)
-    writes = check_replies(lines, scripts, catalogue)
+    writes, beside = check_replies(lines, scripts, catalogue)
     check_sets(sets, catalogue)
-    check_logs(logs, lines, writes, options)
+    check_logs(logs, lines, writes, beside, options)
     return count(lines, logs, catalogue.reads)
 
 

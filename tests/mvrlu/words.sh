@@ -14,6 +14,7 @@ rows_of_wrong_words() {
     wrong "'RUN' isn't a subcommand: did you mean run?" RUN a
     wrong "'blok' isn't a subcommand: did you mean block?" blok a
     wrong "'buidl' isn't a subcommand: did you mean build?" buidl
+    wrong "'nwe' isn't a subcommand: did you mean new?" nwe
     wrong "'a' isn't a subcommand: ./mvrlu run FILE.. runs scripts" a
     wrong "'sing' isn't a subcommand: they are run, gen, work, block, pool, grow, replay; ./mvrlu help says more" sing
     wrong 'name a subcommand: run, gen, work, block, pool, grow, replay; ./mvrlu help says more'

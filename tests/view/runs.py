@@ -50,4 +50,13 @@ for command, words, old, new, line in CASES:
     stored.write_text(text[:text.rindex("log 0")])
     if view("--text", stored, *words)[:2] != (3, ""):
         wrong.append(f"{command}: a text that was cut is taken")
+# Adds of rising keys to a tree: the tenth finds 9, and the eleventh may write 12 objects more.
+(scratch / "rising").write_text("".join(f"add t0 {key}\n" for key in range(1, 12)))
+for words in (["run", scratch / "rising"], ["pool", "1", scratch / "rising"]):
+    for live, status in ((42, 0), (54, 0), (55, 1), (41, 1)):
+        rows = [*(f"0.{n} c{n} yes" for n in range(1, 12)), "t0 1 2 3 4 5 6 7 8 9 10 11"]
+        rows.append(f"log 0 live {live} freed 0 back 0 commits 11 aborts 0 rests 0")
+        stored.write_text("".join(f"{row}\n" for row in rows))
+        if (ran := view("--text", stored, "--check", *words)).status != status:
+            wrong.append(f"{words[0]} of rising keys with {live} versions: {ran}")
 finish(wrong, f"{len(CASES)} texts of runs hold, and changed ones are refused")

@@ -3,7 +3,7 @@
 import os
 
 SUBCOMMANDS = ("run", "gen", "work", "block", "pool", "grow", "replay")
-OF_THE_FRONT = ("build", "help", "install", "uninstall", "view")
+OF_THE_FRONT = ("build", "help", "install", "new", "uninstall", "view")
 OPTIONS = {"--objects": "181 to 65535", "--slots": "64 to 4096", "--base": "0 to 35184372088831"}
 SHAPES = {
     "run": "run takes options and 1 to 64 files: run [--objects N] [--slots N] [--base N] FILE..",

@@ -27,7 +27,7 @@
 //! 4. *One attempt.* A transfer is a `Work` of `section_work`: it decides in a view, and says what it
 //!    writes, with which tag. `attempt_work` makes room, enters, lets it decide, locks, writes and
 //!    commits, and [`transfer`] answers by what that leaves.
-//! 5. *Trying again.* No call of a store does. [`make_transfers`] attempts each transfer until it is
+//! 5. *Trying again.* No call of a store attempts a section again. [`make_transfers`] attempts each transfer until it is
 //!    done, and takes a `Wait`, since others may always come first.
 //! 6. *Threads.* These calls take any store, so a thread of its own may make them: `accounts_run` runs them
 //!    over a domain.

@@ -28,7 +28,7 @@
 //!   `prepare`, and `tidies` of `Handle::tidy`, say it of the handle's own pass and log, with what was
 //!   freed and written back.
 //!
-//! No call but `open` and `open_zeros` takes memory, and none waits or tries again. Each call's clause `bound` says how
+//! No call but `open` and `open_zeros` takes memory, and none waits, or tries again but a lock once. Each call's clause `bound` says how
 //! many steps it makes at most: `enter` 6, `try_lock` 24, `write` 6, `try_commit` 8 and one for each
 //! object held, `abort` 2 and one for each object held, `leave` 1, and a `read` 12 and three for each entry
 //! after the snapshot that was seen. `prepare` and `tidy` make at most `2 * (4 + seats + 20 * slots) + 8`,

@@ -166,10 +166,11 @@ pub trait Section: View + Sized {
     fn abort(self) -> Self::Back
         ensures { Leaves (section self) (stands result) };
 
-    /// Leaves a section that holds nothing, and adds no entry. It never refuses.
+    /// Leaves a section that holds nothing, in one step at most, and adds no entry. It never refuses.
     fn leave(self) -> Self::Back
         requires { (section self).own ≡ [] }
-        ensures { Leaves (section self) (stands result) };
+        ensures leaves { Leaves (section self) (stands result) }
+        ensures one_step { has_trail → length (call_trail (section self).seat (stands result)) ≤ 1 };
 
     ghost reads: { (s : Self) → Self.state s ≡ state_of (section s) };
 

@@ -276,6 +276,7 @@ impl<'d, P: Protocol> Section for Session<'d, P> {
     fn leave(self) -> Handle<'d, P>
         requires { (section_of self).own ≡ [] }
         ensures leaves { Leaves (section_of self.entry) (handled result) }
+        ensures one_step { ⟦<Session<'d, P> as Section>⟧.has_trail → length (call_trail (section_of self.entry).seat (handled result)) ≤ 1 }
         ensures aborts { aborts_of result ≡ aborts_before self.entry }
         ensures bound { MakesAtMost (section_of self.entry).seat (handled result) 1 }
     {

@@ -1,7 +1,7 @@
 -- Which calls of its store an attempt makes, one after another, by its answer.
 use Rattle.mv_history.specs.declared.answers.Rival.{Rival as RivalEntry}
 use Rattle.std.specs.Prelude.{◌≡◌, ◌+◌, ◌-◌, ◌<◌, ◌≤◌, ◌⊎◌}
-use Rattle.section_work.specs.Terms.{ℕ, List, Writes, Holder, Seat, InSection, IsWorn, IsAsBefore, Prepares, Enters, Leaves, Commits, Overtakes, AtCommit, Read}
+use Rattle.section_work.specs.Terms.{ℕ, List, length, Writes, Holder, Seat, InSection, IsWorn, call_trail, IsAsBefore, Prepares, Enters, Leaves, Commits, Overtakes, AtCommit, Read}
 use Rattle.section_work.specs.Terms.{Refusal, Lock, Rival, LogFull, Attempt, Done, Again}
 use Rattle.section_work.specs.OwnWrites.{objects_of}
 use Rattle.section_work.specs.Locking.{Rewritten, RefusesWith}
@@ -23,6 +23,8 @@ module _ {Open : Type 0} (section : Open → InSection) (as_before : Open → Op
   -- it was left, as it was found; this is its printed time
   pub record LeavesAt (found : Open) (new : Seat) (time : ℕ) : Type 0 where
     pub leaves : Leaves (section found) new
+    -- by one step at most, where the trail tells the steps: none stands between what was found and how it was left
+    pub one_step : k.has_trail → length (call_trail (section found).seat new) ≤ 1
     pub time_is : time ≡ (section found).seat.base + (section found).at
 
   -- some objects were locked in it, each with the words to be committed

@@ -22,11 +22,11 @@ returns-clause-read g c =
     sum_by g.S.Store.took _ _ (g.S.Open.Section.section c.enter-section.result) (g.S.Open.Section.section c.total-sum.new.view) _ _
     c.enter-section.ensures.enters c.enter-section.ensures.took (g.met.S.Open.Section.reads c.enter-section.result) (g.met.S.Open.Section.lawful _)
     (g.met.S.Open.Section.others_stay _ _ c.total-sum.ensures.as_before)
-    (subst (λ (s : Seat). Leaves (g.S.Open.Section.section c.total-sum.new.view) s) (g.met.S.Store.same_seat _) c.leave.ensures)
+    (subst (λ (s : Seat). Leaves (g.S.Open.Section.section c.total-sum.new.view) s) (g.met.S.Store.same_seat _) c.leave.ensures.leaves)
     c.at-time.ensures c.total-sum.ensures.total
 
 pub returns-clause-continues : goal.returns-clause-continues
 returns-clause-continues g c =
-    let left = subst (λ (s : Seat). Leaves (g.S.Open.Section.section c.total-sum.new.view) s) (g.met.S.Store.same_seat _) c.leave.ensures in
+    let left = subst (λ (s : Seat). Leaves (g.S.Open.Section.section c.total-sum.new.view) s) (g.met.S.Store.same_seat _) c.leave.ensures.leaves in
     Continues-Continues c.enter-section.ensures.enters.seat.continues
     (Continues-Continues (g.met.S.Open.Section.goes_on _ _ c.total-sum.ensures.as_before).continues left.continues)

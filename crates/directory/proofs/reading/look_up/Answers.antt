@@ -26,13 +26,13 @@ returns-clause-seen g c =
     seen_by g.S.Store.took _ _ (g.S.Open.Section.section c.begin-section.result) (g.S.Open.Section.section c.read_record-node.new.view) _ c.args.user _
     c.begin-section.ensures.enters c.begin-section.ensures.took (g.met.S.Open.Section.reads c.begin-section.result) (g.met.S.Open.Section.lawful _)
     (g.met.S.Open.Section.others_stay _ _ before)
-    (subst (λ (s : Seat). Leaves (g.S.Open.Section.section c.read_record-node.new.view) s) (g.met.S.Store.same_seat _) c.leave.ensures)
+    (subst (λ (s : Seat). Leaves (g.S.Open.Section.section c.read_record-node.new.view) s) (g.met.S.Store.same_seat _) c.leave.ensures.leaves)
     c.at-time.ensures c.shelf_of-shelf.ensures.on
     (ap (λ (n : Node). n.id) c.read_record-node.ensures.record ∙ ap (λ (u : State). (node_at u c.args.user).id) same)
 
 pub returns-clause-continues : goal.returns-clause-continues
 returns-clause-continues g c =
     let before = g.met.S.Open.View.as_long_before _ _ _ c.shelf_of-shelf.ensures.as_before c.read_record-node.ensures.as_before in
-    let left = subst (λ (s : Seat). Leaves (g.S.Open.Section.section c.read_record-node.new.view) s) (g.met.S.Store.same_seat _) c.leave.ensures in
+    let left = subst (λ (s : Seat). Leaves (g.S.Open.Section.section c.read_record-node.new.view) s) (g.met.S.Store.same_seat _) c.leave.ensures.leaves in
     Continues-Continues c.begin-section.ensures.enters.seat.continues
     (Continues-Continues (g.met.S.Open.Section.others_stay _ _ before).seat.continues left.continues)

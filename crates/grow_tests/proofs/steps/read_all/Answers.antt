@@ -15,5 +15,5 @@ pub returns : goal.returns
 returns g c =
     let e = c.enter-section.ensures.enters in
     let goes = g.met.S.Open.Section.goes_on _ _ c.read_grown-all.ensures.as_before in
-    let left = subst (λ (s : Seat). Leaves (g.S.Open.Section.section c.read_grown-all.new.view) s) (g.met.S.Store.same_seat _) c.leave.ensures in
+    let left = subst (λ (s : Seat). Leaves (g.S.Open.Section.section c.read_grown-all.new.view) s) (g.met.S.Store.same_seat _) c.leave.ensures.leaves in
     Continues-Continues e.seat.continues (Continues-Continues goes.continues left.continues)

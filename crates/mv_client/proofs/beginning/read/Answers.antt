@@ -21,13 +21,13 @@ returns-clause-read g c =
       left = c.look-told.new.arg2;
       gives_is = record { shown = _; shows = refl; left = _; met = c.look-told.ensures; leaves = refl };
       only_read = reads;
-      leaves = subst (λ (s : Seat). Leaves (g.S.Open.Section.section c.look-told.new.arg2) s) (g.met.S.Store.same_seat _) c.leave.ensures;
+      leaves = subst (λ (s : Seat). Leaves (g.S.Open.Section.section c.look-told.new.arg2) s) (g.met.S.Store.same_seat _) c.leave.ensures.leaves;
     }
 
 pub returns-clause-continues : goal.returns-clause-continues
 returns-clause-continues g c =
     let reads = c.requires.only_reads c.begin-section.result c.look-told.new.arg2 c.look-told.result
     (record { shown = _; shows = refl; left = _; met = c.look-told.ensures; leaves = refl }) in
-    let left = subst (λ (s : Seat). Leaves (g.S.Open.Section.section c.look-told.new.arg2) s) (g.met.S.Store.same_seat _) c.leave.ensures in
+    let left = subst (λ (s : Seat). Leaves (g.S.Open.Section.section c.look-told.new.arg2) s) (g.met.S.Store.same_seat _) c.leave.ensures.leaves in
     Continues-Continues c.begin-section.ensures.enters.seat.continues
     (Continues-Continues (g.met.S.Open.Section.others_stay _ _ reads).seat.continues left.continues)

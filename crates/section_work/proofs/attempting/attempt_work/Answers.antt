@@ -1,7 +1,7 @@
-use Rattle.std.proofs.Common.{inl, refl, subst, ◌∙◌, arith}
+use Rattle.std.proofs.Common.{length, ◌≤◌, inl, refl, subst, ◌∙◌, arith}
 use Rattle.mv_history.specs.State.{State}
 use Rattle.mv_history.specs.Meaning.{Seat}
-use Rattle.mv_history.specs.Calls.{Leaves}
+use Rattle.mv_history.specs.Calls.{Leaves, call_trail}
 use Rattle.mv_history.proofs.Steps.{Continues-Continues}
 use Rattle.section_work.proofs.Exchanges.{one_before, left_one, looks_in}
 use Rattle.section_work.proofs.Entering.{reads_snapshot, time_found}
@@ -34,7 +34,7 @@ returns-then-time-last g c =
     let same = g.met.S.Open.Section.others_stay _ _ c.decide-section.ensures.as_before in
     let goes = g.met.S.Open.Section.goes_on _ _ c.decide-section.ensures.as_before in
     let looks = looks_in p e goes in
-    let left = subst (λ (s : Seat). Leaves (g.S.Open.Section.section c.decide-section.result.0) s) (g.met.S.Store.same_seat _) c.leave.ensures in
+    let left = subst (λ (s : Seat). Leaves (g.S.Open.Section.section c.decide-section.result.0) s) (g.met.S.Store.same_seat _) c.leave.ensures.leaves in
     let after = Continues-Continues goes.continues left.continues in
     record {
       attempted = read_at _ _ _ _ _ _ _ _ _ _ _ p.continues p.mine e c.enter-section.ensures.took law.at same left here c.at-time.ensures
@@ -46,7 +46,12 @@ returns-then-time-last g c =
           (c.decide-section.ensures.knows _ (record { lawful = law; own = e.own; time_is = c.at-time.ensures; state_is = here })
           (g.met.W.Work.knows_on _ _ _ (Continues-Continues p.continues e.seat.continues) c.requires.knows));
       steps = stepped_by _ _ _ _ _ _ _ _ _ _ p c.prepare-room.ensures.enough c.prepare-room.ensures.short e c.enter-section.ensures.took
-          c.decide-section.ensures.as_before (inl (record { leaves = left; time_is = time_found _ _ _ same c.at-time.ensures }));
+          c.decide-section.ensures.as_before (inl (record {
+            leaves = left;
+            one_step = subst (λ (s : Seat). g.S.Open.Section.has_trail → length (call_trail (g.S.Open.Section.section c.decide-section.result.0).seat s) ≤ 1)
+                (g.met.S.Store.same_seat _) c.leave.ensures.one_step;
+            time_is = time_found _ _ _ same c.at-time.ensures;
+          }));
       noted = (_, noted_by _ _ _ _ _ _ _ _ p.continues e law.at after here c.decide-section.ensures.notes, inl refl);
     }
 
@@ -60,7 +65,7 @@ returns-in-Settled g c =
     let goes = g.met.S.Open.Section.goes_on _ _ c.decide-section.ensures.as_before in
     let looks = looks_in p e goes in
     let left = subst (λ (s : Seat). Leaves (g.S.Open.Section.section c.decide-section.result.0) s) (g.met.S.Store.same_seat _)
-    c.leave-in-Settled.ensures in
+    c.leave-in-Settled.ensures.leaves in
     let after = Continues-Continues goes.continues left.continues in
     record {
       continues = Continues-Continues looks.continues left.continues;
@@ -69,7 +74,12 @@ returns-in-Settled g c =
           (c.decide-section.ensures.knows _ (record { lawful = law; own = e.own; time_is = c.at-time.ensures; state_is = here })
           (g.met.W.Work.knows_on _ _ _ (Continues-Continues p.continues e.seat.continues) c.requires.knows));
       steps = stepped_by _ _ _ _ _ _ _ _ _ _ p c.prepare-room.ensures.enough c.prepare-room.ensures.short e c.enter-section.ensures.took
-          c.decide-section.ensures.as_before (inl (record { leaves = left; time_is = time_found _ _ _ same c.at-time.ensures }));
+          c.decide-section.ensures.as_before (inl (record {
+            leaves = left;
+            one_step = subst (λ (s : Seat). g.S.Open.Section.has_trail → length (call_trail (g.S.Open.Section.section c.decide-section.result.0).seat s) ≤ 1)
+                (g.met.S.Store.same_seat _) c.leave-in-Settled.ensures.one_step;
+            time_is = time_found _ _ _ same c.at-time.ensures;
+          }));
       noted = (_, noted_by _ _ _ _ _ _ _ _ p.continues e law.at after here c.decide-section.ensures.notes, inl refl);
       attempted = read_at _ _ _ _ _ _ _ _ _ _ _ p.continues p.mine e c.enter-section.ensures.took law.at same left here c.at-time.ensures refl
           (found_settled g.W.Rules.Protocol.allowed (g.W.Work.means c.args.work.now) (g.W.Work.tag_of c.args.work.now) g.W.Work.writes_of
@@ -139,7 +149,7 @@ returns-in-Short g c =
     (g.S.Open.View.state c.enter-section.result) c.decide-section.result.1
     c.in-Change.plan c.in-Change.reply c.in-Change.is c.decide-section.ensures.found in
     let left = subst (λ (s : Seat). Leaves (g.S.Open.Section.section c.decide-section.result.0) s) (g.met.S.Store.same_seat _)
-    c.leave-in-Short.ensures in
+    c.leave-in-Short.ensures.leaves in
     let after = Continues-Continues goes.continues left.continues in
     record {
       attempted = short_by _ _ _ _ _ _ _ p e c.enter-section.ensures.took law.at goes

@@ -1,5 +1,5 @@
 use Rattle.std.proofs.Common.{◌==◌}
-use Rattle.section_work.proofs.Terms.{inr, refl, sym, subst, ap, ◌∙◌, Seat, Leaves, Continues-itself, Continues-Continues, NamesNoCommit-NamesNoCommit}
+use Rattle.section_work.proofs.Terms.{◌≤◌, length, inr, refl, sym, subst, ap, ◌∙◌, Seat, Leaves, call_trail, Continues-itself, Continues-Continues, NamesNoCommit-NamesNoCommit}
 use Rattle.section_work.proofs.Exchanges.{leave_none}
 use Rattle.section_work.proofs.Entering.{worn_enters, worn_time, time_found}
 use Rattle.section_work.proofs.Outcomes.{read_at, noted_by}
@@ -27,7 +27,7 @@ returns g c =
     let law = g.met.S.Open.Section.lawful c.enter-section.result in
     let here = g.met.S.Open.Section.reads c.enter-section.result in
     let goes = g.met.S.Open.Section.goes_on _ _ c.decide-section.ensures.as_before in
-    let left = subst (λ (s : Seat). Leaves (g.S.Open.Section.section c.decide-section.result.0) s) (g.met.S.Store.same_seat _) c.leave.ensures in
+    let left = subst (λ (s : Seat). Leaves (g.S.Open.Section.section c.decide-section.result.0) s) (g.met.S.Store.same_seat _) c.leave.ensures.leaves in
     let after = Continues-Continues goes.continues left.continues in
     record {
       read = read_at _ _ _ _ _ _ _ _ _ _ _ (Continues-itself _) refl e c.enter-section.ensures.took law.at
@@ -48,6 +48,8 @@ returns g c =
         looks = record { enters = e; took = c.enter-section.ensures.took; only_read = c.decide-section.ensures.as_before };
         there = record {
           leaves = left;
+          one_step = subst (λ (s : Seat). g.S.Open.Section.has_trail → length (call_trail (g.S.Open.Section.section c.decide-section.result.0).seat s) ≤ 1)
+              (g.met.S.Store.same_seat _) c.leave.ensures.one_step;
           time_is = time_found _ _ _ (g.met.S.Open.Section.others_stay _ _ c.decide-section.ensures.as_before) c.at-time.ensures;
         };
       };

@@ -29,7 +29,7 @@ returns g c =
     let here = g.met.S.Open.Section.reads c.enter-section.result in
     let same = g.met.S.Open.Section.others_stay _ _ c.fill-count.ensures.as_before in
     let goes = g.met.S.Open.Section.goes_on _ _ c.fill-count.ensures.as_before in
-    let left = subst (λ (s : Seat). Leaves (g.S.Open.Section.section c.fill-count.new.view) s) (g.met.S.Store.same_seat _) c.leave.ensures in
+    let left = subst (λ (s : Seat). Leaves (g.S.Open.Section.section c.fill-count.new.view) s) (g.met.S.Store.same_seat _) c.leave.ensures.leaves in
     let after = Continues-Continues goes.continues left.continues in
     let on = Continues-Continues e.seat.continues after in
     record {

@@ -4,6 +4,9 @@ use Rattle.mvrlu.proofs.session.SessionSection.leave.Goals as goal
 pub returns-clause-leaves : goal.returns-clause-leaves
 returns-clause-leaves g c = c.left-idle.ensures.leaves
 
+pub returns-clause-one_step : goal.returns-clause-one_step
+returns-clause-one_step g c _ = c.left-idle.ensures.bound
+
 pub returns-clause-aborts : goal.returns-clause-aborts
 returns-clause-aborts g c = c.left-idle.ensures.aborts
 

@@ -84,7 +84,9 @@ static void calls_on_a_closed_seat(void) {
     WANT(mvrlu_abort(&seat), MVRLU_CLOSED);
     WANT(mvrlu_leave(&seat), MVRLU_CLOSED);
     WANT(mvrlu_close(&seat), MVRLU_CLOSED);
-    WANT(words[0] == 7 && pair[0] == 7 && pair[1] == 8 && time == 7 && by == 7 && live == 7 && hint == 7 && object == 7 && counts.commits == 7 && counts.live == 7, 1);
+    WANT(words[0] == 7 && pair[0] == 7 && pair[1] == 8 && time == 7 && by == 7 && live == 7 && hint == 7 && object == 7 &&
+             counts.commits == 7 && counts.live == 7,
+         1);
 }
 
 static void calls_outside_and_inside(void) {

@@ -1,5 +1,5 @@
 //! Every access to the shared words of a domain. Each function that accesses a word makes one access,
-//! outside any loop or closure, and counts it by one `tick`; `tests/accesses.sh` looks that it is so, and that no
+//! outside any loop, and counts it by one `tick`; `tests/accesses.sh` looks that it is so, and that no
 //! other code accesses one. Opening a domain makes its words, and closing it gives them up, when nobody
 //! steps any more: neither is a step. Making a seat and joining two are moves of their views, each with
 //! a record of the trail; the table loads its first word for it, and ignores what it finds. A join is

@@ -43,8 +43,11 @@ ordered_both xs ys first last ox oy sx sy last_is first_is apart k d low lt =
             rw (back, front) apart
         | inr behind ↦
             let next : (k + 1) - length xs ≡ (k - length xs) + 1 = omega (arith, behind) in
-            rw (get_or-append_right xs ys (length xs) (k + 1) d refl (omega (arith, behind)),
-                get_or-append_right xs ys (length xs) k d refl (omega (arith, behind)), next)
+            rw (
+              get_or-append_right xs ys (length xs) (k + 1) d refl (omega (arith, behind)),
+              get_or-append_right xs ys (length xs) k d refl (omega (arith, behind)),
+              next,
+            )
             (oy (k - length xs) d (omega arith) (omega (arith, n, lt, behind)))
       ]
     ]

@@ -19,11 +19,13 @@ const FEW_OBJECTS: u32 = 65_535;
 
 // How many nodes a look in a larger one tries from there on, and then of those that lie far from one another.
 const NEAR: u32 = 8;
+
 const FAR: u32 = 1024;
 
 // Strides in millionths of all nodes: of such a look, and from the share of one seat to that of the next one. Any number of strides
 // of one kind leaves no large gap (a golden and a plastic number), and the nodes of one seat's look are not those of another's.
 const LOOK_STRIDE: u64 = 618_034;
+
 const SEAT_STRIDE: u64 = 754_878;
 
 /// Finds `want` vacant objects, 1 or 2, from 180 on.

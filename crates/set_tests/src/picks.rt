@@ -85,7 +85,9 @@ fn taken_to(alloc: Global, count: u32, end: u32) -> Result<Vec<Words>, AllocErro
 }
 
 #[test]
-fn a_first_look_among_many_objects_passes_by_the_nodes_in_front(rt: HostRuntime) -> Result<(), Fail> {
+fn a_first_look_among_many_objects_passes_by_the_nodes_in_front(
+    rt: HostRuntime,
+) -> Result<(), Fail> {
     let mut hints = Hints::new(rt.alloc(), 8)?;
     let words = taken_to(rt.alloc(), 70_000, 63_000)?;
     let store = PlainStore::<AnyRules>::new(rt.alloc(), &words, 0, 1)?;

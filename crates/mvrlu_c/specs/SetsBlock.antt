@@ -2,6 +2,7 @@
 use Rattle.std.specs.Prelude.{◌≡◌, ◌≢◌, ◌<◌, ◌==◌, nat_lt, ℕ, ℤ, true, false, List, ◌∷◌, map, replicate, length, Contains}
 use Rattle.std.specs.Prelude.{Result, Ok, Err, if◌then◌else◌, ⊤}
 use Rattle.mvrlu.specs.Meant.{seat_of}
+use Rattle.section_work.specs.Sections.{TriesOne}
 use Rattle.set_script.specs.declared.commands.Command.{Command}
 use Rattle.set_script.specs.declared.commands.Command.TheVariants.{Add, Del, Move, Put, Has, Get, Pair, Size, Next}
 use Rattle.set_script.specs.declared.commands.Reply.{Reply}
@@ -83,9 +84,10 @@ abbrev pub AsMany : BlockAttempt → ℕ → Type 0
 AsMany (Done answers place) count = count ≡ length answers
 AsMany (Again cause) count = ⊤
 
--- the block was attempted on the seat
+-- the block was attempted on the seat, with one try to commit at most
 abbrev pub AnswersBlock : List Command → SetSeat → SetSeat → BlockAttempt → Type 0
-AnswersBlock commands old new answer = AttemptedBlock (seat_of old.seat) (seat_of new.seat) commands answer × GoesOn old.seat new.seat
+AnswersBlock commands old new answer =
+    AttemptedBlock (seat_of old.seat) (seat_of new.seat) commands answer × GoesOn old.seat new.seat × TriesOne (seat_of old.seat) (seat_of new.seat)
 
 -- The block was attempted on the seat, if that is open, and this is told.
 pub record AttemptsBlock (commands : List Command) (old new : MvrluSets) (before after : List MvrluReply) (code : ℤ) : Type 0 where

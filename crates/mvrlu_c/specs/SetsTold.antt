@@ -5,6 +5,7 @@ use Rattle.set_catalog.specs.declared.answer.Attempt.{Attempt}
 use Rattle.set_seats.specs.Calls.{Attempted, Replied, GoesOn}
 use Rattle.set_seats.specs.declared.seat.SetSeat.{SetSeat}
 use Rattle.mvrlu.specs.Meant.{seat_of}
+use Rattle.section_work.specs.Sections.{TriesOne}
 use Rattle.log_reclaim.specs.declared.rounds.Tidy.{Tidy}
 use Rattle.mv_history.specs.declared.answers.LogTable.{LogTable}
 use Rattle.mvrlu_c.specs.declared.sets_calls.MvrluCounts.{MvrluCounts}
@@ -15,10 +16,11 @@ use Rattle.mvrlu_c.specs.declared.status.Status.TheVariants.{Closed}
 use Rattle.mvrlu_c.specs.SetReplies.{reply_told}
 use Rattle.mvrlu_c.specs.Statuses.{code_of}
 
--- the command was attempted on the seat: what it leaves, and that its reply is the catalogue's
+-- the command was attempted on the seat: what it leaves, that its reply is the catalogue's, and that it tried one commit at most
 abbrev pub Answers : Command → SetSeat → SetSeat → Attempt → Type 0
 Answers command old new answer =
     Attempted (seat_of old.seat) (seat_of new.seat) command answer × Replied (seat_of new.seat) command answer × GoesOn old.seat new.seat
+    × TriesOne (seat_of old.seat) (seat_of new.seat)
 
 -- nothing was done, for this reason
 abbrev pub IsRefused : {Out : Type 0} → Status → MvrluSets → MvrluSets → Out → Out → ℤ → Type 0

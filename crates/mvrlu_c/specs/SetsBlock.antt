@@ -1,6 +1,7 @@
 -- What a block of commands of C says, and what a call of it leaves.
 use Rattle.std.specs.Prelude.{◌≡◌, ◌≢◌, ◌<◌, ◌==◌, nat_lt, ℕ, ℤ, true, false, List, ◌∷◌, map, replicate, length, Contains}
 use Rattle.std.specs.Prelude.{Result, Ok, Err, if◌then◌else◌, ⊤}
+use Rattle.crossbeam_utils.specs.Padded.{padded_value}
 use Rattle.mvrlu.specs.Meant.{seat_of}
 use Rattle.section_work.specs.Sections.{TriesOne}
 use Rattle.set_script.specs.declared.commands.Command.{Command}
@@ -93,7 +94,7 @@ AnswersBlock commands old new answer =
 pub record AttemptsBlock (commands : List Command) (old new : MvrluSets) (before after : List MvrluReply) (code : ℤ) : Type 0 where
   pub closed : old.is_open ≡ false → IsRefused status.Closed old new before after code
   pub open_is : old.is_open ≡ true → new.is_open ≡ true
-  pub answered : old.is_open ≡ true → (answer : BlockAttempt) × AnswersBlock commands old.state new.state answer
+  pub answered : old.is_open ≡ true → (answer : BlockAttempt) × AnswersBlock commands (padded_value old.state) (padded_value new.state) answer
       × (after ≡ block_told answer (length before)) × (code ≡ code_of (status_of_block answer))
 
 -- What a call of a block leaves: nothing where the commands are no block, or have too few or too many replies; else the block was attempted.

@@ -1,5 +1,6 @@
 -- What a call on the sets leaves, by the number that it answers.
 use Rattle.std.specs.Prelude.{◌≡◌, ℕ, ℤ, true, false}
+use Rattle.crossbeam_utils.specs.Padded.{padded_value}
 use Rattle.set_script.specs.declared.commands.Command.{Command}
 use Rattle.set_catalog.specs.declared.answer.Attempt.{Attempt}
 use Rattle.set_seats.specs.Calls.{Attempted, Replied, GoesOn}
@@ -32,14 +33,14 @@ abbrev pub TellsCommand : Command → MvrluSets → MvrluSets → MvrluReply →
 TellsCommand command old new before after code =
     (old.is_open ≡ false → IsRefused Closed old new before after code)
     × (old.is_open ≡ true → (new.is_open ≡ true)
-    × ((answer : Attempt) × Answers command old.state new.state answer × (after ≡ reply_told answer) × (code ≡ (reply_told answer).status)))
+    × ((answer : Attempt) × Answers command (padded_value old.state) (padded_value new.state) answer × (after ≡ reply_told answer) × (code ≡ (reply_told answer).status)))
 
 -- The same of a call that asks the seat for something else.
 abbrev pub TellsSeat : {A Out : Type 0} → (SetSeat → SetSeat → A → Type 0) → (A → Status) → (A → Out) → MvrluSets → MvrluSets → Out → Out → ℤ → Type 0
 TellsSeat {A} Call status_of told old new before after code =
     (old.is_open ≡ false → IsRefused Closed old new before after code)
     × (old.is_open ≡ true → (new.is_open ≡ true)
-    × ((answer : A) × Call old.state new.state answer × (after ≡ told answer) × (code ≡ code_of (status_of answer))))
+    × ((answer : A) × Call (padded_value old.state) (padded_value new.state) answer × (after ≡ told answer) × (code ≡ code_of (status_of answer))))
 
 -- how many slots are live
 abbrev pub live_told : Tidy → ℕ

@@ -6,6 +6,7 @@ use Rattle.std.proofs.Math.Numerals.{suc-eq-add-one}
 use Rattle.std.proofs.Math.Seq.{drop-cons}
 use Rattle.std.proofs.lemmas.List.{append_assoc, map-append, length-map}
 use Rattle.std.proofs.lemmas.Option.{slice_get_within, get_or_from_slice_get}
+use Rattle.crossbeam_utils.specs.Padded.{padded_value}
 use Rattle.mv_history.specs.Meaning.{Seat}
 use Rattle.section_work.specs.declared.place.Place.{Place}
 use Rattle.section_work.specs.declared.place.Place.TheVariants.{Commit as AtCommit, Read}
@@ -79,7 +80,7 @@ code_back why z e = ap (λ x. to_z w32 (of_z w32 x)) e ∙ reads_back why
 
 -- a block that was attempted has a reply for each of its commands
 pub many_told : (old new : MvrluSets) (commands : List Command) (answer : BlockAttempt) (n : ℕ) → (old.is_open ≡ false → ⊥)
-    → (old.is_open ≡ true → AnswersBlock commands old.state new.state answer) → n ≡ length commands → AsMany answer n
+    → (old.is_open ≡ true → AnswersBlock commands (padded_value old.state) (padded_value new.state) answer) → n ≡ length commands → AsMany answer n
 many_told old new commands answer n shut done e = go old.is_open refl
   where
     go : (b : Bool) → old.is_open ≡ b → AsMany answer n

@@ -1,5 +1,6 @@
 -- What a call tells of a seat, by what it answered.
 use Rattle.std.proofs.Common.{◌≡◌, ℤ, true, false, Option, Some, None, Result, MatchOption, refl, w32, to_z, of_z}
+use Rattle.crossbeam_utils.specs.Padded.{padded_value}
 use Rattle.object_seats.specs.declared.position.Position.{Position}
 use Rattle.object_seats.specs.declared.position.Misuse.{Misuse}
 use Rattle.mvrlu_c.specs.declared.handle.MvrluSeat.{MvrluSeat}
@@ -11,7 +12,7 @@ use Rattle.mvrlu_c.specs.Told.{Tells}
 -- what was done on the seat, if it is open, is told by the number of its status
 pub tells_by : {A : Type 0} (made : A → Status) (old new : MvrluSeat) (Call : Position → Position → Result A Misuse → Type 0)
     (answer : Option (Result A Misuse)) (code : ℤ) (Said : Result A Misuse → Type 0)
-    → ((a : Result A Misuse) → Said a → Call old.state.position new.state.position a)
+    → ((a : Result A Misuse) → Said a → Call (padded_value old.state).position (padded_value new.state).position a)
     → (old.is_open ≡ false → (answer ≡ None) × (new ≡ old)) → (old.is_open ≡ true → (new.is_open ≡ true) × MatchOption answer ⊥ Said)
     → code ≡ code_of (told_by made answer) → Tells made old new Call code
 tells_by made old new Call None code Said says shut done is = (λ x. (is, (shut x).1), λ x. absurd ((done x).1))

@@ -1,5 +1,6 @@
 -- What opening and closing leave of the handles of C.
 use Rattle.std.specs.Prelude.{◌≡◌, ◌≢◌, ◌⊎◌, ◌<◌, ℕ, ℤ, ◌-◌, ◌/◌, max, true, false, List, map, length, All}
+use Rattle.crossbeam_utils.specs.Padded.{padded_value}
 use Rattle.mv_layout.specs.declared.Config.{Config}
 use Rattle.mv_layout.specs.declared.config.ConfigFault.{ConfigFault}
 use Rattle.mv_layout.specs.Limits.{Checked, FirstUnfit}
@@ -19,7 +20,7 @@ IsOpen h = h.is_open ≡ true
 
 -- the seat behind a handle that is open
 abbrev pub seat_in : MvrluSeat → ObjectSeat
-seat_in h = h.state
+seat_in h = padded_value h.state
 
 -- The numbers of the domain of so many seats. A seat reclaims one round at a time from half of its log on, and all it can where a full
 -- write set has no room.

@@ -1,7 +1,9 @@
 -- What a block of commands of C says, and what a call of it leaves.
 use Rattle.std.specs.Prelude.{◌≡◌, ◌≢◌, ◌<◌, ◌==◌, nat_lt, ℕ, ℤ, true, false, List, ◌∷◌, map, replicate, length, Contains}
 use Rattle.std.specs.Prelude.{Result, Ok, Err, if◌then◌else◌, ⊤}
+use Rattle.crossbeam_utils.specs.Padded.{padded_value}
 use Rattle.mvrlu.specs.Meant.{seat_of}
+use Rattle.section_work.specs.Sections.{TriesOne}
 use Rattle.set_script.specs.declared.commands.Command.{Command}
 use Rattle.set_script.specs.declared.commands.Command.TheVariants.{Add, Del, Move, Put, Has, Get, Pair, Size, Next}
 use Rattle.set_script.specs.declared.commands.Reply.{Reply}
@@ -83,15 +85,16 @@ abbrev pub AsMany : BlockAttempt → ℕ → Type 0
 AsMany (Done answers place) count = count ≡ length answers
 AsMany (Again cause) count = ⊤
 
--- the block was attempted on the seat
+-- the block was attempted on the seat, with one try to commit at most
 abbrev pub AnswersBlock : List Command → SetSeat → SetSeat → BlockAttempt → Type 0
-AnswersBlock commands old new answer = AttemptedBlock (seat_of old.seat) (seat_of new.seat) commands answer × GoesOn old.seat new.seat
+AnswersBlock commands old new answer =
+    AttemptedBlock (seat_of old.seat) (seat_of new.seat) commands answer × GoesOn old.seat new.seat × TriesOne (seat_of old.seat) (seat_of new.seat)
 
 -- The block was attempted on the seat, if that is open, and this is told.
 pub record AttemptsBlock (commands : List Command) (old new : MvrluSets) (before after : List MvrluReply) (code : ℤ) : Type 0 where
   pub closed : old.is_open ≡ false → IsRefused status.Closed old new before after code
   pub open_is : old.is_open ≡ true → new.is_open ≡ true
-  pub answered : old.is_open ≡ true → (answer : BlockAttempt) × AnswersBlock commands old.state new.state answer
+  pub answered : old.is_open ≡ true → (answer : BlockAttempt) × AnswersBlock commands (padded_value old.state) (padded_value new.state) answer
       × (after ≡ block_told answer (length before)) × (code ≡ code_of (status_of_block answer))
 
 -- What a call of a block leaves: nothing where the commands are no block, or have too few or too many replies; else the block was attempted.

@@ -1,5 +1,6 @@
 -- What opening a domain of the sets leaves of the handles of C.
 use Rattle.std.specs.Prelude.{◌≡◌, ◌≢◌, ◌⊎◌, ◌<◌, ℕ, ℤ, true, false, List, map, length, All}
+use Rattle.crossbeam_utils.specs.Padded.{padded_value}
 use Rattle.mv_layout.specs.declared.config.ConfigFault.{ConfigFault}
 use Rattle.mv_layout.specs.Limits.{Checked, FirstUnfit}
 use Rattle.set_seats.specs.Opening.{AreOpened, HasObjects, config_of}
@@ -19,7 +20,7 @@ IsOpen h = h.is_open ≡ true
 
 -- the seat behind a handle that is open
 abbrev pub seat_in : MvrluSets → SetSeat
-seat_in h = h.state
+seat_in h = padded_value h.state
 
 -- the numbers of the domain of so many seats
 abbrev pub sets_of : MvrluSetsOptions → ℕ → OpenSets

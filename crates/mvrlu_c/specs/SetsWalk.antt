@@ -1,5 +1,6 @@
 -- What a walk over a set leaves and tells.
 use Rattle.std.specs.Prelude.{◌≡◌, ◌⊎◌, ℕ, ℤ, true, false, List, Option, Some, None}
+use Rattle.crossbeam_utils.specs.Padded.{padded_value}
 use Rattle.mvrlu.specs.Meant.{seat_of}
 use Rattle.set_seats.specs.Calls.{GoesOn, WalksOver}
 use Rattle.set_seats.specs.declared.seat.SetSeat.{SetSeat}
@@ -33,7 +34,7 @@ IsNoWalk why old new before after code = IsRefused why old new before after code
 pub record WalksOn (name from : ℕ) (old new : MvrluSets) (before after : List Entry × MvrluWalk) (code : ℤ) : Type 0 where
   pub closed : old.is_open ≡ false → IsNoWalk Closed old new before after code
   pub open_is : old.is_open ≡ true → new.is_open ≡ true
-  pub walked : old.is_open ≡ true → (walked : Walked) × Walks name from before.0 after.0 old.state new.state walked
+  pub walked : old.is_open ≡ true → (walked : Walked) × Walks name from before.0 after.0 (padded_value old.state) (padded_value new.state) walked
       × (after.1 ≡ walk_told walked) × (code ≡ code_of Done)
 
 -- What a walk leaves of the seat, of the room for its entries and of what it tells: there was too little memory, or it was made.

@@ -1,5 +1,6 @@
 -- What a call on a seat in the hands of C leaves, by the number that it answers.
 use Rattle.std.specs.Prelude.{◌≡◌, ℕ, ℤ, true, false, List, [], ◌∷◌, Result, Ok, Err, Option, Some}
+use Rattle.crossbeam_utils.specs.Padded.{padded_value}
 use Rattle.mv_history.specs.declared.answers.LockAnswer.{LockAnswer}
 use Rattle.mv_history.specs.declared.answers.LockAnswer.TheVariants as lock
 use Rattle.log_reclaim.specs.declared.rounds.Tidy.{Tidy}
@@ -19,7 +20,7 @@ abbrev pub Tells : {A : Type 0} → (A → Status) → MvrluSeat → MvrluSeat �
 Tells {A} made old new Call code =
     (old.is_open ≡ false → (code ≡ code_of Closed) × (new ≡ old))
     × (old.is_open ≡ true → (new.is_open ≡ true)
-    × ((answer : Result A Misuse) × Call old.state.position new.state.position answer × (code ≡ code_of (status_of made answer))))
+    × ((answer : Result A Misuse) × Call (padded_value old.state).position (padded_value new.state).position answer × (code ≡ code_of (status_of made answer))))
 
 -- what was written for the caller: the answer where there is one, and else what stood there
 abbrev pub told : {A : Type 0} → A → Result A Misuse → A

@@ -1,5 +1,6 @@
 // Closing the seats of a domain.
 ghost use Rattle.std.specs.Prelude.{◌≡◌, true, false, None, MatchOption};
+ghost use Rattle.crossbeam_utils.specs.Padded.{padded_value};
 ghost use Rattle.object_seats.specs.Rules.{IsAnyState, IsAnyCommit};
 ghost use Rattle.set_blocks.specs.BlockRules.{IsBlockCommit};
 ghost use Rattle.set_script.specs.Lawful.{IsOpening};
@@ -36,7 +37,7 @@ fn of_closed<P: Protocol>(answer: Option<Closed<P>>, last: &mut u64) -> Status
 fn close_seat(alloc: Global, handle: &mut MvrluSeat) -> Option<Closed<AnyRules>>
     ensures closed { handle.old.is_open ≡ false → (result ≡ None) × (handle.new ≡ handle.old) }
     ensures open { handle.old.is_open ≡ true → (handle.new.is_open ≡ false)
-        × MatchOption result ⊥ (λ r. Closes IsAnyState IsAnyCommit (gathering_of handle.old.state.share) r) }
+        × MatchOption result ⊥ (λ r. Closes IsAnyState IsAnyCommit (gathering_of (padded_value handle.old.state).share) r) }
 {
     replace_with(
         handle,
@@ -44,7 +45,7 @@ fn close_seat(alloc: Global, handle: &mut MvrluSeat) -> Option<Closed<AnyRules>>
         |handle: MvrluSeat, alloc: Global|
             ensures closed { handle.is_open ≡ false → (result.1 ≡ None) × (result.0 ≡ handle) }
             ensures open { handle.is_open ≡ true → (result.0.is_open ≡ false)
-                × MatchOption result.1 ⊥ (λ r. Closes IsAnyState IsAnyCommit (gathering_of handle.state.share) r) }
+                × MatchOption result.1 ⊥ (λ r. Closes IsAnyState IsAnyCommit (gathering_of (padded_value handle.state).share) r) }
         {
             let (open, handle) = handle.with_open();
             if !open {
@@ -52,7 +53,7 @@ fn close_seat(alloc: Global, handle: &mut MvrluSeat) -> Option<Closed<AnyRules>>
             }
             let block = handle.unseal(alloc).into_box();
             let handle = MvrluSeat::closed(&block);
-            (handle, Some(Box::into_inner(block).close()))
+            (handle, Some(Box::into_inner(block).into_inner().close()))
         },
     )
 }
@@ -63,7 +64,7 @@ fn close_seat(alloc: Global, handle: &mut MvrluSeat) -> Option<Closed<AnyRules>>
 pub extern "C" fn mvrlu_raw_close(alloc: Global, handle: &mut MvrluSeat, last: &mut u64) -> i32
     ensures closed { handle.old.is_open ≡ false → (result ≡ code_of IsClosed) × (handle.new ≡ handle.old) × (last.new ≡ last.old) }
     ensures open { handle.old.is_open ≡ true → (handle.new.is_open ≡ false)
-        × TellsClose IsAnyState IsAnyCommit (gathering_of handle.old.state.share) last.old last.new result }
+        × TellsClose IsAnyState IsAnyCommit (gathering_of (padded_value handle.old.state).share) last.old last.new result }
 {
     let answer = close_seat(alloc, handle);
     of_closed(answer, last).code()
@@ -73,7 +74,7 @@ pub extern "C" fn mvrlu_raw_close(alloc: Global, handle: &mut MvrluSeat, last: &
 fn close_sets(alloc: Global, handle: &mut MvrluSets) -> Option<Closed<BlockRules>>
     ensures closed { handle.old.is_open ≡ false → (result ≡ None) × (handle.new ≡ handle.old) }
     ensures open { handle.old.is_open ≡ true → (handle.new.is_open ≡ false)
-        × MatchOption result ⊥ (λ r. Closes IsOpening IsBlockCommit (gathering_of handle.old.state.share) r) }
+        × MatchOption result ⊥ (λ r. Closes IsOpening IsBlockCommit (gathering_of (padded_value handle.old.state).share) r) }
 {
     replace_with(
         handle,
@@ -81,7 +82,7 @@ fn close_sets(alloc: Global, handle: &mut MvrluSets) -> Option<Closed<BlockRules
         |handle: MvrluSets, alloc: Global|
             ensures closed { handle.is_open ≡ false → (result.1 ≡ None) × (result.0 ≡ handle) }
             ensures open { handle.is_open ≡ true → (result.0.is_open ≡ false)
-                × MatchOption result.1 ⊥ (λ r. Closes IsOpening IsBlockCommit (gathering_of handle.state.share) r) }
+                × MatchOption result.1 ⊥ (λ r. Closes IsOpening IsBlockCommit (gathering_of (padded_value handle.state).share) r) }
         {
             let (open, handle) = handle.with_open();
             if !open {
@@ -89,7 +90,7 @@ fn close_sets(alloc: Global, handle: &mut MvrluSets) -> Option<Closed<BlockRules
             }
             let block = handle.unseal(alloc).into_box();
             let handle = MvrluSets::closed(&block);
-            (handle, Some(Box::into_inner(block).close()))
+            (handle, Some(Box::into_inner(block).into_inner().close()))
         },
     )
 }
@@ -99,7 +100,7 @@ fn close_sets(alloc: Global, handle: &mut MvrluSets) -> Option<Closed<BlockRules
 pub extern "C" fn mvrlu_raw_sets_close(alloc: Global, handle: &mut MvrluSets, last: &mut u64) -> i32
     ensures closed { handle.old.is_open ≡ false → (result ≡ code_of IsClosed) × (handle.new ≡ handle.old) × (last.new ≡ last.old) }
     ensures open { handle.old.is_open ≡ true → (handle.new.is_open ≡ false)
-        × TellsClose IsOpening IsBlockCommit (gathering_of handle.old.state.share) last.old last.new result }
+        × TellsClose IsOpening IsBlockCommit (gathering_of (padded_value handle.old.state).share) last.old last.new result }
 {
     let answer = close_sets(alloc, handle);
     of_closed(answer, last).code()

@@ -1,10 +1,13 @@
 // What C holds of a seat.
 ghost use Rattle.std.specs.Prelude.{◌≡◌, true, false, None, MatchOption};
+ghost use Rattle.crossbeam_utils.specs.Padded.{padded_value};
+ghost use Rattle.crossbeam_utils.specs.declared.cache_padded.CachePadded.{CachePadded as Padded};
 ghost use Rattle.object_seats.specs.declared.seat.ObjectSeat.{ObjectSeat};
-ghost use Rattle.object_seats.specs.contracts.seat.ObjectSeat.{the_row};
+ghost use Rattle.mvrlu_c.specs.Held.{object_row};
 
 use crate::loose::Loose;
 use core::mem::replace_with;
+use crossbeam_utils::CachePadded;
 use object_seats::ObjectSeat;
 use std::alloc::Global;
 use std::marker::Model;
@@ -16,7 +19,7 @@ use std::ptr::null_mut;
 pub struct MvrluSeat {
     pub(crate) is_open: bool,
     pub(crate) at: *mut (),
-    pub(crate) ghost state: { ObjectSeat } by { the_row.coded },
+    pub(crate) ghost state: { Padded ObjectSeat } by { object_row.coded },
 }
 
 impl Model for MvrluSeat {
@@ -35,7 +38,7 @@ impl MvrluSeat {
     }
 
     // A closed one. The seat gives the proof a value to name.
-    pub(crate) fn closed(_last: &ObjectSeat) -> MvrluSeat
+    pub(crate) fn closed(_last: &CachePadded<ObjectSeat>) -> MvrluSeat
         ensures { result.is_open ≡ false }
     {
         MvrluSeat {
@@ -45,19 +48,19 @@ impl MvrluSeat {
     }
 
     // The box behind one that is open.
-    pub(crate) fn unseal(self, alloc: Global) -> Loose<ObjectSeat, Global>
+    pub(crate) fn unseal(self, alloc: Global) -> Loose<CachePadded<ObjectSeat>, Global>
         requires { self.is_open ≡ true }
         ensures { result.value ≡ self.state }
     {
         let MvrluSeat { is_open: _, at } = self;
         Loose {
-            at: at as *mut ObjectSeat,
+            at: at as *mut CachePadded<ObjectSeat>,
             alloc,
         }
     }
 
     // An open one with this box.
-    pub(crate) fn seal(loose: Loose<ObjectSeat, Global>) -> MvrluSeat
+    pub(crate) fn seal(loose: Loose<CachePadded<ObjectSeat>, Global>) -> MvrluSeat
         ensures { (result.is_open ≡ true) × (result.state ≡ loose.value) }
     {
         let Loose { at, alloc: _ } = loose;
@@ -82,7 +85,7 @@ pub(crate) fn on_open<X: Drop, R, F: FnOnce(ObjectSeat, X) -> (ObjectSeat, R) + 
     requires callable { F.IsAlwaysCallable call }
     ensures closed { handle.old.is_open ≡ false → (result ≡ None) × (handle.new ≡ handle.old) }
     ensures open { handle.old.is_open ≡ true → (handle.new.is_open ≡ true)
-        × MatchOption result ⊥ (λ r. F.post call handle.old.state argument (handle.new.state, r)) }
+        × MatchOption result ⊥ (λ r. F.post call (padded_value handle.old.state) argument (padded_value handle.new.state, r)) }
 {
     replace_with(
         handle,
@@ -91,7 +94,7 @@ pub(crate) fn on_open<X: Drop, R, F: FnOnce(ObjectSeat, X) -> (ObjectSeat, R) + 
             requires callable { F.IsAlwaysCallable given.1 }
             ensures closed { handle.is_open ≡ false → (result.1 ≡ None) × (result.0 ≡ handle) }
             ensures open { handle.is_open ≡ true → (result.0.is_open ≡ true)
-                × MatchOption result.1 ⊥ (λ r. F.post given.1 handle.state given.0 (result.0.state, r)) }
+                × MatchOption result.1 ⊥ (λ r. F.post given.1 (padded_value handle.state) given.0 (padded_value result.0.state, r)) }
         {
             let (open, handle) = handle.with_open();
             if !open {
@@ -99,7 +102,7 @@ pub(crate) fn on_open<X: Drop, R, F: FnOnce(ObjectSeat, X) -> (ObjectSeat, R) + 
             }
             let (argument, call) = given;
             let mut block = handle.unseal(alloc).into_box();
-            let answer = replace_with(&mut *block, argument, call);
+            let answer = replace_with(&mut **block, argument, call);
             (MvrluSeat::seal(Loose::of(block)), Some(answer))
         },
     )

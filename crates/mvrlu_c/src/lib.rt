@@ -9,8 +9,8 @@
 //! answers `CLOSED` and stays as it was. A number is one meaning (`status`). Memory is safe whatever the order of the
 //! calls and the numbers given; what no call can see is C's to keep, and `mvrlu.h` says it.
 //!
-//! **Choices.** A seat is 128 bytes, two lines, so that threads write different ones. Open seats aren't
-//! copied: a caller couldn't tell them apart. Seats of objects and of sets are different structs, since no
+//! **Choices.** A seat is 128 bytes, two lines, and what it points to is padded, so that threads write different ones.
+//! Open seats aren't copied: a caller couldn't tell them apart. Seats of objects and of sets are different structs, since no
 //! generic one crosses to C; four functions stand for each. A `std::optional<bool>` is true for a no, so C++
 //! doesn't answer one.
 //!

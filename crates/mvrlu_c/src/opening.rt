@@ -1,11 +1,13 @@
 // Opening a domain of objects.
-ghost use Rattle.std.specs.Prelude.{◌≡◌, ◌≢◌, length, map, true, false, All, IfOk, box_value};
+ghost use Rattle.std.specs.Prelude.{◌≡◌, ◌≢◌, length, map, true, false, All, IfOk};
+ghost use Rattle.mvrlu_c.specs.Held.{boxed};
 ghost use Rattle.mvrlu_c.specs.Opening.{IsClosed, IsOpen, Opens, OpensAs, config_of, seat_in};
 
 use crate::handle::MvrluSeat;
 use crate::loose::Loose;
 use crate::status::Status;
 use core::mem::replace_with;
+use crossbeam_utils::CachePadded;
 use mv_layout::Config;
 use mvrlu::OpenFault;
 use object_seats::{ObjectSeat, open_seats};
@@ -111,22 +113,25 @@ fn any_is_open(handles: &mut [MvrluSeat]) -> bool
     }
 }
 
-// The seats, each in a block of its own, in their order.
-fn in_blocks(alloc: Global, mut seats: Vec<ObjectSeat>) -> Result<Vec<Box<ObjectSeat>>, AllocError>
-    ensures { IfOk result (λ blocks. map box_value blocks.items ≡ seats.items) }
+// The seats, each in a block of its own with cache lines of its own, in their order.
+fn in_blocks(
+    alloc: Global,
+    mut seats: Vec<ObjectSeat>,
+) -> Result<Vec<Box<CachePadded<ObjectSeat>>>, AllocError>
+    ensures { IfOk result (λ blocks. map boxed blocks.items ≡ seats.items) }
 {
     let mut blocks = Vec::with_capacity(alloc, seats.len())?;
     while !seats.is_empty() {
-        blocks.push_reserved(Box::new(alloc, seats.remove(0))?);
+        blocks.push_reserved(Box::new(alloc, CachePadded::new(seats.remove(0)))?);
     }
     Ok(blocks)
 }
 
 // Gives each handle a block, in their order. There are as many.
-fn hand_out(handles: &mut [MvrluSeat], mut blocks: Vec<Box<ObjectSeat>>)
+fn hand_out(handles: &mut [MvrluSeat], mut blocks: Vec<Box<CachePadded<ObjectSeat>>>)
     requires many { length handles.old ≡ length blocks.items }
     ensures open { All IsOpen handles.new }
-    ensures seats { map seat_in handles.new ≡ map box_value blocks.items }
+    ensures seats { map seat_in handles.new ≡ map boxed blocks.items }
 {
     if let Some((first, others)) = handles.split_first_mut() {
         if blocks.is_empty() {

@@ -1,10 +1,13 @@
 // What C holds of a seat of the sets.
 ghost use Rattle.std.specs.Prelude.{◌≡◌, true, false, None, MatchOption};
+ghost use Rattle.crossbeam_utils.specs.Padded.{padded_value};
+ghost use Rattle.crossbeam_utils.specs.declared.cache_padded.CachePadded.{CachePadded as Padded};
 ghost use Rattle.set_seats.specs.declared.seat.SetSeat.{SetSeat};
-ghost use Rattle.set_seats.specs.contracts.seat.SetSeat.{the_row};
+ghost use Rattle.mvrlu_c.specs.Held.{sets_row};
 
 use crate::loose::Loose;
 use core::mem::replace_with;
+use crossbeam_utils::CachePadded;
 use set_seats::SetSeat;
 use std::alloc::Global;
 use std::marker::Model;
@@ -16,7 +19,7 @@ use std::ptr::null_mut;
 pub struct MvrluSets {
     pub(crate) is_open: bool,
     pub(crate) at: *mut (),
-    pub(crate) ghost state: { SetSeat } by { the_row.coded },
+    pub(crate) ghost state: { Padded SetSeat } by { sets_row.coded },
 }
 
 impl Model for MvrluSets {
@@ -35,7 +38,7 @@ impl MvrluSets {
     }
 
     // A closed one. The seat gives the proof a value to name.
-    pub(crate) fn closed(_last: &SetSeat) -> MvrluSets
+    pub(crate) fn closed(_last: &CachePadded<SetSeat>) -> MvrluSets
         ensures { result.is_open ≡ false }
     {
         MvrluSets {
@@ -45,19 +48,19 @@ impl MvrluSets {
     }
 
     // The box behind one that is open.
-    pub(crate) fn unseal(self, alloc: Global) -> Loose<SetSeat, Global>
+    pub(crate) fn unseal(self, alloc: Global) -> Loose<CachePadded<SetSeat>, Global>
         requires { self.is_open ≡ true }
         ensures { result.value ≡ self.state }
     {
         let MvrluSets { is_open: _, at } = self;
         Loose {
-            at: at as *mut SetSeat,
+            at: at as *mut CachePadded<SetSeat>,
             alloc,
         }
     }
 
     // An open one with this box.
-    pub(crate) fn seal(loose: Loose<SetSeat, Global>) -> MvrluSets
+    pub(crate) fn seal(loose: Loose<CachePadded<SetSeat>, Global>) -> MvrluSets
         ensures { (result.is_open ≡ true) × (result.state ≡ loose.value) }
     {
         let Loose { at, alloc: _ } = loose;
@@ -82,7 +85,7 @@ pub(crate) fn on_sets<X: Drop, R, F: FnOnce(SetSeat, X) -> (SetSeat, R) + Drop>(
     requires callable { F.IsAlwaysCallable call }
     ensures closed { handle.old.is_open ≡ false → (result ≡ None) × (handle.new ≡ handle.old) }
     ensures open { handle.old.is_open ≡ true → (handle.new.is_open ≡ true)
-        × MatchOption result ⊥ (λ r. F.post call handle.old.state argument (handle.new.state, r)) }
+        × MatchOption result ⊥ (λ r. F.post call (padded_value handle.old.state) argument (padded_value handle.new.state, r)) }
 {
     replace_with(
         handle,
@@ -91,7 +94,7 @@ pub(crate) fn on_sets<X: Drop, R, F: FnOnce(SetSeat, X) -> (SetSeat, R) + Drop>(
             requires callable { F.IsAlwaysCallable given.1 }
             ensures closed { handle.is_open ≡ false → (result.1 ≡ None) × (result.0 ≡ handle) }
             ensures open { handle.is_open ≡ true → (result.0.is_open ≡ true)
-                × MatchOption result.1 ⊥ (λ r. F.post given.1 handle.state given.0 (result.0.state, r)) }
+                × MatchOption result.1 ⊥ (λ r. F.post given.1 (padded_value handle.state) given.0 (padded_value result.0.state, r)) }
         {
             let (open, handle) = handle.with_open();
             if !open {
@@ -99,7 +102,7 @@ pub(crate) fn on_sets<X: Drop, R, F: FnOnce(SetSeat, X) -> (SetSeat, R) + Drop>(
             }
             let (argument, call) = given;
             let mut block = handle.unseal(alloc).into_box();
-            let answer = replace_with(&mut *block, argument, call);
+            let answer = replace_with(&mut **block, argument, call);
             (MvrluSets::seal(Loose::of(block)), Some(answer))
         },
     )

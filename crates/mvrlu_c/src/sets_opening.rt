@@ -1,11 +1,13 @@
 // Opening a domain of the sets.
-ghost use Rattle.std.specs.Prelude.{◌≡◌, ◌≢◌, length, map, true, false, All, IfOk, box_value};
+ghost use Rattle.std.specs.Prelude.{◌≡◌, ◌≢◌, length, map, true, false, All, IfOk};
+ghost use Rattle.mvrlu_c.specs.Held.{boxed};
 ghost use Rattle.mvrlu_c.specs.SetsOpening.{IsClosed, IsOpen, Opens, OpensAs, sets_of, seat_in};
 
 use crate::loose::Loose;
 use crate::sets_handle::MvrluSets;
 use crate::status::Status;
 use core::mem::replace_with;
+use crossbeam_utils::CachePadded;
 use set_seats::{OpenSets, SetSeat, SetsFault, open_set_seats};
 use std::alloc::{AllocError, Global};
 
@@ -103,22 +105,25 @@ fn any_is_open(handles: &mut [MvrluSets]) -> bool
     }
 }
 
-// The seats, each in a block of its own, in their order.
-fn in_blocks(alloc: Global, mut seats: Vec<SetSeat>) -> Result<Vec<Box<SetSeat>>, AllocError>
-    ensures { IfOk result (λ blocks. map box_value blocks.items ≡ seats.items) }
+// The seats, each in a block of its own with cache lines of its own, in their order.
+fn in_blocks(
+    alloc: Global,
+    mut seats: Vec<SetSeat>,
+) -> Result<Vec<Box<CachePadded<SetSeat>>>, AllocError>
+    ensures { IfOk result (λ blocks. map boxed blocks.items ≡ seats.items) }
 {
     let mut blocks = Vec::with_capacity(alloc, seats.len())?;
     while !seats.is_empty() {
-        blocks.push_reserved(Box::new(alloc, seats.remove(0))?);
+        blocks.push_reserved(Box::new(alloc, CachePadded::new(seats.remove(0)))?);
     }
     Ok(blocks)
 }
 
 // Gives each handle a block, in their order. There are as many.
-fn hand_out(handles: &mut [MvrluSets], mut blocks: Vec<Box<SetSeat>>)
+fn hand_out(handles: &mut [MvrluSets], mut blocks: Vec<Box<CachePadded<SetSeat>>>)
     requires many { length handles.old ≡ length blocks.items }
     ensures open { All IsOpen handles.new }
-    ensures seats { map seat_in handles.new ≡ map box_value blocks.items }
+    ensures seats { map seat_in handles.new ≡ map boxed blocks.items }
 {
     if let Some((first, others)) = handles.split_first_mut() {
         if blocks.is_empty() {

@@ -8,6 +8,7 @@ use Rattle.mv_history.specs.declared.answers.Room.TheVariants.{Enough, Short}
 use Rattle.mv_history.specs.Meaning.{InSection, state_of, words_at, IsWorn}
 use Rattle.mv_history.specs.Meaning as history
 use Rattle.mv_history.specs.Calls as made
+use Rattle.mv_history.specs.Trail.{commit_exchanges, IsOneWon, IsOneLost}
 use Rattle.log_reclaim.specs.declared.rounds.Tidy.{Tidy}
 use Rattle.mvrlu.specs.Causes.{Took, Loaded, FoundLocked}
 use Rattle.mvrlu.specs.Grace as grace
@@ -125,12 +126,17 @@ Writes (Inside section) object words new (Ok done) =
 Writes (Inside section) object words new (Err why) =
     history.Lacks (section_in section) object × (why ≡ misuse.NotLocked) × StaysIn (section_in section) new
 
--- what a commit came to: one entry with all that was held, or what came first, or the last time
+-- What a commit came to: one entry with all that was held, or what came first, or the last time. It exchanged CLOCK once, won or lost as
+-- the answer says, and at the last time at most once.
 abbrev pub CommitsTo : InSection → List ℕ → Position → CommitResult → Type 0
-CommitsTo old tag new (ended.Done time) = ComesOut new (λ s. made.Commits old tag s time × Loaded old s (time - 1))
+CommitsTo old tag new (ended.Done time) =
+    ComesOut new (λ s. made.Commits old tag s time × Loaded old s (time - 1) × IsOneWon (commit_exchanges (made.call_trail old.seat s)))
 CommitsTo old tag new (ended.Again rival) =
-    InSectionOf new (λ s. made.IsAsBefore old s × made.Overtakes old s rival.seat rival.time (Loaded old s.seat))
-CommitsTo old tag new ended.End = InSectionOf new (λ s. made.IsAsBefore old s × IsWorn s.seat)
+    InSectionOf new (λ s. made.IsAsBefore old s × made.Overtakes old s rival.seat rival.time (Loaded old s.seat)
+    × IsOneLost (commit_exchanges (made.call_trail old.seat s.seat)))
+CommitsTo old tag new ended.End =
+    InSectionOf new (λ s. made.IsAsBefore old s × IsWorn s.seat × Loaded old s.seat s.seat.last
+    × (length (commit_exchanges (made.call_trail old.seat s.seat)) ≤ 1))
 
 -- `commit`
 abbrev pub Commits : Position → List ℕ → Position → Result CommitResult Misuse → Type 0

@@ -2,6 +2,7 @@
 ghost use Rattle.std.specs.Prelude.{◌≡◌, ◌≤◌, ◌*◌, length};
 ghost use Rattle.mv_history.specs.Calls.{Continues};
 ghost use Rattle.mvrlu.specs.Meant.{seat_of, IsSeatOf};
+ghost use Rattle.section_work.specs.Sections.{TriesOne};
 ghost use Rattle.set_catalog.specs.Shortages.{IsKnown};
 ghost use Rattle.set_seats.specs.Calls.{Attempted, AttemptedBlock, Tidies, Counts, WalksOver};
 
@@ -30,6 +31,7 @@ pub(crate) fn attempt_in(
     ensures room { 40 ≤ (seat_of result.0).write_max }
     ensures attempted { Attempted (seat_of seat) (seat_of result.0) command.now result.1 }
     ensures continues { Continues (seat_of seat) (seat_of result.0) }
+    ensures at_most_one { TriesOne (seat_of seat) (seat_of result.0) }
     ensures known { IsKnown (seat_of result.0) remembered.new.memo.known }
 {
     let work = Single { command: *command };
@@ -63,6 +65,7 @@ pub(crate) fn attempt_block_in(
     ensures known { IsKnown (seat_of result.0) remembered.now.memo.known }
     ensures attempted { AttemptedBlock (seat_of seat) (seat_of result.0) block.now result.1 }
     ensures continues { Continues (seat_of seat) (seat_of result.0) }
+    ensures at_most_one { TriesOne (seat_of seat) (seat_of result.0) }
 {
     has_few(block);
     let (handle, answer) = attempt_block(domain.handle(seat), block);

@@ -1,6 +1,7 @@
 // A seat of the sets, with a share of its domain.
 ghost use Rattle.std.specs.Prelude.{◌≡◌, ◌≤◌};
 ghost use Rattle.mvrlu.specs.Meant.{seat_of, IsSeatOf};
+ghost use Rattle.section_work.specs.Sections.{TriesOne};
 ghost use Rattle.shared_domain.specs.Met.{domain_of, gathering_of, Closes};
 ghost use Rattle.set_script.specs.Lawful.{IsOpening};
 ghost use Rattle.set_blocks.specs.BlockRules.{IsBlockCommit};
@@ -45,6 +46,7 @@ impl SetSeat {
         ensures attempted { calls.Attempted (seat_of self.seat) (seat_of result.0.seat) command.now result.1 }
         ensures replied { calls.Replied (seat_of result.0.seat) command.now result.1 }
         ensures continues { calls.GoesOn self.seat result.0.seat }
+        ensures at_most_one { TriesOne (seat_of self.seat) (seat_of result.0.seat) }
     {
         let SetSeat {
             share,
@@ -65,6 +67,7 @@ impl SetSeat {
     pub fn attempt_block(self, block: &Block) -> (SetSeat, BlockAttempt)
         ensures attempted { calls.AttemptedBlock (seat_of self.seat) (seat_of result.0.seat) block.now result.1 }
         ensures continues { calls.GoesOn self.seat result.0.seat }
+        ensures at_most_one { TriesOne (seat_of self.seat) (seat_of result.0.seat) }
     {
         let SetSeat {
             share,

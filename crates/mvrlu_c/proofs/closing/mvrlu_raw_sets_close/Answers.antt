@@ -1,4 +1,5 @@
 use Rattle.std.proofs.Common.{ap, ◌∙◌, w32, to_z, of_z}
+use Rattle.crossbeam_utils.specs.Padded.{padded_value}
 use Rattle.set_script.specs.Lawful.{IsOpening}
 use Rattle.set_blocks.specs.BlockRules.{IsBlockCommit}
 use Rattle.shared_domain.specs.Met.{gathering_of}
@@ -17,5 +18,5 @@ returns c =
       closed = λ shut. let none = made.ensures.closed shut in
           (is ∙ ap (λ a. code_of (status_of_close a)) none.0, none.1, told.last ∙ ap (last_told c.args.last.now) none.0);
       «open» = λ opened. let met = made.ensures.open opened in
-          (met.0, tells_close IsOpening IsBlockCommit (gathering_of c.args.handle.now.state.share) made.result _ _ _ met.1 is told.last);
+          (met.0, tells_close IsOpening IsBlockCommit (gathering_of (padded_value c.args.handle.now.state).share) made.result _ _ _ met.1 is told.last);
     }

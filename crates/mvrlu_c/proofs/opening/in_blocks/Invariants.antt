@@ -1,10 +1,11 @@
-use Rattle.std.proofs.Common.{◌≡◌, ◌+◌, ◌≤◌, ◌++◌, length, map, box_value, vec_len, vec_capacity}
+use Rattle.std.proofs.Common.{◌≡◌, ◌+◌, ◌≤◌, ◌++◌, length, map, vec_len, vec_capacity}
+use Rattle.mvrlu_c.specs.Held.{boxed}
 use Rattle.mvrlu_c.proofs.opening.in_blocks.Given as goal
 
 -- those that have a block, and those that have none yet, are the seats in their order
 abbrev pub invariant-loop-alloc : goal.invariant-loop-alloc
 invariant-loop-alloc l = record {
-  seats : map box_value l.blocks.items ++ l.seats.items ≡ l.initial.seats.items;
+  seats : map boxed l.blocks.items ++ l.seats.items ≡ l.initial.seats.items;
   room : length l.blocks.items + length l.seats.items ≤ vec_capacity l.blocks;
 }
 

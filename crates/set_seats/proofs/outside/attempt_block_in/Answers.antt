@@ -3,7 +3,7 @@ use Rattle.mv_history.specs.Meaning.{Seat}
 use Rattle.mvrlu.specs.Meant.{seat_of, handled}
 use Rattle.set_catalog.specs.CommandLaws.{known_later}
 use Rattle.set_seats.specs.Calls.{AttemptedBlock}
-use Rattle.set_seats.proofs.Staying.{goes_on, still_of, still_room}
+use Rattle.set_seats.proofs.Staying.{goes_on, still_of, still_room, tries_on}
 use Rattle.set_seats.proofs.outside.attempt_block_in.Goals as goal
 
 pub returns : goal.returns
@@ -18,4 +18,5 @@ returns c =
           (subst (λ (t : Seat). AttemptedBlock (handled c.handle.result) t c.args.block.now c.attempt_block-handle.result.1)
           (sym c.into_seat.ensures.meant) c.attempt_block-handle.ensures.attempted);
       continues = on;
+      at_most_one = tries_on _ _ _ _ c.handle.ensures.meant c.into_seat.ensures.meant c.attempt_block-handle.ensures.at_most_one;
     }

@@ -1,6 +1,6 @@
 use Rattle.std.proofs.Common.{refl}
 use Rattle.set_seats.proofs.Outcomes.{done_one, again_one}
-use Rattle.set_seats.proofs.Staying.{goes_on, still_known, still_of, still_room}
+use Rattle.set_seats.proofs.Staying.{goes_on, still_known, still_of, still_room, tries_on}
 use Rattle.set_seats.proofs.outside.attempt_in.Goals as goal
 
 pub returns-in-Done : goal.returns-in-Done
@@ -12,6 +12,7 @@ returns-in-Done c =
       attempted = done_one _ _ _ _ c.args.command.now c.handle.ensures.meant c.into_seat-seat.ensures.meant _ _ c.in-Done.place c.get-reply.result
           c.in-Done.is c.get-reply.ensures c.attempt_work-handle.ensures.attempted;
       continues = on;
+      at_most_one = tries_on _ _ _ _ c.handle.ensures.meant c.into_seat-seat.ensures.meant c.attempt_work-handle.ensures.at_most_one;
       known = still_known _ _ _ _ c.into_seat-seat.ensures.meant c.note.ensures.known c.attempt_work-handle.ensures.knows;
     }
 
@@ -24,5 +25,6 @@ returns-in-Again c =
       attempted = again_one _ _ _ _ c.args.command.now c.handle.ensures.meant c.into_seat-seat.ensures.meant _ c.in-Again.cause c.in-Again.is
           c.attempt_work-handle.ensures.attempted;
       continues = on;
+      at_most_one = tries_on _ _ _ _ c.handle.ensures.meant c.into_seat-seat.ensures.meant c.attempt_work-handle.ensures.at_most_one;
       known = still_known _ _ _ _ c.into_seat-seat.ensures.meant refl c.attempt_work-handle.ensures.knows;
     }

@@ -24,7 +24,7 @@ use Rattle.std.specs.contracts.impls.GlobalAllocator.TheImpl.{ghosts}
 use Rattle.std.proofs.raw_atomic.Walks.{proved_at, leaves}
 use Rattle.mvrlu_c.proofs.Values.{both, loose_good, loose_out}
 use Rattle.mvrlu_c.proofs.HandleValues.{seat_val, seat_own, seat_made, slot_at}
-use Rattle.object_seats.specs.contracts.seat.ObjectSeat as seated
+use Rattle.mvrlu_c.specs.Held.{object_row}
 use Rattle.mvrlu_c.specs.contracts.handle.MvrluSeat as handle
 use Rattle.mvrlu_c.specs.contracts.handle.MvrluSeat.seal.{ended, clauses}
 use Rattle.mvrlu_c.specs.contracts.handle.MvrluSeat.seal.Key.{name as #self}
@@ -39,7 +39,7 @@ seal_spec 𝓤 𝓛 𝓜 𝓡 wired =
     let fn : Fn = compiled.function in
     let C = (tables 𝓤 H 𝓜 𝓡 𝓡.env).C in
     let Λ = (tables 𝓤 H 𝓜 𝓡 𝓡.env).Λ in
-    let R : RattleType = seated.the_row in
+    let R : RattleType = object_row in
     let Z : RattleType = heap.the_row in
     let LZ = heap_laws.the_row_laws in
     let stays : Stays En₀.signature.params En₀.kept = (stay_dropped (slot_at 0 En₀.signature.params) En₀.kept.0, tt) in

@@ -29,8 +29,7 @@ use Rattle.std.specs.contracts.impls.GlobalAllocator.TheImpl.{ghosts}
 use Rattle.std.proofs.raw_atomic.Walks.{proved_at, leaves}
 use Rattle.mvrlu_c.proofs.Values.{both, loose_good, loose_in}
 use Rattle.mvrlu_c.proofs.HandleValues.{seat_val, seat_told, slot_at}
-use Rattle.mvrlu_c.specs.Held.{held_if, token}
-use Rattle.object_seats.specs.contracts.seat.ObjectSeat as seated
+use Rattle.mvrlu_c.specs.Held.{held_if, object_row, token}
 use Rattle.mvrlu_c.specs.contracts.handle.MvrluSeat.unseal.{ended, clauses}
 use Rattle.mvrlu_c.specs.contracts.handle.MvrluSeat.unseal.Key.{name as #self}
 use Rattle.mvrlu_c.proofs.handle.MvrluSeat.unseal.Statement.{statement}
@@ -44,7 +43,7 @@ unseal_spec 𝓤 𝓛 𝓜 𝓡 wired =
     let fn : Fn = compiled.function in
     let C = (tables 𝓤 H 𝓜 𝓡 𝓡.env).C in
     let Λ = (tables 𝓤 H 𝓜 𝓡 𝓡.env).Λ in
-    let R : RattleType = seated.the_row in
+    let R : RattleType = object_row in
     let Z : RattleType = heap.the_row in
     let LZ = heap_laws.the_row_laws in
     let stays : Stays En₀.signature.params En₀.kept = (

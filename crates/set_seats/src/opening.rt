@@ -126,8 +126,8 @@ fn share_all(
         let_all_go(seats);
         return Err(AllocError);
     };
+    let mut number: u32 = 0;
     while !seats.is_empty() {
-        let number = shared.len() as u32;
         match share(alloc, first, number, seats.remove(0)) {
             Ok(seat) => shared.push_reserved(seat),
             Err(AllocError) => {
@@ -135,6 +135,7 @@ fn share_all(
                 return Err(AllocError);
             }
         }
+        number = number.saturating_add(1);
     }
     seats.destroy_empty();
     Ok(shared)

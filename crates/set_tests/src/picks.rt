@@ -1,5 +1,5 @@
 // Which objects are picked, and how many reads that takes.
-ghost use Rattle.std.specs.Prelude.{◌≡◌, ◌<◌, ◌≤◌, length, IfOk};
+ghost use Rattle.std.specs.Prelude.{◌<◌, ◌≤◌};
 ghost use Rattle.set_script.specs.Objects.{most_objects};
 
 use crate::counted::Counted;
@@ -73,13 +73,11 @@ fn a_wrong_hint_is_dropped(rt: HostRuntime) -> Result<(), Fail> {
 }
 
 // So many objects, of which those from the first node to this one are not vacant.
-fn taken_to(alloc: Global, count: u32, end: u32) -> Result<Vec<Words>, AllocError>
-    ensures { IfOk result (λ words. length words.items ≡ count) }
-{
-    let mut words = Vec::with_capacity(alloc, count as usize)?;
+fn taken_to(alloc: Global, count: u32, end: u32) -> Result<Vec<Words>, AllocError> {
+    let mut words = Vec::new(alloc);
     for object in 0..count {
         let taken = object >= 180 && object < end;
-        words.push_reserved(if taken { [1; WORDS] } else { [0; WORDS] });
+        words.push(if taken { [1; WORDS] } else { [0; WORDS] })?;
     }
     Ok(words)
 }
@@ -90,6 +88,7 @@ fn a_first_look_among_many_objects_passes_by_the_nodes_in_front(
 ) -> Result<(), Fail> {
     let mut hints = Hints::new(rt.alloc(), 8)?;
     let words = taken_to(rt.alloc(), 70_000, 63_000)?;
+    assert_eq!(rt; words.len(), 70_000);
     let store = PlainStore::<AnyRules>::new(rt.alloc(), &words, 0, 1)?;
     let mut view = Counted {
         view: store.enter(),

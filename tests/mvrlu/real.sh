@@ -120,8 +120,8 @@ rows_of_real_room() {
     for ((key = 300; key > 0; key--)); do printf 'add l0 %d\nmove l0 t0 %d\n' "$key" "$key"; done >chain
     echo 'size t0' >>chain
     "$program" run chain >chained || fail "a long branch ends with $?"
-    for kilobytes in 32 64 128 256; do ends_in_room -s "$kilobytes"; done
-    for ((kilobytes = 1024; kilobytes < 40960; kilobytes += 1024)); do
+    for kilobytes in 64 128 256; do ends_in_room -s "$kilobytes"; done
+    for ((kilobytes = 1024; kilobytes < 12288; kilobytes += 256)); do
         (ulimit -v "$kilobytes" && exec "$program") >/dev/null 2>&1
         [ $? = 2 ] || continue
         ends_in_room -v "$kilobytes"

@@ -56,6 +56,16 @@ class Case:
             raise AssertionError(f"taken: {change} as {into}")
 
 
+def adds(name, last):
+    """The lines of a script that add the keys from 1 to the last to a set."""
+    return "".join(f"add {name} {key}\n" for key in range(1, last + 1))
+
+
+def commits(last):
+    """The lines of a text for the first commands of seat 0 where each made a commit."""
+    return "".join(f"0.{n} c{n} yes\n" for n in range(1, last + 1))
+
+
 # Two seats and all kinds of sets. The commits of seat 0, an add to a list, to an empty tree and to another, and a move of a
 # tree's key to a bucket, write 2, 2, 4 and 4 objects, and that of seat 1 one.
 two = Case(run, ["add l0 5\nadd t1 5\nadd t1 3\nmove t1 h2 5\nhas t1 5", "format 2\r\n\nput l0 05 9 # a value\n get\tl0 5\nsize t1\n"], """\
@@ -148,7 +158,7 @@ last.refuses("35184372088831", "7", "and not yes", base=6)
 writes = Case(run, [
     "format 2\nadd t0 1\nadd t0 2\ndel t0 1\ndel t0 2\nput l0 1 1\nput l0 1 2\nmove l0 l1 1\nmove l1 t0 1\nadd t0 2\nadd l2 3\n"
     "move l2 t0 3\nadd t1 9\nmove t0 t1 3\nmove t0 t2 2\nmove t0 t1 1\nmove t1 h0 9\n"],
-    "".join(f"0.{n} c{n} yes\n" for n in range(1, 17)) +
+    commits(16) +
     "h0 9\nt1 1=2 3\nt2 2\n"
     "log 0 live 0 freed 51 back 0 commits 16 aborts 0 rests 0\n")
 writes.refuses("freed 51", "freed 50", "for 51 writes")
@@ -157,9 +167,9 @@ Case(run, [""], "log 0 live 0 freed 0 back 0 commits 0 aborts 0 rests 0\n")
 # The steps of adds to a tree: the tenth key finds 9, and no search among these passes more than 8 inner nodes; the eleventh and
 # the twelfth may write up to 12 objects more each, by an add or a put. A del, a put of a key that is there and a move make no steps.
 steps = Case(run, [
-    "format 2\n" + "".join(f"add t0 {key}\n" for key in range(1, 12)) +
+    "format 2\n" + adds("t0", 11) +
     "put t0 12 7\nput t0 12 8\ndel t0 1\nadd l0 1\nmove l0 t0 1\n"],
-    "".join(f"0.{n} c{n} yes\n" for n in range(1, 17)) +
+    commits(16) +
     "t0 1 2 3 4 5 6 7 8 9 10 11 12=8\n"
     "log 0 live 57 freed 0 back 0 commits 16 aborts 0 rests 0\n")
 steps.takes("live 57", "live 81")
@@ -167,16 +177,16 @@ steps.refuses("live 57", "live 56", "for 57 to 81 writes")
 steps.refuses("live 57", "live 82", "for 57 to 81 writes")
 steps.takes("live 57 freed 0 back 0", "live 0 freed 81 back 81")
 steps.refuses("back 0", "back 82", "82 written back")
-nine = Case(run, ["".join(f"add t9 {key}\n" for key in range(1, 11)) + "".join(f"add h0 {key}\n" for key in range(1, 13))],
-    "".join(f"0.{n} c{n} yes\n" for n in range(1, 23)) +
+nine = Case(run, [adds("t9", 10) + adds("h0", 12)],
+    commits(22) +
     "h0 1 2 3 4 5 6 7 8 9 10 11 12\nt9 1 2 3 4 5 6 7 8 9 10\n"
     "log 0 live 62 freed 0 back 0 commits 22 aborts 0 rests 0\n")
 nine.refuses("live 62", "live 63", "for 62 writes")
 nine.refuses("back 0", "back 63", "63 written back")
 
 # Steps are those of the snapshot, and a commit between may have taken the tenth key away: seat 1 adds key 11 to 9 keys by then.
-between = Case(run, ["".join(f"add t0 {key}\n" for key in range(1, 11)) + "del t0 1\n", "add t0 11\n"],
-    "".join(f"0.{n} c{n} yes\n" for n in range(1, 12)) + """\
+between = Case(run, [adds("t0", 10) + "del t0 1\n", "add t0 11\n"],
+    commits(11) + """\
 1.1 c12 yes
 t0 2 3 4 5 6 7 8 9 10 11
 log 0 live 41 freed 0 back 0 commits 11 aborts 0 rests 0
@@ -187,8 +197,8 @@ between.refuses("live 4 ", "live 17 ", "log 1: 17 versions")
 between.refuses("live 41 ", "live 42 ", "log 0: 42 versions")
 
 # A pool's commands make steps, and those of a block make none.
-pooled = Case(pool, ["".join(f"add t0 {key}\n" for key in range(1, 12))],
-    "".join(f"0.{n} c{n} yes\n" for n in range(1, 11)) + """\
+pooled = Case(pool, [adds("t0", 11)],
+    commits(10) + """\
 1.11 c11 yes
 t0 1 2 3 4 5 6 7 8 9 10 11
 log 0 live 38 freed 0 back 0 commits 10 aborts 0 rests 0
@@ -197,8 +207,8 @@ log 1 live 4 freed 0 back 0 commits 1 aborts 0 rests 0
 pooled.takes("live 4 ", "live 16 ")
 pooled.refuses("live 4 ", "live 17 ", "log 1: 17 versions")
 pooled.refuses("live 38 ", "live 39 ", "log 0: 39 versions")
-short = Case(block, ["".join(f"add t0 {key}\n" for key in range(1, 12))],
-    "".join(f"0.{n} c{n} yes\n" for n in range(1, 12)) +
+short = Case(block, [adds("t0", 11)],
+    commits(11) +
     "t0 1 2 3 4 5 6 7 8 9 10 11\n"
     "log 0 live 42 freed 0 back 0 commits 11 aborts 0 rests 0\n")
 short.refuses("live 42", "live 56", "56 versions")

@@ -33,7 +33,8 @@ abbrev pub TellsCommand : Command → MvrluSets → MvrluSets → MvrluReply →
 TellsCommand command old new before after code =
     (old.is_open ≡ false → IsRefused Closed old new before after code)
     × (old.is_open ≡ true → (new.is_open ≡ true)
-    × ((answer : Attempt) × Answers command (padded_value old.state) (padded_value new.state) answer × (after ≡ reply_told answer) × (code ≡ (reply_told answer).status)))
+    × ((answer : Attempt) × Answers command (padded_value old.state) (padded_value new.state) answer × (after ≡ reply_told answer)
+    × (code ≡ (reply_told answer).status)))
 
 -- The same of a call that asks the seat for something else.
 abbrev pub TellsSeat : {A Out : Type 0} → (SetSeat → SetSeat → A → Type 0) → (A → Status) → (A → Out) → MvrluSets → MvrluSets → Out → Out → ℤ → Type 0

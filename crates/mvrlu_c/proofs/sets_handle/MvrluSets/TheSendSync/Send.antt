@@ -21,6 +21,7 @@ held_keyless s true p x = (lies sets_row s p x, frees.frees _ (raw (lone sets_ro
 held_keyless s false p x = tt
 
 pub send : IsSend the_row
-send = let O = the_type in let ps : IsSend RawPtr = search sendable in let bs : IsSend bool = search sendable in let s : IsSend sets_row = padded_send seated.the_row seat_send in
+send = let O = the_type in let ps : IsSend RawPtr = search sendable in let bs : IsSend bool = search sendable in
+    let s : IsSend sets_row = padded_send seated.the_row seat_send in
     owning_send O (bs, (ps, tt)) (λ d. held_keyless s d.is_open d.at d.state)
     (λ k. quiet (to O) (exits_of k (fields O)) ((struct_send (shape O) (bs, (ps, tt))).leaving k))

@@ -179,4 +179,4 @@ struct sets {
 
 } // namespace
 
-const bench::store bench::itm_store = {"libitm", [](const row &) { return true; }, run<objects, sets>};
+const bench::store bench::itm_store = {"libitm", is_small, run<objects, sets>};

@@ -28,7 +28,7 @@ public:
         std::string folder = access("/dev/shm", W_OK) == 0 ? "/dev/shm/mvrlu-XXXXXX" : "/tmp/mvrlu-XXXXXX";
         if (mkdtemp(folder.data()) == nullptr) must(errno);
         must(mdb_env_create(&env));
-        must(mdb_env_set_mapsize(env, 64u << 20));
+        must(mdb_env_set_mapsize(env, 512u << 20));
         must(mdb_env_open(env, folder.c_str(), MDB_NOSYNC | MDB_NOMETASYNC | MDB_WRITEMAP, 0600));
         for (const char *name : {"/data.mdb", "/lock.mdb"}) unlink((folder + name).c_str());
         rmdir(folder.c_str());

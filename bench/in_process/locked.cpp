@@ -1,8 +1,9 @@
-/* One pthread_rwlock_t round an array of objects, and round two std::map. */
+/* One pthread_rwlock_t round an array of objects, round two std::map, and round two std::unordered_map. */
 #include "measure.hpp"
 
 #include <map>
 #include <pthread.h>
+#include <unordered_map>
 #include <utility>
 
 namespace {
@@ -51,6 +52,7 @@ struct objects {
     ::lock lock;
 };
 
+template <class Map>
 struct sets {
     sets(const bench::row &, unsigned) {}
 
@@ -78,10 +80,12 @@ struct sets {
         sets &store;
     };
 
-    std::map<std::uint32_t, std::uint64_t> maps[2];
+    Map maps[2];
     ::lock lock;
 };
 
 } // namespace
 
-const bench::store bench::locked_store = {"lock", [](const row &) { return true; }, run<objects, sets>};
+const bench::store bench::locked_store = {"lock", [](const row &) { return true; }, run<objects, sets<std::map<std::uint32_t, std::uint64_t>>>};
+const bench::store bench::hashed_store = {"lock, hashed", [](const row &row) { return !is_small(row); },
+                                          run<objects, sets<std::unordered_map<std::uint32_t, std::uint64_t>>>};

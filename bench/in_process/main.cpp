@@ -1,5 +1,5 @@
 /* Measures all rows of the words on all stores, and prints tables in Markdown: in_process SECONDS ROUNDS WORD..
- * A word is objects, list, tree or table. Each run of a row on a store by 1, 2 or 4 threads takes SECONDS; it is made in each of the
+ * A word is objects, list, tree, table or million. Each run of a row on a store by 1, 2 or 4 threads takes SECONDS; it is made in each of the
  * ROUNDS, each of which has an order of its own, and the best one counts. */
 #include "stores.hpp"
 
@@ -16,11 +16,13 @@ namespace {
 using namespace bench;
 
 constexpr unsigned thread_counts[] = {1, 2, 4};
+constexpr const char *words_of_rows[] = {"objects", "list", "tree", "table", "million"};
+constexpr unsigned many_keys = 1000000;
 constexpr double nearly = 0.05;  // how far apart the shares of yes may be
 constexpr double enough = 10000; // of how many operations a share says something
 
 const store *const stores[] = {
-    &mvrlu_store, &mvrlu_unchecked_store, &locked_store, &itm_store,
+    &mvrlu_store, &mvrlu_unchecked_store, &locked_store, &itm_store, &hashed_store,
 #ifdef WITH_URCU
     &urcu_store,
 #endif
@@ -39,12 +41,20 @@ const char *name(kind kind) {
     }
 }
 
-/* The rows of a kind, in the order of the table. */
-std::vector<row> rows_of(kind kind) {
-    if (kind == kind::objects) return {{kind, 1, 0, 0}, {kind, 10, 0, 0}, {kind, 100, 0, 0}, {kind, 0, 0, 0}};
+/* The rows of two sets of a kind with so many keys. */
+void add_rows(std::vector<row> &rows, kind kind, unsigned keys) {
+    for (auto [changes, moves] : {std::pair(0u, 0u), {10u, 0u}, {50u, 0u}, {0u, 50u}}) rows.push_back({kind, keys, changes, moves});
+}
+
+/* The rows of a word, in the order of the table. */
+std::vector<row> rows_of(const char *word) {
     std::vector<row> rows;
-    for (unsigned keys : {10u, 100u, 1000u})
-        for (auto [changes, moves] : {std::pair(0u, 0u), {10u, 0u}, {50u, 0u}, {0u, 50u}}) rows.push_back({kind, keys, changes, moves});
+    if (std::strcmp(word, "million") == 0) add_rows(rows, kind::tree, many_keys);
+    for (kind kind : {kind::list, kind::tree, kind::table})
+        if (std::strcmp(word, name(kind)) == 0)
+            for (unsigned keys : {10u, 100u, 1000u}) add_rows(rows, kind, keys);
+    if (std::strcmp(word, name(kind::objects)) == 0)
+        rows = {{kind::objects, 1, 0, 0}, {kind::objects, 10, 0, 0}, {kind::objects, 100, 0, 0}, {kind::objects, 0, 0, 0}};
     return rows;
 }
 
@@ -151,10 +161,10 @@ void compare(const std::vector<row> &rows, const std::vector<cell> &cells, unsig
 
 std::vector<row> rows_of_words(int count, char **words) {
     std::vector<row> rows;
-    for (kind kind : {kind::objects, kind::list, kind::tree, kind::table})
+    for (const char *word : words_of_rows)
         for (int i = 0; i < count; i++)
-            if (std::strcmp(words[i], name(kind)) == 0)
-                for (const row &one : rows_of(kind)) rows.push_back(one);
+            if (std::strcmp(words[i], word) == 0)
+                for (const row &one : rows_of(word)) rows.push_back(one);
     return rows;
 }
 

@@ -64,7 +64,7 @@ struct objects {
 struct sets {
     sets(const bench::row &row, unsigned threads) : seats(threads) {
         mvrlu_sets_options options = MVRLU_SETS_OPTIONS_INIT;
-        options.objects = 8192;
+        options.objects = 8192 + (bench::is_small(row) ? 0 : 4 * row.size);
         must(mvrlu_sets_open(&options, seats.data(), threads), "mvrlu_sets_open");
         for (unsigned i = 0; i < 2; i++) {
             if (row.kind == bench::kind::list) both[i] = MVRLU_LIST(i);

@@ -18,6 +18,9 @@ struct row {
 /* How many objects there are. */
 constexpr std::uint32_t object_count = 1024;
 
+/* Whether the sets of a row have no more keys than all stores hold. */
+inline bool is_small(const row &row) { return row.size <= 1000; }
+
 /* Millions of operations a second, of all threads together; the share of those that were answered yes; and how many there were. */
 struct outcome {
     double rate, yes, count;
@@ -34,6 +37,8 @@ struct store {
 extern const store mvrlu_store, mvrlu_unchecked_store;
 /* An array and std::map under one pthread_rwlock_t. */
 extern const store locked_store;
+/* std::unordered_map under one pthread_rwlock_t, for the rows of many keys. */
+extern const store hashed_store;
 /* Lists, trees and tables in GCC's transactional memory. */
 extern const store itm_store;
 /* Userspace RCU with a mutex for writers: objects by pointers, rculists, and the library's own hash table. */

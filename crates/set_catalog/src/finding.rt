@@ -64,15 +64,7 @@ pub fn find_plan<V: View>(
     ensures as_before { V.as_before view.old view.new }
 {
     let mut plan = Plan::nothing();
-    find_plan_near(
-        &mut plan,
-        view,
-        hints,
-        &mut Fingers::none(),
-        few,
-        command,
-    )
-    .with(plan)
+    find_plan_near(&mut plan, view, hints, &mut Fingers::none(), few, command).with(plan)
 }
 
 /// Finds what the command comes to, as `find_plan` does, by searches that begin at fingers, and plans its writes in a plan of the

@@ -1,5 +1,6 @@
 pub mod Terms
 pub mod Buckets
+pub mod MixedKeys
 pub mod KeptLists
 pub mod LinkedAdds
 pub mod LinkedDels

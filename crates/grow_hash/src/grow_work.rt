@@ -12,18 +12,18 @@ use set_script::{Command, Reply};
 
 /// A command of a growing hash set.
 #[derive(Drop)]
-pub struct GrowWork {
+pub struct GrowWork<const LEVELS: u32> {
     pub command: Command,
 }
 
-impl Work for GrowWork {
+impl<const LEVELS: u32> Work for GrowWork<LEVELS> {
     ghost use Rattle.std.specs.Prelude.{⊤};
     ghost use Rattle.set_script.specs.Tags.{tag_of as command_tag};
     ghost use Rattle.grow_hash.specs.GrowPlans.{IsOfGrown};
     ghost use Rattle.grow_hash.specs.GrowMeaning.{grow_meaning};
     ghost use Rattle.grow_hash.specs.GrowMeaningLaws.{makes_grown};
 
-    type Rules = GrowRules;
+    type Rules = GrowRules<LEVELS>;
 
     type Reply = Reply;
 
@@ -33,7 +33,7 @@ impl Work for GrowWork {
 
     ghost accepts = { λ w. IsOfGrown w.command };
 
-    ghost means = { λ w. grow_meaning w.command };
+    ghost means = { λ w. grow_meaning LEVELS w.command };
 
     ghost tag_of = { λ w plan. command_tag w.command };
 
@@ -52,7 +52,7 @@ impl Work for GrowWork {
         _time: u64,
     ) -> (V, Decision<Reply, [(u32, Words); 2]>) {
         let mut view = view;
-        match find_change(&mut view, &self.command) {
+        match find_change::<LEVELS, V>(&mut view, &self.command) {
             Finding::Settled(reply) => (view, Decision::Settled(reply)),
             Finding::Open(plan) => {
                 let reply = Reply::Yes;
@@ -75,7 +75,7 @@ impl Work for GrowWork {
 
     ghost knows_on = { λ memo s t on known. tt };
 
-    ghost makes = { λ w s before tag ws reply accepts plan drifts allowed. makes_grown w.command s before tag ws reply accepts plan allowed };
+    ghost makes = { λ w s before tag ws reply accepts plan drifts allowed. makes_grown LEVELS w.command s before tag ws reply accepts plan allowed };
 }
 
 // The tag of a command that changes something.

@@ -6,15 +6,15 @@ use Rattle.grow_hash.proofs.grow_work.GrowWorkWork.decide.Goals as goal
 
 pub find_change-requires : goal.find_change-requires
 find_change-requires g c = let here = c.requires.here.1 in record {
-  lawful = subst IsGrown (sym here.state_is) (grown_read c.requires.here.0 here.lawful here.own);
+  lawful = subst (IsGrown g.row.LEVELS) (sym here.state_is) (grown_read g.row.LEVELS c.requires.here.0 here.lawful here.own);
   command = c.requires.accepts;
 }
 
 pub returns-in-Settled-clause-found : goal.returns-in-Settled-clause-found
 returns-in-Settled-clause-found g c = λ last. (
   c.in-Settled.ensures.found.0 last,
-  unchanging_any c.args.self.now.command (g.V.View.state c.args.view) last c.in-Settled.ensures.found.1,
+  unchanging_any g.row.LEVELS c.args.self.now.command (g.V.View.state c.args.view) last c.in-Settled.ensures.found.1,
 )
 
 pub returns-in-Open-clause-found : goal.returns-in-Open-clause-found
-returns-in-Open-clause-found g c = (c.in-Open.ensures.found.0, planned_as c.args.self.now.command (g.V.View.state c.args.view) _ c.in-Open.ensures.found.1)
+returns-in-Open-clause-found g c = (c.in-Open.ensures.found.0, planned_as g.row.LEVELS c.args.self.now.command (g.V.View.state c.args.view) _ c.in-Open.ensures.found.1)

@@ -18,4 +18,5 @@ pub mod Sizes
 pub mod NextKeys
 pub mod Finding
 pub mod CatalogueReads
+pub mod AsGrown
 pub mod attempts

@@ -1,7 +1,7 @@
 -- Mixing is a bijection of the numbers below 2^32.
 use Rattle.std.specs.Int.Bits.{xor_assoc, xor_self, xor_zero_r}
 use Rattle.std.proofs.lemmas.Nat.{xor_lt, xor_shr, shr-shr}
-use Rattle.std.proofs.Common.{◌≡◌, ◌+◌, ◌*◌, ◌/◌, ◌%◌, ◌^◌, ◌<◌, ◌≤◌, ℕ, bit_xor, sym, ap, ◌∙◌, arith}
+use Rattle.std.proofs.Common.{◌≡◌, ◌+◌, ◌/◌, ◌^◌, ◌<◌, ◌≤◌, ℕ, bit_xor, sym, ap, ◌∙◌, arith}
 use Rattle.grow_hash.specs.Mixing.{folded, scaled, mixed}
 
 -- what is exclusive-or'ed onto both may be taken away

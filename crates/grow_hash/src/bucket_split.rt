@@ -8,10 +8,11 @@ ghost use Rattle.grow_hash.specs.SplitMeaning.{split_of};
 ghost use Rattle.grow_hash.specs.SplitAttempts.{SplitTried, SplitStepped};
 
 use crate::answer::Split;
-use crate::rules::GrowRules;
+use crate::rules::GrowingRules;
 use crate::split_work::{Looked, SplitWork};
 use mv_history::Store;
 use section_work::{Attempt, Place, attempt_work};
+use std::marker::PhantomData;
 
 /// Splits the bucket at the split place in one section of the store, and gives the store back.
 ///
@@ -33,7 +34,9 @@ use section_work::{Attempt, Place, attempt_work};
 /// commit that found no time left is answered by a second look, by the same tests.
 ///
 /// The split of one bucket at a time is linear hashing (Litwin, VLDB 1980).
-pub fn try_split<const LEVELS: u32, S: Store<Rules = GrowRules<LEVELS>>>(store: S) -> (S, Split)
+pub fn try_split<const LEVELS: u32, R: GrowingRules<LEVELS>, S: Store<Rules = R>>(
+    store: S,
+) -> (S, Split)
     requires most { most_writes ≤ (S.seat_of store).write_max }
     ensures tried { let shows = causes S.Open.may_refuse S.Open.has_trail S.took S.holds_back S.Open.found_held S.Open.loaded in
         SplitTried LEVELS shows (S.seat_of store) (S.seat_of result.0) result.1 }
@@ -43,7 +46,7 @@ pub fn try_split<const LEVELS: u32, S: Store<Rules = GrowRules<LEVELS>>>(store: 
     ensures at_most_one { TriesOne (S.seat_of store) (S.seat_of result.0) }
 {
     let mut nothing = ();
-    let work: SplitWork<LEVELS> = SplitWork;
+    let work: SplitWork<LEVELS, R> = SplitWork { rules: PhantomData };
     let (store, attempt) = attempt_work(store, &work, &mut nothing);
     let split = answer(attempt);
     (store, split)

@@ -42,8 +42,12 @@ pub fn find_change<const LEVELS: u32, V: View>(view: &mut V, command: &Command) 
     match *command {
         Command::Add { key, .. } => find_add::<LEVELS, V>(view, key),
         Command::Del { key, .. } => find_del::<LEVELS, V>(view, key),
-        Command::Has { key, .. } => Finding::Settled(yes_or_no(find::<LEVELS, V>(view, key).spot.has(key))),
-        Command::Size { .. } => Finding::Settled(Reply::Count { count: size::<LEVELS, V>(view) }),
+        Command::Has { key, .. } => Finding::Settled(yes_or_no(
+            find::<LEVELS, V>(view, key).spot.has(key),
+        )),
+        Command::Size { .. } => Finding::Settled(Reply::Count {
+            count: size::<LEVELS, V>(view),
+        }),
         Command::Next { key, .. } => Finding::Settled(match next::<LEVELS, V>(view, key) {
             Some(key) => Reply::Key { key },
             None => Reply::NoKey,

@@ -4,26 +4,28 @@ ghost use Rattle.set_script.specs.Tags.{tag_of as command_tag};
 ghost use Rattle.grow_hash.specs.GrowPlans.{IsOfGrown};
 
 use crate::deciding::{Finding, find_change};
-use crate::rules::GrowRules;
+use crate::rules::GrowingRules;
 use crate::search::NAME;
 use mv_history::{Tag, View, Words};
 use section_work::{Decision, Work};
 use set_script::{Command, Reply};
+use std::marker::PhantomData;
 
 /// A command of a growing hash set.
 #[derive(Drop)]
-pub struct GrowWork<const LEVELS: u32> {
+pub struct GrowWork<const LEVELS: u32, R> {
     pub command: Command,
+    pub rules: PhantomData<R>,
 }
 
-impl<const LEVELS: u32> Work for GrowWork<LEVELS> {
+impl<const LEVELS: u32, R: GrowingRules<LEVELS>> Work for GrowWork<LEVELS, R> {
     ghost use Rattle.std.specs.Prelude.{⊤};
     ghost use Rattle.set_script.specs.Tags.{tag_of as command_tag};
     ghost use Rattle.grow_hash.specs.GrowPlans.{IsOfGrown};
     ghost use Rattle.grow_hash.specs.GrowMeaning.{grow_meaning};
     ghost use Rattle.grow_hash.specs.GrowMeaningLaws.{makes_grown};
 
-    type Rules = GrowRules<LEVELS>;
+    type Rules = R;
 
     type Reply = Reply;
 
@@ -75,7 +77,8 @@ impl<const LEVELS: u32> Work for GrowWork<LEVELS> {
 
     ghost knows_on = { λ memo s t on known. tt };
 
-    ghost makes = { λ w s before tag ws reply accepts plan drifts allowed. makes_grown LEVELS w.command s before tag ws reply accepts plan allowed };
+    ghost makes = { λ w s before tag ws reply accepts plan drifts allowed. makes_grown LEVELS w.command s before tag ws reply accepts plan
+        (R.allowed_grows tag before ws allowed) };
 }
 
 // The tag of a command that changes something.

@@ -88,5 +88,5 @@ pub use attempting::attempt_grow;
 pub use bucket_split::try_split;
 pub use laws::{grow_plans_are_fit, grown_states_remain, mixed_keys_differ, split_plans_are_fit};
 pub use reading::read_grown;
-pub use rules::{GROW_LEVELS, GrowRules};
+pub use rules::{GROW_LEVELS, GrowRules, GrowingRules};
 pub use table::table_of;

@@ -12,7 +12,11 @@ const WORDS: u64 = 1 << 32;
 pub(crate) fn hash(levels: u32, key: u64) -> u64
     ensures { result ≡ hash levels key }
 {
-    if levels > GROW_LEVELS { mixed(key) } else { key }
+    if levels > GROW_LEVELS {
+        mixed(key)
+    } else {
+        key
+    }
 }
 
 // The mixed key, by the finaliser of MurmurHash3 (Appleby, 2011, in the public domain).

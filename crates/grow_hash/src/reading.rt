@@ -11,7 +11,10 @@ use std::alloc::{AllocError, Global};
 /// Reads the catalogue of a growing hash set: its keys, with their values, in `h0`, and nothing else.
 ///
 /// It needs a lawful state, and reads each node once. The error is want of memory.
-pub fn read_grown<const LEVELS: u32, V: View>(alloc: Global, view: &mut V) -> Result<Catalogue, AllocError>
+pub fn read_grown<const LEVELS: u32, V: View>(
+    alloc: Global,
+    view: &mut V,
+) -> Result<Catalogue, AllocError>
     requires lawful { IsGrown LEVELS (V.state view.old) }
     ensures catalogue { IfOk result (λ all. all ≡ grown_catalogue LEVELS (V.state view.old)) }
     ensures as_before { V.as_before view.old view.new }

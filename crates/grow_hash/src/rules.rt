@@ -40,3 +40,29 @@ impl<const LEVELS: u32> Protocol for GrowRules<LEVELS> {
 
     ghost one_allowed = { IsGrowCommit-prop LEVELS };
 }
+
+/// Rules that are those of a growing hash set of up to `2^LEVELS` buckets, as [`GrowRules`] are: the bound of code that is generic
+/// over the levels.
+pub trait GrowingRules<const LEVELS: u32>: Protocol {
+    ghost use Rattle.std.specs.Prelude.{ℕ, List};
+    ghost use Rattle.mv_history.specs.State.{State, Writes};
+    ghost use Rattle.grow_hash.specs.Grown.{IsGrownOpening};
+    ghost use Rattle.grow_hash.specs.GrowRules.{IsGrowCommit};
+
+    // It begins as the set does.
+    ghost starts: { (s : State) → Self.start s → IsGrownOpening LEVELS s };
+
+    // It allows the commits of the set,
+    ghost allows: { (tag : List ℕ) (before : State) (writes : Writes) → IsGrowCommit LEVELS tag before writes → Self.allowed tag before writes };
+
+    // and no other.
+    ghost allowed_grows: { (tag : List ℕ) (before : State) (writes : Writes) → Self.allowed tag before writes → IsGrowCommit LEVELS tag before writes };
+}
+
+impl<const LEVELS: u32> GrowingRules<LEVELS> for GrowRules<LEVELS> {
+    ghost starts = { λ s begins. begins };
+
+    ghost allows = { λ tag before writes grows. grows };
+
+    ghost allowed_grows = { λ tag before writes grows. grows };
+}

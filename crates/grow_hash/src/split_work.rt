@@ -4,10 +4,11 @@ ghost use Rattle.grow_hash.specs.Grown.{IsGrown};
 ghost use Rattle.grow_hash.specs.SplitSteps.{IsPlannedSplit, IsClosed};
 
 use crate::bucket::{MOST_SPLIT, Parted, part, read_bucket};
-use crate::rules::GrowRules;
+use crate::rules::GrowingRules;
 use crate::table::{most_level, table_of};
 use mv_history::{Tag, View, Words};
 use section_work::{Decision, Work};
+use std::marker::PhantomData;
 
 /// What a look at the bucket at the split place comes to.
 #[derive(Clone, Copy, Debug, Drop, PartialEq, Eq)]
@@ -24,14 +25,16 @@ pub(crate) enum Looked {
 
 /// The split of the bucket at the split place.
 #[derive(Drop)]
-pub(crate) struct SplitWork<const LEVELS: u32>;
+pub(crate) struct SplitWork<const LEVELS: u32, R> {
+    pub rules: PhantomData<R>,
+}
 
-impl<const LEVELS: u32> Work for SplitWork<LEVELS> {
+impl<const LEVELS: u32, R: GrowingRules<LEVELS>> Work for SplitWork<LEVELS, R> {
     ghost use Rattle.std.specs.Prelude.{⊤, take};
     ghost use Rattle.grow_hash.specs.GrowRules.{split_tag};
     ghost use Rattle.grow_hash.specs.SplitMeaning.{split_meaning};
 
-    type Rules = GrowRules<LEVELS>;
+    type Rules = R;
 
     type Reply = Looked;
 

@@ -19,17 +19,12 @@ pub fn table_of<const LEVELS: u32, V: View>(view: &mut V) -> (u32, u32)
     (words[2] as u32, words[3] as u32)
 }
 
-// The number of buckets with which each level begins, and at which the last one ends.
-const BUCKETS: [u32; 17] = [
-    16, 32, 64, 128, 256, 512, 1024, 2048, 4096, 8192, 16384, 32768, 65536, 131072, 262144, 524288, 1048576,
-];
-
 // The number of buckets with which the level begins.
 pub(crate) fn buckets_at(level: u32) -> u32
     requires level { level ≤ most_level most_levels }
     ensures { result ≡ buckets_at level }
 {
-    BUCKETS[level as usize]
+    16 << level
 }
 
 // The words of the table once the bucket at this place is split.

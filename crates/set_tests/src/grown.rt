@@ -6,7 +6,7 @@ ghost use Rattle.grow_hash.specs.GrowPlans.{IsOfGrown};
 ghost use Rattle.set_script.specs.Objects.{most_objects};
 
 use crate::counted::Counted;
-use grow_hash::{GROW_LEVELS, GrowRules, GrowStep, attempt_grow};
+use grow_hash::{GROW_LEVELS, GrowRules, GrowStep, GrowingRules, attempt_grow};
 use mv_history::{Store, View, WORDS};
 use plain_store::PlainStore;
 use section_work::Place;
@@ -49,7 +49,7 @@ fn command(ask: Ask) -> Command
 }
 
 // What a command, which locks two objects at most, is answered, and how many reads it took.
-fn count_reads<const LEVELS: u32, S: Store<Rules = GrowRules<LEVELS>>>(
+fn count_reads<const LEVELS: u32, R: GrowingRules<LEVELS>, S: Store<Rules = R>>(
     rt: &impl Abort,
     store: S,
     ask: Ask,
@@ -92,7 +92,7 @@ fn expect_step(rt: &impl Abort, answer: GrowStep, reply: Reply, place: Place) {
 }
 
 // Attempts the commands, one after another.
-fn play<const LEVELS: u32, S: Store<Rules = GrowRules<LEVELS>>>(rt: &impl Abort, mut store: S, rows: &[Row]) -> S {
+fn play<const LEVELS: u32, R: GrowingRules<LEVELS>, S: Store<Rules = R>>(rt: &impl Abort, mut store: S, rows: &[Row]) -> S {
     for (ask, reply, place, most) in rows {
         let (after, answer, reads) = count_reads(rt, store, *ask);
         expect_step(rt, answer, *reply, *place);

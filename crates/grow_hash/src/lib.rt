@@ -19,7 +19,8 @@
 //! its predecessor and its node; so a split of their bucket meets them, and every other commit leaves
 //! their bucket and their place. That each is fit, so that it stays allowed whatever others commit
 //! meanwhile, is a law (`grow_plans_are_fit`, `split_plans_are_fit`), and so is that each state is lawful and has 16 buckets
-//! and one more for each split (`grown_states_remain`).
+//! and one more for each split (`grown_states_remain`). Code that is generic over the levels names its rules by the bound
+//! `GrowingRules`, whose laws say that they are these.
 //!
 //! # The contract
 //!

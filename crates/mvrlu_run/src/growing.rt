@@ -149,7 +149,13 @@ fn open_grown(
     alloc: Global,
     options: Options,
     seats: u32,
-) -> Result<(Domain<GrowRules<GROW_LEVELS>>, Vec<Seat<GrowRules<GROW_LEVELS>>>), AllocError>
+) -> Result<
+    (
+        Domain<GrowRules<GROW_LEVELS>>,
+        Vec<Seat<GrowRules<GROW_LEVELS>>>,
+    ),
+    AllocError,
+>
     requires fit { FitOptions options }
     requires objects { 1026 ≤ options.objects }
     requires slots { options.slots ≡ 1024 }

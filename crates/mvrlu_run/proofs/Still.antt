@@ -11,6 +11,7 @@ use Rattle.domain_lines.specs.Joined.{past_of_whole}
 use Rattle.set_script.specs.Catalogue.{Maps}
 use Rattle.set_script.specs.CatalogueOf.{catalogue_of}
 use Rattle.set_script.specs.declared.commands.Command.{Command}
+use Rattle.grow_hash.specs.Tables.{grow_levels}
 
 -- the run of a domain's history is that of the same history later, with the sets that were read
 pub still_run : (v w : Whole) (scripts : List (List Command)) (lines : List Line) (end : Maps) → IsStill v w
@@ -32,7 +33,7 @@ still_blocks v w scripts lines end still is run = rw (is, still.start, still.bas
 
 -- and so is a run on a growing set, with the splits that were counted
 pub still_grown : (v w : Whole) (scripts : List (List Command)) (lines : List Line) (end : Maps) (splits counted : ℕ)
-    → IsStill v w → end ≡ grown_catalogue (last_state v) → counted ≡ splits
-    → GrowRunOf (past_of_whole v) scripts lines (grown_catalogue (last_state v)) splits v.tables
+    → IsStill v w → end ≡ grown_catalogue grow_levels (last_state v) → counted ≡ splits
+    → GrowRunOf (past_of_whole v) scripts lines (grown_catalogue grow_levels (last_state v)) splits v.tables
     → GrowRunOf (past_of_whole w) scripts lines end counted w.tables
 still_grown v w scripts lines end splits counted still is same run = rw (is, same, still.start, still.base, still.history, still.tables) run

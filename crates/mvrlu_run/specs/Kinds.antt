@@ -37,6 +37,7 @@ use Rattle.set_script.specs.Lawful.{IsOpening}
 use Rattle.set_script.specs.Objects.{no_words}
 use Rattle.set_script.specs.Rules.{IsSetCommit}
 use Rattle.set_script.specs.declared.commands.Command.{Command}
+use Rattle.grow_hash.specs.Tables.{grow_levels}
 
 -- the numbers of a domain with so many seats, each of which may hold so many objects
 abbrev pub config_of : Options → ℕ → ℕ → Config
@@ -84,7 +85,7 @@ pool_chain_of script olds news own = PoolLinked (handle_causes IsOpening IsSetCo
 
 -- and of the commands on a growing set, each with the split that was due behind it
 abbrev pub grow_chain_of : List (List Command) → List Seat → List Seat → List Line → Type 0
-grow_chain_of scripts olds news own = AllLinkedTurns (handle_causes IsGrownOpening IsGrowCommit) olds news scripts own
+grow_chain_of scripts olds news own = AllLinkedTurns (handle_causes (IsGrownOpening grow_levels) (IsGrowCommit grow_levels)) olds news scripts own
 
 -- The numbers of a run that has no options. They stand here as numbers, and not as the code's constants, with
 -- which a run over fewer objects would meet the clauses too.
@@ -143,7 +144,7 @@ abbrev pub grow_runs : Options → List (List Command) → Kind GrownEnd
 grow_runs options scripts = record {
   numbers = config_of options 64 (length scripts);
   is_run = λ lines end w.
-      IsRunAlong IsGrowCommit (grow_chain_of scripts) (config_of options 64 (length scripts))
+      IsRunAlong (IsGrowCommit grow_levels) (grow_chain_of scripts) (config_of options 64 (length scripts))
       (λ past. GrowRunOf past scripts lines end.set end.splits w.tables) lines w;
   text_of = λ lines end tables. text_of_grown lines end.set end.splits tables;
 }

@@ -19,6 +19,7 @@ use Rattle.mvrlu_run.specs.Scripts.{AllScripts, ScriptOf, KindOf, grammar_of, St
 use Rattle.mvrlu_run.specs.Sent.{Sent}
 use Rattle.mvrlu_run.specs.Status.{status_of, closed_of, kind_status, line_of}
 use Rattle.mvrlu_run.specs.Told.{IsTextFor, files_of, reading_of}
+use Rattle.grow_hash.specs.Tables.{grow_levels}
 
 -- what the program sees of files and output at one moment
 pub record Outside : Type 0 where
@@ -80,7 +81,7 @@ abbrev pub ReadsSets : Closed → Type 0
 ReadsSets No = ⊤
 ReadsSets (Sets closing) = IsLawful (last_state (whole_of closing))
 ReadsSets (Blocks closing) = IsLawful (last_state (whole_of closing))
-ReadsSets (Grown closing) = IsGrown (last_state (whole_of closing))
+ReadsSets (Grown closing) = IsGrown grow_levels (last_state (whole_of closing))
 
 -- no call of the files failed, or they are steady
 abbrev pub ReadsAll : Outside → Outside → Type 0

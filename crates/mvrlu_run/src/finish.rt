@@ -1,6 +1,6 @@
 // How a call of the program ends.
 use block_parser::BlockKind;
-use grow_hash::GrowRules;
+use grow_hash::{GROW_LEVELS, GrowRules};
 use mvrlu::Closing;
 use run_words::Limit;
 use script_parser::FaultKind;
@@ -21,7 +21,7 @@ pub enum Closed {
     /// The domain of the blocks, likewise.
     Blocks(Closing<BlockRules>),
     /// The domain of the growing set, likewise.
-    Grown(Closing<GrowRules>),
+    Grown(Closing<GrowRules<GROW_LEVELS>>),
 }
 
 /// What became of a call of the program.

@@ -2,7 +2,7 @@
 ghost use Rattle.std.specs.Prelude.{◌≡◌, ◌≤◌, ◌+◌, All, IfErr, IfOk, MatchResult, length, map, replicate, string_bytes};
 ghost use Rattle.grow_hash.specs.GrowPlans.{IsOfGrown};
 ghost use Rattle.grow_hash.specs.Grown.{IsGrown};
-ghost use Rattle.grow_hash.specs.Tables.{buckets};
+ghost use Rattle.grow_hash.specs.Tables.{grow_levels, buckets};
 ghost use Rattle.set_script.specs.Objects.{no_words};
 ghost use Rattle.script_workers.specs.Workers.{items_of};
 ghost use Rattle.mvrlu.specs.Opened.{IsOpened};
@@ -18,7 +18,7 @@ use crate::running::{USUAL, config, ran_or_met};
 use crate::scripts::{Grammar, read_scripts};
 use crate::texts::Made;
 use grow_domain::run_grow_domain;
-use grow_hash::{GrowRules, read_grown, table_of};
+use grow_hash::{GROW_LEVELS, GrowRules, read_grown, table_of};
 use grow_report::{order_grown, render_grown};
 use mv_history::View;
 use mvrlu::{Closing, Domain, OpenFault, Seat, open_zeros};
@@ -39,7 +39,7 @@ const FIRST_BUCKETS: u32 = 16;
 // What a run on a growing set gives, as a run of scripts does, and how many splits its history has.
 #[derive(Drop)]
 struct ToldGrown {
-    closing: Closing<GrowRules>,
+    closing: Closing<GrowRules<GROW_LEVELS>>,
     lines: Vec<Line>,
     end: Catalogue,
     splits: u32,
@@ -79,7 +79,7 @@ fn grown_text<R: Threads + Wait + Sync, G: Gate>(
     alloc: Global,
     scripts: &[Vec<Command>],
     gate: &G,
-) -> Result<(Vec<u8>, Closing<GrowRules>), AllocError>
+) -> Result<(Vec<u8>, Closing<GrowRules<GROW_LEVELS>>), AllocError>
     requires some { 1 ≤ length scripts.now }
     requires few { length scripts.now ≤ 64 }
     requires short { All (λ script. length script.items ≤ 65536) scripts.now }
@@ -124,7 +124,7 @@ fn run_grown_set<R: Threads + Wait + Sync, G: Gate>(
     ))?;
     order_grown(&mut lines);
     let splits = count_splits(&mut closing);
-    let end = read_grown(alloc, &mut closing)?;
+    let end = read_grown::<GROW_LEVELS, _>(alloc, &mut closing)?;
     Ok(ToldGrown {
         closing,
         lines,
@@ -135,11 +135,11 @@ fn run_grown_set<R: Threads + Wait + Sync, G: Gate>(
 
 // How many splits a growing set has had: one for each bucket but those that it began with.
 fn count_splits<V: View>(view: &mut V) -> u32
-    requires lawful { IsGrown (V.state view.old) }
+    requires lawful { IsGrown grow_levels (V.state view.old) }
     ensures splits { FIRST_BUCKETS + result ≡ buckets (V.state view.old) }
     ensures as_before { V.as_before view.old view.new }
 {
-    let (level, place) = table_of(view);
+    let (level, place) = table_of::<GROW_LEVELS, V>(view);
     (FIRST_BUCKETS << level) + place - FIRST_BUCKETS
 }
 
@@ -149,7 +149,13 @@ fn open_grown(
     alloc: Global,
     options: Options,
     seats: u32,
-) -> Result<(Domain<GrowRules>, Vec<Seat<GrowRules>>), AllocError>
+) -> Result<
+    (
+        Domain<GrowRules<GROW_LEVELS>>,
+        Vec<Seat<GrowRules<GROW_LEVELS>>>,
+    ),
+    AllocError,
+>
     requires fit { FitOptions options }
     requires objects { 1026 ≤ options.objects }
     requires slots { options.slots ≡ 1024 }

@@ -43,7 +43,7 @@ impl Work for Transfer {
 
     ghost tag_of = { λ w plan. transfer_tag w.from w.to w.amount };
 
-    ghost writes_of = { λ plan. plan };
+    ghost writes_of = { λ memo plan. plan };
 
     ghost knows = { λ memo s. ⊤ };
 
@@ -73,7 +73,7 @@ impl Work for Transfer {
         (view, Decision::Change { plan, reply })
     }
 
-    fn writes(plan: &[(u32, Words); 2]) -> &[(u32, Words)] {
+    fn writes<'a>(_memo: &'a (), plan: &'a [(u32, Words); 2]) -> &'a [(u32, Words)] {
         plan
     }
 

@@ -58,7 +58,7 @@ impl Work for Move {
 
     ghost tag_of = { λ w plan. tag_of_plan w.user w.shelf plan };
 
-    ghost writes_of = { λ plan. plan };
+    ghost writes_of = { λ memo plan. plan };
 
     ghost knows = { λ memo s. ⊤ };
 
@@ -86,7 +86,7 @@ impl Work for Move {
         (view, Decision::Change { plan, reply })
     }
 
-    fn writes(plan: &[(u32, Words); 3]) -> &[(u32, Words)] {
+    fn writes<'a>(_memo: &'a (), plan: &'a [(u32, Words); 3]) -> &'a [(u32, Words)] {
         plan
     }
 

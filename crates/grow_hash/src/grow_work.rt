@@ -37,7 +37,7 @@ impl Work for GrowWork {
 
     ghost tag_of = { λ w plan. command_tag w.command };
 
-    ghost writes_of = { λ plan. plan };
+    ghost writes_of = { λ memo plan. plan };
 
     ghost knows = { λ memo s. ⊤ };
 
@@ -61,7 +61,7 @@ impl Work for GrowWork {
         }
     }
 
-    fn writes(plan: &[(u32, Words); 2]) -> &[(u32, Words)] {
+    fn writes<'a>(_memo: &'a (), plan: &'a [(u32, Words); 2]) -> &'a [(u32, Words)] {
         plan
     }
 

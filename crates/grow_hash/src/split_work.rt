@@ -44,7 +44,7 @@ impl Work for SplitWork {
 
     ghost tag_of = { λ w parted. split_tag parted.place };
 
-    ghost writes_of = { λ parted. take parted.count parted.writes };
+    ghost writes_of = { λ memo parted. take parted.count parted.writes };
 
     ghost knows = { λ memo s. ⊤ };
 
@@ -66,7 +66,7 @@ impl Work for SplitWork {
         }
     }
 
-    fn writes(plan: &Parted) -> &[(u32, Words)] {
+    fn writes<'a>(_memo: &'a (), plan: &'a Parted) -> &'a [(u32, Words)] {
         &plan.writes[..plan.count]
     }
 

@@ -2,7 +2,7 @@
 use item_workers::{Runner, Tried};
 use mv_history::Store;
 use section_work::Place;
-use set_catalog::{Attempt, HintedStore, Hints};
+use set_catalog::{Attempt, HintedStore, Memo};
 use set_script::{Command, Reply, SetRules};
 use std::alloc::{AllocError, Global};
 
@@ -25,7 +25,7 @@ impl<S: Store<Rules = SetRules>> Runner for Hinted<S> {
 
     type Store = S;
 
-    type Room = Hints;
+    type Room = Box<Memo>;
 
     ghost Kept = { Seat };
 
@@ -49,11 +49,11 @@ impl<S: Store<Rules = SetRules>> Runner for Hinted<S> {
 
     ghost link = { LinkedDone (causes S.Open.may_refuse S.Open.has_trail S.took S.holds_back S.Open.found_held S.Open.loaded) };
 
-    fn room(alloc: Global) -> Result<Hints, AllocError> {
-        Hints::new(alloc, HINTS)
+    fn room(alloc: Global) -> Result<Box<Memo>, AllocError> {
+        Memo::new(alloc, HINTS)
     }
 
-    fn new(store: S, room: Hints) -> Hinted<S> {
+    fn new(store: S, room: Box<Memo>) -> Hinted<S> {
         Hinted {
             hinted: HintedStore::new(store, room),
         }

@@ -77,7 +77,7 @@ pub fn attempt_work<W: Work, S: Store<Rules = W::Rules>>(
 
 // The reply at the last time, where a change comes too late.
 fn late<W: Work>(work: &W, found: Decision<W::Reply, W::Plan>) -> W::Reply
-    ensures { (s : State) → IsFound W.Rules.allowed (W.means work.now) (W.tag_of work.now) W.writes_of s found → (W.means work.now).settles s true result }
+    ensures { (memo : W.Memo) (s : State) → IsFound W.Rules.allowed (W.means work.now) (W.tag_of work.now) (W.writes_of memo) s found → (W.means work.now).settles s true result }
 {
     match found {
         Decision::Settled(reply) => reply,
@@ -93,7 +93,7 @@ fn commit<W: Work, S: Store<Rules = W::Rules>>(
     plan: W::Plan,
     reply: W::Reply,
 ) -> (S, Attempt<W::Reply>)
-    requires planned { IsPlanned W.Rules.allowed (W.means work.now) (state_of (S.Open.section section)) (W.tag_of work.now plan) (W.writes_of plan) reply }
+    requires planned { IsPlanned W.Rules.allowed (W.means work.now) (state_of (S.Open.section section)) (W.tag_of work.now plan) (W.writes_of memo.old plan) reply }
     requires space { HasSpace (W.means work.now).most (S.Open.section section) }
     requires accepts { W.accepts work.now }
     requires knows { W.knows memo.old (S.Open.section section).seat }
@@ -107,7 +107,7 @@ fn commit<W: Work, S: Store<Rules = W::Rules>>(
         Follows S.Open.section S.Open.as_before shows section (S.seat_of result.0) result.1 }
 {
     let mut section = section;
-    if let Err(refusal) = hold_planned(&mut section, W::writes(&plan)) {
+    if let Err(refusal) = hold_planned(&mut section, W::writes(memo, &plan)) {
         return (section.abort(), Attempt::Again(Cause::Lock(refusal)));
     }
     match section.try_commit(work.tag(&plan)) {

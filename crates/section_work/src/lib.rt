@@ -27,7 +27,8 @@
 //!   where that found no time left. What changes nothing locks nothing and gives nothing up.
 //! - An attempt has at most one exchange on CLOCK for a commit in its trail.
 //! - What is remembered from one section to the next (`Work::Memo`) stays right for the seat, and is
-//!   what one look, or two, did to it.
+//!   what one look, or two, did to it. A long plan may stand in it, in memory that each look uses again
+//!   (`Work::writes`).
 //!
 //! `rewrite` locks different objects in their order and then writes them, or answers the first lock
 //! that was refused (`specs/Locking.antt`); the calls end with it that go on after a refusal, with the

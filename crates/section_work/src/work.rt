@@ -39,8 +39,8 @@ pub trait Work {
     // The tag of a plan's commit.
     ghost tag_of: { Self → Self.Plan → List ℕ };
 
-    // What a plan writes.
-    ghost writes_of: { Self.Plan → Writes };
+    // What a plan writes, a part of which may stand in what is remembered.
+    ghost writes_of: { Self.Memo → Self.Plan → Writes };
 
     // What is remembered is right for a seat.
     ghost knows: { Self.Memo → Seat → Type 0 };
@@ -57,15 +57,15 @@ pub trait Work {
     ) -> (V, Decision<Self::Reply, Self::Plan>)
         requires accepts { accepts self.now }
         requires here { (s : InSection) × IsHere Self.Rules.start Self.Rules.allowed (V.state view) time s × knows memo.old s.seat }
-        ensures found { IsFound Self.Rules.allowed (means self.now) (tag_of self.now) writes_of (V.state view) result.1 }
+        ensures found { IsFound Self.Rules.allowed (means self.now) (tag_of self.now) (writes_of memo.new) (V.state view) result.1 }
         ensures as_before { V.as_before view result.0 }
         ensures notes { notes self.now memo.old memo.new (V.state view) }
         ensures knows { (s : InSection) → IsHere Self.Rules.start Self.Rules.allowed (V.state view) time s → knows memo.old s.seat
             → knows memo.new s.seat };
 
-    /// What the plan writes.
-    fn writes(plan: &Self::Plan) -> &[(u32, Words)]
-        ensures { result.now ≡ writes_of plan.now };
+    /// What the plan writes, with what the look that made it left in the memo.
+    fn writes<'a>(memo: &'a Self::Memo, plan: &'a Self::Plan) -> &'a [(u32, Words)]
+        ensures { result.now ≡ writes_of memo.now plan.now };
 
     /// The tag of the plan's commit.
     fn tag(&self, plan: &Self::Plan) -> Tag

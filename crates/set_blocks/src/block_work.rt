@@ -27,7 +27,7 @@ impl Work for Block {
 
     ghost tag_of = { λ block planned. block_tag (length block) };
 
-    ghost writes_of = { λ planned. take planned.count planned.writes };
+    ghost writes_of = { λ memo planned. take planned.count planned.writes };
 
     ghost knows = { λ memo s. ⊤ };
 
@@ -50,7 +50,7 @@ impl Work for Block {
         }
     }
 
-    fn writes(plan: &Planned) -> &[(u32, Words)] {
+    fn writes<'a>(_memo: &'a (), plan: &'a Planned) -> &'a [(u32, Words)] {
         plan.writes()
     }
 

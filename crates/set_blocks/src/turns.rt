@@ -10,8 +10,9 @@ ghost use Rattle.set_blocks.specs.Turns.{HoldsReply, TurnsTo};
 
 use crate::holds::{hold_key, hold_value};
 use crate::overlay::Overlay;
+use list_set::Fingers;
 use mv_history::View;
-use set_catalog::{Finding, Hints, find_plan, search};
+use set_catalog::{Hints, Outcome, Plan, find_plan_near, search};
 use set_script::{Command, Name, Reply};
 
 /// What a command of a block replies at its turn, and whether it changes something.
@@ -123,16 +124,24 @@ fn turn_change<V: View>(overlay: &mut Overlay<V>, command: &Command) -> Option<T
     ensures count { overlay.new.count ≤ overlay.old.count + 5 }
 {
     let mut few = overlay.objects();
-    let found = find_plan(overlay, &mut Hints::none(), &mut few, command);
+    let mut plan = Plan::nothing();
+    let found = find_plan_near(
+        &mut plan,
+        overlay,
+        &mut Hints::none(),
+        &mut Fingers::none(),
+        &mut few,
+        command,
+    );
     match found {
-        Finding::Open { plan, .. } => {
+        Outcome::Open(_) => {
             overlay.write(plan.writes());
             Some(Turn {
                 reply: Reply::Yes,
                 changes: true,
             })
         }
-        Finding::Settled(reply) => {
+        Outcome::Settled(reply) => {
             if is_full(reply) {
                 return None;
             }

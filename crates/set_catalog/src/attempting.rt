@@ -17,6 +17,7 @@ use mv_history::Store;
 use section_work::{Attempt as Tried, attempt_work};
 use set_script::{Command, SetRules};
 use std::mem::replace;
+use tree_balance::Plan;
 
 /// Attempts a command, as [`attempt_with`] does with no hints.
 pub fn attempt<S: Store<Rules = SetRules>>(store: S, command: &Command) -> (S, Attempt)
@@ -74,6 +75,7 @@ pub fn attempt_with<S: Store<Rules = SetRules>>(
         hints: replace(hints, Hints::none()),
         fingers: Fingers::none(),
         known: Shortage::unknown(),
+        plan: Plan::nothing(),
     };
     let (store, answer) = attempt_knowing(store, &mut memo, command);
     *hints = memo.hints;

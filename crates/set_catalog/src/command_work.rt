@@ -10,7 +10,6 @@ use crate::shortage::Shortage;
 use mv_history::{Tag, View, Words};
 use section_work::{Decision, Work};
 use set_script::{Command, Reply, SetRules};
-use tree_balance::Plan;
 
 // A command that is to be one section, where an add to a tree may lock so many objects beside its own four, 1 to 12.
 #[derive(Drop)]
@@ -39,7 +38,8 @@ impl Work for CommandWork {
 
     type Reply = Answer;
 
-    type Plan = Plan;
+    // What is planned stands in the memo, so that a command moves and clears none of it.
+    type Plan = ();
 
     type Memo = Memo;
 
@@ -49,7 +49,7 @@ impl Work for CommandWork {
 
     ghost tag_of = { λ w plan. command_tag w.command };
 
-    ghost writes_of = { λ plan. writes_in plan };
+    ghost writes_of = { λ memo plan. writes_in memo.plan };
 
     ghost knows = { λ memo s. IsKnown s memo.known };
 
@@ -57,15 +57,15 @@ impl Work for CommandWork {
 
     // Inlined, so that the view isn't copied on its way in and out.
     #[inline(always)]
-    fn decide<V: View>(&self, memo: &mut Memo, view: V, time: u64) -> (V, Decision<Answer, Plan>) {
+    fn decide<V: View>(&self, memo: &mut Memo, view: V, time: u64) -> (V, Decision<Answer, ()>) {
         let mut view = view;
         if let Some(reply) = answer(&mut view, &mut memo.fingers, &self.command) {
             return (view, Decision::Settled(Answer::of(reply)));
         }
         let mut few = memo.known.at(time);
-        let mut plan = Plan::nothing();
+        memo.plan.clear();
         let outcome = find_change(
-            &mut plan,
+            &mut memo.plan,
             &mut view,
             &mut memo.hints,
             &mut memo.fingers,
@@ -81,16 +81,16 @@ impl Work for CommandWork {
                     reply: Reply::Yes,
                     gone,
                 };
-                (view, Decision::Change { plan, reply })
+                (view, Decision::Change { plan: (), reply })
             }
         }
     }
 
-    fn writes(plan: &Plan) -> &[(u32, Words)] {
-        plan.writes()
+    fn writes<'a>(memo: &'a Memo, _plan: &'a ()) -> &'a [(u32, Words)] {
+        memo.plan.writes()
     }
 
-    fn tag(&self, _plan: &Plan) -> Tag {
+    fn tag(&self, _plan: &()) -> Tag {
         tag(&self.command)
     }
 

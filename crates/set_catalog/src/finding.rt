@@ -63,30 +63,33 @@ pub fn find_plan<V: View>(
     ensures untouched { wanted command.now (catalogue_of (V.state view.old)) ≡ 0 → hints.new ≡ hints.old }
     ensures as_before { V.as_before view.old view.new }
 {
-    find_plan_near(view, hints, &mut Fingers::none(), few, command)
+    let mut plan = Plan::nothing();
+    find_plan_near(&mut plan, view, hints, &mut Fingers::none(), few, command).with(plan)
 }
 
-/// Finds what the command comes to, as `find_plan` does, by searches that begin at fingers.
+/// Finds what the command comes to, as `find_plan` does, by searches that begin at fingers, and plans its writes in a plan of the
+/// caller's, whatever that has.
 pub fn find_plan_near<V: View>(
+    plan: &mut Plan,
     view: &mut V,
     hints: &mut Hints,
     fingers: &mut Fingers,
     few: &mut u32,
     command: &Command,
-) -> Finding
+) -> Outcome
     requires lawful { IsLawful (V.state view.old) }
     requires few { vacant_nodes (V.state view.old) < few.old }
-    ensures found { IsFound command.now (V.state view.old) result }
+    ensures found { IsFound command.now (V.state view.old) (with_plan result plan.new) }
     ensures few { vacant_nodes (V.state view.old) < few.new }
     ensures hints { TakesHints hints.old hints.new }
     ensures untouched { wanted command.now (catalogue_of (V.state view.old)) ≡ 0 → hints.new ≡ hints.old }
     ensures as_before { V.as_before view.old view.new }
 {
     match answer(view, fingers, command) {
-        Some(reply) => Finding::Settled(reply),
+        Some(reply) => Outcome::Settled(reply),
         None => {
-            let mut plan = Plan::nothing();
-            find_change(&mut plan, view, hints, fingers, few, command, 0).with(plan)
+            plan.clear();
+            find_change(plan, view, hints, fingers, few, command, 0)
         }
     }
 }

@@ -3,7 +3,6 @@ ghost use Rattle.std.specs.Prelude.{◌≡◌, ◌≤◌};
 
 use crate::answer::Attempt;
 use crate::attempting::attempt_knowing;
-use crate::hints::Hints;
 use crate::memo::Memo;
 use mv_history::Store;
 use set_script::{Command, SetRules};
@@ -19,9 +18,11 @@ use std::marker::Model;
 ///
 /// It also keeps fingers into lists and buckets (`list_set::Fingers`), at which its searches begin; no
 /// clause speaks of that either.
+///
+/// All of that is boxed, with room for what a command plans, so that who moves it moves few words.
 pub struct HintedStore<S: Store<Rules = SetRules>> {
     store: S,
-    memo: Memo,
+    memo: Box<Memo>,
 }
 
 impl<S: Store<Rules = SetRules>> Model for HintedStore<S> {
@@ -29,9 +30,9 @@ impl<S: Store<Rules = SetRules>> Model for HintedStore<S> {
 
     ghost Value = { StoreWithHints S };
 
-    ghost view = { λ s. record { store = s.store; hints = s.memo.hints } };
+    ghost view = { λ s. record { store = s.store; hints = s.memo.value.hints } };
 
-    ghost invariant = { λ s. IsKnown (S.seat_of s.store) s.memo.known };
+    ghost invariant = { λ s. IsKnown (S.seat_of s.store) s.memo.value.known };
 }
 
 impl<S: Store<Rules = SetRules>> HintedStore<S> {
@@ -42,15 +43,13 @@ impl<S: Store<Rules = SetRules>> HintedStore<S> {
     ghost use Rattle.section_work.specs.Steps.{IsStepped};
 
     /// The store, with these hints, which become those of its seat. It takes no memory.
-    pub fn new(store: S, hints: Hints) -> HintedStore<S>
+    pub fn new(store: S, memo: Box<Memo>) -> HintedStore<S>
         ensures store { result.store ≡ store }
-        ensures hints { result.hints ≡ hints }
+        ensures hints { result.hints ≡ memo.value.hints }
     {
-        let hints = hints.of_seat(store.seat());
-        HintedStore {
-            store,
-            memo: Memo::of(hints),
-        }
+        let mut memo = memo;
+        memo.begin(store.seat());
+        HintedStore { store, memo }
     }
 
     /// Attempts a command in one section of the store, as [`attempt_with`](crate::attempt_with) does

@@ -70,6 +70,13 @@ impl Hints {
         hints
     }
 
+    // From here on they are those of the seat of this number.
+    pub(crate) fn belong_to(&mut self, seat: u32)
+        ensures { self.new ≡ self.old }
+    {
+        self.seat = seat;
+    }
+
     /// Puts the object last, whatever it is. Where the list is full, the first object goes; with room
     /// for none, nothing changes.
     pub fn note(&mut self, object: u32)

@@ -51,11 +51,12 @@
 //! A `HintedStore` owns a store with what it remembers of it: hints, fingers into lists and buckets,
 //! and of its last look for vacant objects that found too few, of which time that is known. While
 //! nothing was freed since, it answers `Full` with no further look. What is known is right for its
-//! store's seat.
+//! store's seat. All of it is boxed, with the plan of the command at hand, which each command uses again:
+//! so a command clears and moves no memory for a plan.
 //! `read_all` reads the whole catalogue, set by set and each node once. The table for its walks over
 //! trees is of memory that can be refused, and none of it lies on the stack.
 //!
-//! No call but `Hints::new` and `read_all` takes memory.
+//! No call but `Hints::new`, `Memo::new` and `read_all` takes memory.
 //!
 //! # Its place
 //!
@@ -88,6 +89,7 @@ pub use finding::{Finding, find_plan, find_plan_near};
 pub use hinted_store::HintedStore;
 pub use hints::Hints;
 pub use memo::Memo;
+pub use outcome::Outcome;
 pub use picks::{Picked, pick};
 pub use plan::Gone;
 pub use reading::read_all;

@@ -7,12 +7,12 @@ use crate::plan::Gone;
 use set_script::Reply;
 use tree_balance::Plan;
 
-// What a command comes to whose writes are planned in a plan of the caller's.
+/// What a command comes to whose writes are planned in a plan of the caller's.
 #[derive(Clone, Copy, Drop)]
-pub(crate) enum Outcome {
-    // It changes nothing, and this is its reply.
+pub enum Outcome {
+    /// It changes nothing, and this is its reply.
     Settled(Reply),
-    // It changes something by the planned writes, and a del leaves these objects vacant.
+    /// It changes something by the planned writes, and a del leaves these objects vacant.
     Open(Gone),
 }
 

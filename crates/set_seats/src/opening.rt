@@ -1,5 +1,5 @@
 // Opening a domain of the sets, with its seats.
-ghost use Rattle.std.specs.Prelude.{◌≡◌, ◌<◌, ◌≤◌, map, All, IfOk, IfErr, replicate};
+ghost use Rattle.std.specs.Prelude.{◌≡◌, ◌+◌, ◌<◌, ◌≤◌, map, All, IfOk, IfErr, replicate};
 ghost use Rattle.mvrlu.specs.Opened.{IsOpened};
 ghost use Rattle.shared_domain.specs.Met.{domain_of};
 ghost use Rattle.set_script.specs.Objects.{no_words, most_objects};
@@ -151,11 +151,11 @@ fn share(
     requires may { MayShare (domain_of first.now) seat }
     ensures { IfOk result (λ shared. (shared.seat ≡ seat) × Shares (domain_of first.now) shared) }
 {
-    match share_and_hints(alloc, first, number) {
-        Ok((share, hints)) => Ok(SetSeat {
+    match share_and_room(alloc, first, number) {
+        Ok((share, remembered)) => Ok(SetSeat {
             share,
             seat,
-            remembered: Remembered::of(hints),
+            remembered,
         }),
         Err(AllocError) => {
             seat.let_go();
@@ -164,17 +164,20 @@ fn share(
     }
 }
 
-// One more share of the domain, and room for the hints of the seat of this number.
-fn share_and_hints(
+// One more share of the domain, and room for what the seat of this number remembers.
+fn share_and_room(
     alloc: Global,
     first: &Share<BlockRules>,
     number: u32,
-) -> Result<(Share<BlockRules>, Hints), AllocError>
-    ensures { IfOk result (λ r. domain_of r.0 ≡ domain_of first.now) }
+) -> Result<(Share<BlockRules>, Box<Remembered>), AllocError>
+    ensures share { IfOk result (λ r. domain_of r.0 ≡ domain_of first.now) }
+    ensures time { IfOk result (λ r. r.1.value.memo.known.time ≡ 0) }
+    ensures few { IfOk result (λ r. r.1.value.memo.known.few ≡ most_objects + 1) }
 {
     let hints = Hints::new(alloc, HINTS)?.of_seat(number);
+    let remembered = Box::new(alloc, Remembered::of(hints))?;
     let share = first.try_clone()?;
-    Ok((share, hints))
+    Ok((share, remembered))
 }
 
 // Ends these seats alone.

@@ -24,10 +24,11 @@ use shared_domain::{Closed, Share};
 pub struct SetSeat {
     pub(crate) share: Share<BlockRules>,
     pub(crate) seat: Seat<BlockRules>,
-    pub(crate) remembered: Remembered,
+    // Boxed, so that who moves a seat moves few words.
+    pub(crate) remembered: Box<Remembered>,
     pub ghost of: { IsSeatOf (domain_of share) seat },
     pub ghost room: { 40 ≤ (seat_of seat).write_max },
-    pub ghost known: { IsKnown (seat_of seat) remembered.memo.known },
+    pub ghost known: { IsKnown (seat_of seat) remembered.value.memo.known },
 }
 
 /// Closes the seat.

@@ -4,7 +4,7 @@ ghost use Rattle.std.specs.Prelude.{◌≡◌, ◌+◌, [], ◌∷◌};
 use mv_history::{Tag, View, Words};
 use section_work::{Decision, Place, Work};
 use set_blocks::BlockRules;
-use set_catalog::{Finding, Gone, Hints, Memo, Plan, Shortage, find_plan_near};
+use set_catalog::{Gone, Hints, Memo, Outcome, Shortage, find_plan_near};
 use set_script::{Command, Reply};
 use std::marker::Model;
 
@@ -82,7 +82,8 @@ impl Work for Single {
 
     type Reply = OneReply;
 
-    type Plan = Plan;
+    // What is planned stands in the memo.
+    type Plan = ();
 
     type Memo = Remembered;
 
@@ -92,7 +93,7 @@ impl Work for Single {
 
     ghost tag_of = { λ w plan. block_tag 1 };
 
-    ghost writes_of = { λ plan. writes_in plan };
+    ghost writes_of = { λ memo plan. writes_in memo.memo.plan };
 
     ghost knows = { λ memo s. IsKnown s memo.memo.known };
 
@@ -105,10 +106,11 @@ impl Work for Single {
         remembered: &mut Remembered,
         view: V,
         time: u64,
-    ) -> (V, Decision<OneReply, Plan>) {
+    ) -> (V, Decision<OneReply, ()>) {
         let mut view = view;
         let mut few = remembered.memo.known.at(time);
         let found = find_plan_near(
+            &mut remembered.memo.plan,
             &mut view,
             &mut remembered.memo.hints,
             &mut remembered.memo.fingers,
@@ -117,20 +119,20 @@ impl Work for Single {
         );
         remembered.memo.known = Shortage { time, few };
         match found {
-            Finding::Settled(reply) => (view, Decision::Settled(OneReply { reply })),
-            Finding::Open { plan, gone } => {
+            Outcome::Settled(reply) => (view, Decision::Settled(OneReply { reply })),
+            Outcome::Open(gone) => {
                 remembered.gone = gone;
                 let reply = OneReply { reply: Reply::Yes };
-                (view, Decision::Change { plan, reply })
+                (view, Decision::Change { plan: (), reply })
             }
         }
     }
 
-    fn writes(plan: &Plan) -> &[(u32, Words)] {
-        plan.writes()
+    fn writes<'a>(remembered: &'a Remembered, _plan: &'a ()) -> &'a [(u32, Words)] {
+        remembered.memo.plan.writes()
     }
 
-    fn tag(&self, _plan: &Plan) -> Tag {
+    fn tag(&self, _plan: &()) -> Tag {
         [5, 1, 0, 0]
     }
 

@@ -12,7 +12,7 @@ ghost use Rattle.set_seats.specs.Walks.{IsWalk, Writes, entries_from, entries_in
 
 use mv_history::{Section, Store, View};
 use set_blocks::BlockRules;
-use set_catalog::{Finding, Memo, Shortage, find_plan_near};
+use set_catalog::{Memo, Outcome, Shortage, find_plan_near};
 use set_script::{Command, Name, Reply};
 
 /// A key of a set, with its value.
@@ -119,8 +119,16 @@ fn ask<V: View>(view: &mut V, memo: &mut Memo, command: &Command) -> Reply
     ensures as_before { V.as_before view.old view.new }
 {
     let mut few = Shortage::unknown().few;
-    match find_plan_near(view, &mut memo.hints, &mut memo.fingers, &mut few, command) {
-        Finding::Settled(reply) => reply,
-        Finding::Open { .. } => unreachable!(),
+    let found = find_plan_near(
+        &mut memo.plan,
+        view,
+        &mut memo.hints,
+        &mut memo.fingers,
+        &mut few,
+        command,
+    );
+    match found {
+        Outcome::Settled(reply) => reply,
+        Outcome::Open(_) => unreachable!(),
     }
 }

@@ -10,7 +10,7 @@ use mv_history::{Section, Store, WORDS};
 use plain_store::PlainStore;
 use section_work::Place;
 use section_work::Place::{Commit, Read};
-use set_catalog::{Attempt, HintedStore, Hints, read_all};
+use set_catalog::{Attempt, HintedStore, Hints, Memo, read_all};
 use set_script::{Catalogue, Command, Reply, SetRules};
 use std::alloc::{AllocError, Global};
 use std::process::Abort;
@@ -190,8 +190,8 @@ static FULL: [Row; 16] = [
 ];
 
 // A store with hints, whose reads are counted.
-fn counted<S: Store<Rules = SetRules>>(view: S, hints: Hints) -> HintedStore<Counted<S>> {
-    HintedStore::new(Counted { view, reads: 0 }, hints)
+fn counted<S: Store<Rules = SetRules>>(view: S, memo: Box<Memo>) -> HintedStore<Counted<S>> {
+    HintedStore::new(Counted { view, reads: 0 }, memo)
 }
 
 // Attempts one command, which locks five objects at most, on a store with hints.
@@ -235,8 +235,8 @@ fn add_ten<S: Store<Rules = SetRules>>(
 // A plain store has one seat, so no commit of another one comes between.
 #[test]
 fn a_full_store_is_looked_through_once(rt: HostRuntime) -> Result<(), Fail> {
-    let hints = Hints::new(rt.alloc(), 0)?;
-    let store = add_ten(&rt, counted(open(rt.alloc(), 190, 100)?, hints));
+    let memo = Memo::new(rt.alloc(), 0)?;
+    let store = add_ten(&rt, counted(open(rt.alloc(), 190, 100)?, memo));
     let _store = play(&rt, store, &FULL);
     Ok(())
 }
@@ -276,8 +276,8 @@ static FINGERS: [Row; 11] = [
 // the key is.
 #[test]
 fn a_search_begins_at_a_finger(rt: HostRuntime) -> Result<(), Fail> {
-    let hints = Hints::new(rt.alloc(), 1)?;
-    let store = counted(open_long(&rt, rt.alloc())?, hints);
+    let memo = Memo::new(rt.alloc(), 1)?;
+    let store = counted(open_long(&rt, rt.alloc())?, memo);
     let _store = play(&rt, store, &FINGERS);
     Ok(())
 }
@@ -310,8 +310,8 @@ static TABLE: [Row; 7] = [
 // A table is asked bucket by bucket from the key's own on, until no bucket can have a lesser key than was found.
 #[test]
 fn a_table_is_asked_from_the_bucket_of_the_key_on(rt: HostRuntime) -> Result<(), Fail> {
-    let hints = Hints::new(rt.alloc(), 1)?;
-    let store = counted(open_table(&rt, rt.alloc())?, hints);
+    let memo = Memo::new(rt.alloc(), 1)?;
+    let store = counted(open_table(&rt, rt.alloc())?, memo);
     let _store = play(&rt, store, &TABLE);
     Ok(())
 }

@@ -32,6 +32,13 @@ impl Plan {
         }
     }
 
+    /// Empties it.
+    pub fn clear(&mut self)
+        ensures count { self.new.count ≡ 0 }
+    {
+        self.count = 0;
+    }
+
     /// The writes, in their order.
     pub fn writes(&self) -> &[(u32, Words)]
         ensures writes { result.now ≡ writes_in self.now }

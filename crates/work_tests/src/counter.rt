@@ -60,7 +60,7 @@ impl Work for Count {
 
     ghost tag_of = { λ w plan. 0 ∷ 0 ∷ 0 ∷ 0 ∷ [] };
 
-    ghost writes_of = { λ plan. plan };
+    ghost writes_of = { λ memo plan. plan };
 
     ghost knows = { λ memo s. ⊤ };
 
@@ -79,7 +79,7 @@ impl Work for Count {
         (view, Decision::Change { plan, reply })
     }
 
-    fn writes(plan: &[(u32, Words); 1]) -> &[(u32, Words)] {
+    fn writes<'a>(_memo: &'a (), plan: &'a [(u32, Words); 1]) -> &'a [(u32, Words)] {
         plan
     }
 

@@ -35,7 +35,7 @@ returns g c =
           (g.met.S.Open.Section.others_stay _ _ c.decide-section.ensures.as_before) left here c.at-time.ensures
           (worn_enters _ _ c.requires.worn e law.at law.seat.time
           ∙ ap (λ n. n == (g.S.Open.Section.section c.enter-section.result).seat.last) (sym c.at-time.ensures))
-          (c.late-reply.ensures _ c.decide-section.ensures.found);
+          (c.late-reply.ensures _ _ c.decide-section.ensures.found);
       none = leave_none _ _ _ (Continues-Continues e.seat.continues goes.continues)
           (NamesNoCommit-NamesNoCommit e.seat.continues goes.continues e.names_no_commit goes.names_no_commit) left;
       continues = Continues-Continues e.seat.continues after;

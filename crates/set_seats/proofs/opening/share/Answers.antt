@@ -5,7 +5,7 @@ use Rattle.set_seats.proofs.opening.share.Goals as goal
 
 pub invariant_of-result : goal.invariant_of-result
 invariant_of-result c = record {
-  of = subst (λ d. IsSeatOf d c.args.seat) (sym c.in-Ok.ensures) c.requires.may.of;
+  of = subst (λ d. IsSeatOf d c.args.seat) (sym c.in-Ok.ensures.share) c.requires.may.of;
   room = c.requires.may.room;
-  known = known_none _ _ c.args.seat.lawful c.of.ensures.time c.of.ensures.few;
+  known = known_none _ _ c.args.seat.lawful c.in-Ok.ensures.time c.in-Ok.ensures.few;
 }

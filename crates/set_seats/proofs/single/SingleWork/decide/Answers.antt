@@ -24,5 +24,5 @@ returns-in-Settled-clause-found g c =
 
 pub returns-in-Open-clause-found : goal.returns-in-Open-clause-found
 returns-in-Open-clause-found g c =
-    change_one c.args.self.now.command (g.V.View.state c.args.view) c.in-Open.plan c.in-Open.gone (lawful_here _ _ _ c.requires.here.1)
+    change_one c.args.self.now.command (g.V.View.state c.args.view) c.find_plan_near-found.new.plan c.in-Open.gone (lawful_here _ _ _ c.requires.here.1)
     c.in-Open.ensures.found.0 c.in-Open.ensures.found.2

@@ -58,29 +58,8 @@
 //! [`Closing`]: mvrlu::Closing
 #![tactic(auto)]
 
-mod block_scripts;
-mod blocking;
-mod finish;
-mod generated;
-mod growing;
-mod line;
-mod parsing;
-mod pooling;
 mod program;
-mod reading;
-mod replaying;
-mod running;
-mod scripts;
-mod sending;
 mod texts;
 
-pub use block_domain::run_block_domain;
-pub use block_workers::run_blocks;
-pub use command_pool::run_pool;
-pub use finish::{Closed, Ran};
-pub use grow_domain::run_grow_domain;
-pub use grow_workers::run_grow;
-pub use pool_domain::run_pool_domain;
 pub use program::run_program;
-pub use script_domain::run_domain;
-pub use script_workers::run_scripts;
+pub use run_ends::{Closed, Ran};

@@ -18,7 +18,7 @@ use Rattle.run_ends.specs.declared.finish.Finish.TheVariants.{Done, Usage, Limit
 use Rattle.run_ends.specs.declared.finish.Ran.{Ran}
 use Rattle.run_ends.specs.Sent.{Sent}
 use Rattle.run_ends.specs.Status.{IsOrMemory, closed_of, kind_status, line_of, status_of, stop_line}
-use Rattle.run_ends.proofs.Statuses.{only_reads, stopped_above}
+use Rattle.run_ends.proofs.StopStatus.{only_reads, stopped_above}
 use Rattle.run_ends.proofs.Stops.{none_left, nowhere, stops_for_memory, stops_there}
 use Rattle.mvrlu_run.specs.Outcome.{AskedCause, Cause, IsComplete, IsPrinted, IsReadFault, NeverRead, Outside, ReadsAll, ReadsSets}
 use Rattle.mvrlu_run.specs.Told.{IsTextFor, files_of, reading_of}

@@ -1,3 +1,3 @@
 pub mod SentParts
-pub mod Statuses
+pub mod StopStatus
 pub mod Stops

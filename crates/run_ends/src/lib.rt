@@ -24,9 +24,9 @@
 mod finish;
 mod line;
 mod sending;
-mod status;
+mod statuses;
 
 pub use finish::{Closed, Finish, Ran};
 pub use line::report;
 pub use sending::send;
-pub use status::{into_closed, status};
+pub use statuses::{into_closed, status};

@@ -6,7 +6,7 @@ use Rattle.script_files.specs.declared.stop.Stop.{Stop}
 use Rattle.script_files.specs.declared.stop.Stop.TheVariants.{Script, BlockScript, Plan, Bytes, Read, Memory}
 use Rattle.script_files.specs.Reading.{AreFirstTexts}
 use Rattle.script_files.specs.Scripts.{AllScripts, AnyStop, IsLong, NoScripts, NoText, Reaches, StopsAt, plans}
-use Rattle.replay_rules.specs.declared.plan.Plan.{Plan}
+use Rattle.replay_rules.specs.declared.plan.Plan.{Plan as PlanRead}
 use Rattle.replay_rules.specs.Plans.{PlanOf, plan_of}
 use Rattle.step_replay.specs.PlanTexts.{planned}
 use Rattle.script_files.proofs.FileTexts.{all_scripts, no_scripts}
@@ -39,7 +39,7 @@ module _ (t : Option Texts) (names : List (List ℕ)) (one : length names ≡ 1)
     only_plan plan parses = all_scripts planned t names (bytes ∷ []) (plan ∷ []) (sym one) is (parses, tt)
 
     -- so what is read of it is its plan, or reading stops there
-    pub only_read : (r : Result Plan Stop) (faults now : Faults)
+    pub only_read : (r : Result PlanRead Stop) (faults now : Faults)
         → MatchResult r (λ plan. planned bytes ≡ Ok (plan_of plan)) (λ stop. NoScripts stop plans (bytes ∷ []))
         → MatchResult r (λ plan. AllScripts planned t names (plan_of plan ∷ [])) (λ stop. AnyStop stop plans t names faults now)
     only_read (Ok plan) faults now parsed = only_plan (plan_of plan) parsed

@@ -1,7 +1,8 @@
 // The line on standard error. Making it takes no memory.
 ghost use Rattle.std.specs.Prelude.{◌≡◌, ◌≤◌, ◌+◌, ◌++◌, codes, length, take, decimal};
 ghost use Rattle.run_ends.specs.Sent.{Sent};
-ghost use Rattle.run_ends.specs.Status.{block_fault_end, block_fault_start, fault_end, fault_start, limit_word, line_of, plan_fault_end, plan_fault_start, stop_line};
+ghost use Rattle.run_ends.specs.Status.{block_fault_end, block_fault_start, fault_end, fault_start, limit_word, line_of};
+ghost use Rattle.run_ends.specs.Status.{plan_fault_end, plan_fault_start, stop_line};
 
 use crate::finish::Finish;
 use crate::sending::send;

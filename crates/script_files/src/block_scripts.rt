@@ -5,9 +5,9 @@ ghost use Rattle.block_parser.specs.BlockGrammar.{Refuses, parsed_blocks};
 ghost use Rattle.script_files.specs.Reading.{list_of, text_of};
 ghost use Rattle.script_files.specs.Scripts.{AllScripts, Answers, AnyStop, NoScripts, NoneFails, Parses, blocks as by_block};
 
-use crate::stop::{MOST_BYTES, Stop};
 use crate::parsing::take_values;
 use crate::reading::read_texts;
+use crate::stop::{MOST_BYTES, Stop};
 use block_parser::{BlockFault, parse_blocks};
 use run_outside::Files;
 use set_blocks::Block;

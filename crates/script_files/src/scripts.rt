@@ -6,9 +6,9 @@ ghost use Rattle.script_parser.specs.Grammar.{Refuses};
 ghost use Rattle.set_script.specs.declared.script.TheConstants.{MOST_COMMANDS};
 ghost use Rattle.script_files.specs.Scripts.{AllScripts, Answers, AnyStop, AreOf, NoScripts, NoneFails, Parses, commands as by_command, parsed_by};
 
-use crate::stop::{MOST_BYTES, Stop};
 use crate::parsing::take_values;
 use crate::reading::read_texts;
+use crate::stop::{MOST_BYTES, Stop};
 use grow_script::parse_grow;
 use run_outside::Files;
 use script_parser::{ScriptFault, parse};

@@ -22,6 +22,6 @@ returns-in-Ok-clause-stop g c =
     let only = only_one text_of c.read_texts.new.texts.items text (c.in-Ok.ensures.all ∙ c.requires.one) c.index.ensures in
     let is = subst (AreFirstTexts t names) only c.in-Ok.ensures.texts in
     let parsed = subst
-        (λ bytes. MatchResult c.parse_only.result (λ plan. planned bytes ≡ Ok (plan_of plan)) (λ stop. NoScripts stop plans (bytes ∷ [])))
-        c.deref.ensures.value c.parse_only.ensures.parsed in
+    (λ bytes. MatchResult c.parse_only.result (λ plan. planned bytes ≡ Ok (plan_of plan)) (λ stop. NoScripts stop plans (bytes ∷ [])))
+    c.deref.ensures.value c.parse_only.ensures.parsed in
     only_read t names one text.items is c.parse_only.result _ _ parsed

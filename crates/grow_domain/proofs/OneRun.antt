@@ -15,6 +15,7 @@ use Rattle.grow_report.specs.Turns.{AllRanGrow}
 use Rattle.grow_report.specs.Whole.{GrowRunOf}
 use Rattle.grow_report.proofs.Known.{all_turns}
 use Rattle.grow_report.proofs.OneRun.{grow_run_of}
+use Rattle.grow_hash.specs.Tables.{grow_levels}
 
 -- seats that ran scripts go on
 pub all_continue : (olds news : List Seat) (scripts : List (List Command)) (lines : List Line) → AllRanGrow olds news scripts lines
@@ -30,8 +31,8 @@ all_continue (o ∷ olds) (n ∷ news) (script ∷ scripts) lines ran = (ran.3.c
 
 -- The lines and tables are those of one run in the whole history.
 pub grown_met : (p : Past) (olds news : List Seat) (scripts : List (List Command)) (lines : List Line) (tables : List LogTable)
-    → IsOneHistory IsGrownOpening IsGrowCommit p (length scripts) olds news tables → AllRanGrow olds news scripts lines
-    → GrowRunOf p scripts lines (grown_catalogue (state_after p.start p.entries)) (count_splits p.entries) tables
+    → IsOneHistory (IsGrownOpening grow_levels) (IsGrowCommit grow_levels) p (length scripts) olds news tables → AllRanGrow olds news scripts lines
+    → GrowRunOf p scripts lines (grown_catalogue grow_levels (state_after p.start p.entries)) (count_splits p.entries) tables
 grown_met p olds news scripts lines tables h ran =
     let turns = all_turns p 0 olds news scripts lines h.known ran in
     grow_run_of p scripts turns.0

@@ -1,5 +1,6 @@
 // The run of scripts on a growing hash set over a domain, up to the meeting of its seats.
 ghost use Rattle.std.specs.Prelude.{◌≡◌, ◌≤◌, length, map, All, IfOk, IfErr};
+ghost use Rattle.grow_hash.specs.Tables.{grow_levels};
 ghost use Rattle.grow_hash.specs.Grown.{IsGrownOpening, grown_catalogue};
 ghost use Rattle.grow_hash.specs.GrowPlans.{IsOfGrown};
 ghost use Rattle.grow_hash.specs.Splits.{count_splits};
@@ -17,7 +18,7 @@ ghost use Rattle.domain_loan.specs.Shown.{handle_causes};
 ghost use Rattle.domain_lines.specs.Joined.{past_of_whole};
 
 use domain_loan::{lend_all, meet_all, take_back};
-use grow_hash::GrowRules;
+use grow_hash::{GROW_LEVELS, GrowRules};
 use grow_workers::run_grow;
 use mvrlu::{Closing, Domain, Seat};
 use run_outside::Gate;
@@ -47,24 +48,24 @@ use std::thread::Threads;
 pub fn run_grow_domain<R: Threads + Wait + Sync, G: Gate>(
     rt: &R,
     alloc: Global,
-    domain: Domain<GrowRules>,
-    seats: Vec<Seat<GrowRules>>,
+    domain: Domain<GrowRules<GROW_LEVELS>>,
+    seats: Vec<Seat<GrowRules<GROW_LEVELS>>>,
     scripts: &[Vec<Command>],
     gate: &G,
-) -> Result<(Closing<GrowRules>, Vec<Line>), (Domain<GrowRules>, Vec<Seat<GrowRules>>, AllocError)>
+) -> Result<(Closing<GrowRules<GROW_LEVELS>>, Vec<Line>), (Domain<GrowRules<GROW_LEVELS>>, Vec<Seat<GrowRules<GROW_LEVELS>>>, AllocError)>
     requires new { AreNewFrom domain 0 (map seat_of seats.items) }
     requires all { length seats.items ≡ (numbers_of domain).seats }
-    requires opening { IsGrownOpening (opening_of domain) }
+    requires opening { IsGrownOpening grow_levels (opening_of domain) }
     requires as_many { length scripts.now ≡ length seats.items }
     requires short { All (λ script. length script.items ≤ MOST_COMMANDS) scripts.now }
     requires growing { All (λ script. All IsOfGrown script.items) scripts.now }
     requires most { 64 ≤ (numbers_of domain).write_max }
     ensures ran { IfOk result (λ done.
-        GrowRunOf (past_of_whole (whole_of done.0)) (map items_of scripts.now) done.1.items (grown_catalogue (last_state (whole_of done.0)))
+        GrowRunOf (past_of_whole (whole_of done.0)) (map items_of scripts.now) done.1.items (grown_catalogue grow_levels (last_state (whole_of done.0)))
         (count_splits (whole_of done.0).history) (whole_of done.0).tables) }
     ensures linked { IfOk result (λ done. MetAlong
-        (λ firsts met. AllLinkedTurns (handle_causes IsGrownOpening IsGrowCommit) firsts met (map items_of scripts.now) done.1.items)
-        IsGrowCommit (numbers_of domain) (opening_of domain) (map seat_of seats.items) (whole_of done.0)) }
+        (λ firsts met. AllLinkedTurns (handle_causes (IsGrownOpening grow_levels) (IsGrowCommit grow_levels)) firsts met (map items_of scripts.now) done.1.items)
+        (IsGrowCommit grow_levels) (numbers_of domain) (opening_of domain) (map seat_of seats.items) (whole_of done.0)) }
     ensures opening { IfOk result (λ done.
         ((whole_of done.0).start ≡ opening_of domain) × ((whole_of done.0).base ≡ (numbers_of domain).base)) }
     ensures err { IfErr result (λ refused. (refused.0 ≡ domain) × (map seat_of refused.1.items ≡ map seat_of seats.items)) }
@@ -76,14 +77,14 @@ pub fn run_grow_domain<R: Threads + Wait + Sync, G: Gate>(
 }
 
 // What a run of the seats leaves: the seats and the lines; or the seats as they were.
-type FromSeats = Result<(Vec<Seat<GrowRules>>, Vec<Line>), (Vec<Seat<GrowRules>>, AllocError)>;
+type FromSeats = Result<(Vec<Seat<GrowRules<GROW_LEVELS>>>, Vec<Line>), (Vec<Seat<GrowRules<GROW_LEVELS>>>, AllocError)>;
 
 // Runs a script on each seat.
 fn run_seats<R: Threads + Wait + Sync, G: Gate>(
     rt: &R,
     alloc: Global,
-    domain: &Domain<GrowRules>,
-    seats: Vec<Seat<GrowRules>>,
+    domain: &Domain<GrowRules<GROW_LEVELS>>,
+    seats: Vec<Seat<GrowRules<GROW_LEVELS>>>,
     scripts: &[Vec<Command>],
     gate: &G,
 ) -> FromSeats
@@ -93,7 +94,7 @@ fn run_seats<R: Threads + Wait + Sync, G: Gate>(
     requires growing { All (λ script. All IsOfGrown script.items) scripts.now }
     requires most { 64 ≤ (numbers_of domain.now).write_max }
     ensures ran { IfOk result (λ done. AllRanGrow (map seat_of seats.items) (map seat_of done.0.items) (map items_of scripts.now) done.1.items) }
-    ensures linked { IfOk result (λ done. AllLinkedTurns (handle_causes IsGrownOpening IsGrowCommit) (map seat_of seats.items) (map seat_of done.0.items)
+    ensures linked { IfOk result (λ done. AllLinkedTurns (handle_causes (IsGrownOpening grow_levels) (IsGrowCommit grow_levels)) (map seat_of seats.items) (map seat_of done.0.items)
         (map items_of scripts.now) done.1.items) }
     ensures err { IfErr result (λ refused. map seat_of refused.0.items ≡ map seat_of seats.items) }
 {

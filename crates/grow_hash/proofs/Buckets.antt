@@ -1,7 +1,7 @@
 -- The bucket of a key, and what a split does to it.
 use Rattle.std.proofs.lemmas.Nat.{mod-mul-add}
-use Rattle.std.proofs.Common.{◌≡◌, ◌≢◌, ◌+◌, ◌*◌, ◌/◌, ◌-◌, ◌%◌, ◌<◌, ◌≤◌, ◌⊎◌, ℕ, zero, suc, inl, inr, cond, Bool, sym, ap, ◌∙◌, arith, lt-ltb, le-ltb, mod-lt}
-use Rattle.grow_hash.proofs.Terms.{cases_lt, div-add-mod, buckets_at, bucket_of}
+use Rattle.std.proofs.Common.{◌≡◌, ◌≢◌, ◌+◌, ◌*◌, ◌/◌, ◌-◌, ◌%◌, ◌^◌, ◌<◌, ◌≤◌, ◌⊎◌, ℕ, zero, suc, inl, inr, cond, Bool, sym, ap, ◌∙◌, arith, lt-ltb, le-ltb, mod-lt}
+use Rattle.grow_hash.proofs.Terms.{cases_lt, div-add-mod, pow-add, grow_levels, most_levels, most_level, most_buckets, buckets_at, bucket_of}
 
 -- there are some buckets
 pub some_buckets : (level : ℕ) → 16 ≤ buckets_at level
@@ -12,19 +12,39 @@ some_buckets (suc level) = let r : 16 ≤ buckets_at level = some_buckets level 
 pub twice_buckets : (level : ℕ) → buckets_at (suc level) ≡ buckets_at level + buckets_at level
 twice_buckets level = omega arith
 
--- up to level 6 there are 1024 at most
-pub few_buckets : (level : ℕ) → level ≤ 6 → buckets_at level ≤ 1024
-few_buckets zero le = omega arith
-few_buckets (suc zero) le = omega arith
-few_buckets (suc (suc zero)) le = omega arith
-few_buckets (suc (suc (suc zero))) le = omega arith
-few_buckets (suc (suc (suc (suc zero)))) le = omega arith
-few_buckets (suc (suc (suc (suc (suc zero))))) le = omega arith
-few_buckets (suc (suc (suc (suc (suc (suc zero)))))) le = omega arith
-few_buckets (suc (suc (suc (suc (suc (suc (suc level))))))) le = absurd (omega arith)
+-- so a later level has no fewer
+later_buckets : (level n : ℕ) → buckets_at level ≤ buckets_at (level + n)
+later_buckets level zero = let e : level + 0 ≡ level = omega arith in omega (arith, ap buckets_at e)
+later_buckets level (suc n) =
+    let r : buckets_at level ≤ buckets_at (level + n) = later_buckets level n in
+    let e : level + suc n ≡ suc (level + n) = omega arith in
+    let q : buckets_at (level + suc n) ≡ buckets_at (suc (level + n)) = ap buckets_at e in omega arith
 
-pub more_buckets : (level : ℕ) → level < 6 → buckets_at (suc level) ≤ 1024
-more_buckets level lt = few_buckets (suc level) (omega arith)
+-- the last one has them all
+pub last_buckets : (levels : ℕ) → grow_levels ≤ levels → most_buckets levels ≡ buckets_at (most_level levels)
+last_buckets levels least =
+    let e : 4 + (levels - 4) ≡ levels = omega arith in
+    ap (λ n. 2 ^ n) (sym e) ∙ pow-add 2 4 (levels - 4)
+
+-- up to the last level there are no more
+pub few_buckets : (levels level : ℕ) → grow_levels ≤ levels → level ≤ most_level levels → buckets_at level ≤ most_buckets levels
+few_buckets levels level least le =
+    let e : level + (most_level levels - level) ≡ most_level levels = omega arith in
+    let q : buckets_at (level + (most_level levels - level)) ≡ buckets_at (most_level levels) = ap buckets_at e in
+    let r : buckets_at level ≤ buckets_at (level + (most_level levels - level)) = later_buckets level (most_level levels - level) in
+    let last : most_buckets levels ≡ buckets_at (most_level levels) = last_buckets levels least in omega arith
+
+pub more_buckets : (levels level : ℕ) → grow_levels ≤ levels → level < most_level levels → buckets_at (suc level) ≤ most_buckets levels
+more_buckets levels level least lt = few_buckets levels (suc level) least (omega arith)
+
+-- there are 1,024 heads at least, and 1,048,576 at most
+pub many_heads : (levels : ℕ) → grow_levels ≤ levels → 1024 ≤ most_buckets levels
+many_heads levels least = few_buckets levels 6 least (omega arith)
+
+pub few_heads : (levels : ℕ) → grow_levels ≤ levels → levels ≤ most_levels → most_buckets levels ≤ 1048576
+few_heads levels least most =
+    let last : most_buckets levels ≡ buckets_at (most_level levels) = last_buckets levels least in
+    let r : buckets_at (most_level levels) ≤ most_buckets 20 = few_buckets 20 (most_level levels) (omega arith) (omega arith) in omega arith
 
 -- a key's bucket, where its remainder is before the split place, and else
 pub bucket_split : (level place key : ℕ) → key % buckets_at level < place → bucket_of level place key ≡ key % buckets_at (suc level)
@@ -34,20 +54,21 @@ pub bucket_whole : (level place key : ℕ) → place ≤ key % buckets_at level 
 bucket_whole level place key le = ap (λ (b : Bool). cond b (key % buckets_at (suc level)) (key % buckets_at level)) (le-ltb (key % buckets_at level) place le)
 
 -- each bucket has a head
-pub bucket_in : (level place key : ℕ) → level ≤ 6 → (level ≡ 6 → place ≡ 0) → bucket_of level place key < 1024
-bucket_in level place key le whole = go (cases_lt (key % buckets_at level) place)
+pub bucket_in : (levels level place key : ℕ) → grow_levels ≤ levels → level ≤ most_level levels → (level ≡ most_level levels → place ≡ 0)
+    → bucket_of level place key < most_buckets levels
+bucket_in levels level place key least le whole = go (cases_lt (key % buckets_at level) place)
   where
-    go : (key % buckets_at level < place) ⊎ (place ≤ key % buckets_at level) → bucket_of level place key < 1024
+    go : (key % buckets_at level < place) ⊎ (place ≤ key % buckets_at level) → bucket_of level place key < most_buckets levels
     go (inr ge) =
         let e = bucket_whole level place key ge in
         let some : 16 ≤ buckets_at level = some_buckets level in
-        let few : buckets_at level ≤ 1024 = few_buckets level le in
+        let few : buckets_at level ≤ most_buckets levels = few_buckets levels level least le in
         let lt : key % buckets_at level < buckets_at level = mod-lt key (omega arith) in omega arith
     go (inl lt) =
         let e = bucket_split level place key lt in
-        let n : level ≢ 6 = λ z. let q : place ≡ 0 = whole z in omega arith in
+        let n : level ≢ most_level levels = λ z. let q : place ≡ 0 = whole z in omega arith in
         let some : 16 ≤ buckets_at (suc level) = some_buckets (suc level) in
-        let few : buckets_at (suc level) ≤ 1024 = few_buckets (suc level) (omega arith) in
+        let few : buckets_at (suc level) ≤ most_buckets levels = few_buckets levels (suc level) least (omega arith) in
         let small : key % buckets_at (suc level) < buckets_at (suc level) = mod-lt key (omega arith) in omega arith
 
 -- A split of one bucket leaves the keys of the others where they are.

@@ -1,7 +1,7 @@
 -- The catalogue of a growing hash set, node by node from the last one.
 use Rattle.set_script.specs.CatalogueOf.{map_among}
 use Rattle.std.proofs.Common.{◌≡◌, ◌≢◌, ◌-◌, ◌^◌, ◌<◌, ◌≤◌, ◌∷◌, ℕ, zero, suc, Bool, cond, List, [], length, drop, set, refl, sym, ap, ◌∙◌, subst, arith}
-use Rattle.grow_hash.proofs.Terms.{State, words_at, Map, Maps, empty, map_of, put, owner, key, word, bucket, IsGrown, is_used, grown_name}
+use Rattle.grow_hash.proofs.Terms.{State, words_at, Map, Maps, empty, map_of, put, owner, key, word, bucket, IsGrown, is_used, grown_name, first_grown}
 use Rattle.grow_hash.proofs.GrownMaps.{used_owned, used_vacant}
 use Rattle.grow_hash.proofs.GrownStates.{bucket_low, node_of_bucket}
 
@@ -33,7 +33,7 @@ reads_none s n all e none =
     none ∙ sym (ap (λ (m : Map). set empty grown_name m) (ap (λ i. map_among is_used (drop i s)) e ∙ ap (map_among is_used) (drop_none s) ∙ map_none))
 
 -- what is read of one more node
-module _ (s t : State) (o : ℕ) (words : List ℕ) (l : IsGrown s) (same : t ≡ s) (lo : 1025 < o) (le : o ≤ length s)
+module _ (levels : ℕ) (s t : State) (o : ℕ) (words : List ℕ) (l : IsGrown levels s) (same : t ≡ s) (lo : first_grown levels < o) (le : o ≤ length s)
     (read : words ≡ words_at t (o - 1)) where
   here : words ≡ words_at s (o - 1)
   here = read ∙ ap (λ (u : State). words_at u (o - 1)) same
@@ -47,7 +47,7 @@ module _ (s t : State) (o : ℕ) (words : List ℕ) (l : IsGrown s) (same : t �
   key_fits some =
       let own : owner s (o - 1) ≢ 0 = λ z. some (ap (word 0) here ∙ z) in
       let fits : key s (o - 1) < 2 ^ 32 =
-      (l.lists (bucket s (key s (o - 1))) (bucket_low s l (key s (o - 1)))).fits (o - 1) (node_of_bucket s l (o - 1) (omega arith) own) in
+      (l.lists (bucket levels s (key s (o - 1))) (bucket_low levels s l (key s (o - 1)))).fits (o - 1) (node_of_bucket levels s l (o - 1) (omega arith) own) in
       subst (λ n. n < 2 ^ 32) (sym (ap (word 2) here)) fits
 
   pub reads_more : (old new : Maps) → word 0 words ≢ 0 → HasFrom s o old
@@ -66,5 +66,5 @@ module _ (s t : State) (o : ℕ) (words : List ℕ) (l : IsGrown s) (same : t �
       (used_vacant words vacant)))
 
 -- all nodes were read
-pub reads_all : (s : State) (o : ℕ) (all : Maps) → o ≡ 1025 → HasFrom s o all → all ≡ set empty grown_name (map_among is_used (drop 1025 s))
-reads_all s o all e h = subst (λ i. HasFrom s i all) e h
+pub reads_all : (levels : ℕ) (s : State) (o : ℕ) (all : Maps) → o ≡ first_grown levels → HasFrom s o all → all ≡ set empty grown_name (map_among is_used (drop (first_grown levels) s))
+reads_all levels s o all e h = subst (λ i. HasFrom s i all) e h

@@ -5,14 +5,16 @@ use Rattle.grow_hash.proofs.Terms.{level, split_place, buckets_at, bucket_of, bu
 use Rattle.grow_hash.proofs.Buckets.{few_buckets, more_buckets, twice_buckets}
 use Rattle.grow_hash.proofs.GrownStates.{bucket_low}
 use Rattle.set_script.specs.Objects.{most_objects}
+use Rattle.grow_hash.proofs.Terms.{most_buckets, most_level, most_levels, hash}
 
 -- the table that was read
-module _ (s : State) (lev pl : ℕ) (l : IsGrown s) (el : lev ≡ level s) (ep : pl ≡ split_place s) where
-  pub head_read : (k b : ℕ) → b ≡ bucket_of lev pl k → b + 1 ≡ head_of s k
-  head_read k b e = omega (arith, e ∙ ap (λ u. bucket_of u pl k) el ∙ ap (λ u. bucket_of (level s) u k) ep)
+module _ (levels : ℕ) (s : State) (lev pl : ℕ) (l : IsGrown levels s) (el : lev ≡ level s) (ep : pl ≡ split_place s) where
+  pub head_read : (k h b : ℕ) → h ≡ hash levels k → b ≡ bucket_of lev pl h → b + 1 ≡ head_of levels s k
+  head_read k h b q e =
+      omega (arith, e ∙ ap (λ u. bucket_of u pl h) el ∙ ap (λ u. bucket_of (level s) u h) ep ∙ ap (bucket_of (level s) (split_place s)) q)
 
-  pub level_read : lev ≤ 6
-  level_read = let x = l.table.level_in in omega arith
+  pub level_low : lev ≤ most_level most_levels
+  level_low = let x = l.table.level_in in let y = l.most in omega arith
 
   pub place_read : pl < buckets_at lev
   place_read = subst (λ u. u < buckets_at lev) (sym ep) (subst (λ u. split_place s < buckets_at u) (sym el) l.table.place_in)
@@ -20,32 +22,32 @@ module _ (s : State) (lev pl : ℕ) (l : IsGrown s) (el : lev ≡ level s) (ep :
   pub buckets_read : (n : ℕ) → n ≡ buckets_at lev + pl → n ≡ buckets s
   buckets_read n e = e ∙ ap (λ u. buckets_at u + pl) el ∙ ap (λ u. buckets_at (level s) + u) ep
 
--- there are 1024 buckets at most
-pub buckets_low : (s : State) → IsGrown s → buckets s ≤ 1024
-buckets_low s l = elim (cases_eq (level s) 6) [
-  | inl e ↦ (let z : split_place s ≡ 0 = l.table.whole e in let n : buckets_at (level s) ≤ 1024 = few_buckets (level s) l.table.level_in in omega arith)
+-- there are no more buckets than heads
+pub buckets_low : (levels : ℕ) (s : State) → IsGrown levels s → buckets s ≤ most_buckets levels
+buckets_low levels s l = elim (cases_eq (level s) (most_level levels)) [
+  | inl e ↦ (let z : split_place s ≡ 0 = l.table.whole e in let n : buckets_at (level s) ≤ most_buckets levels = few_buckets levels (level s) l.least l.table.level_in in omega arith)
   | inr n ↦ (let x = l.table.level_in in let p : split_place s < buckets_at (level s) = l.table.place_in in
-      let m : buckets_at (suc (level s)) ≤ 1024 = more_buckets (level s) (omega arith) in
+      let m : buckets_at (suc (level s)) ≤ most_buckets levels = more_buckets levels (level s) l.least (omega arith) in
       let t : buckets_at (suc (level s)) ≡ buckets_at (level s) + buckets_at (level s) = twice_buckets (level s) in omega arith)
 ]
 
 -- the head that was found has its list
-pub linked_found : (s t : State) (h k : ℕ) → IsGrown s → t ≡ s → h ≡ head_of s k → IsLinked t h
-linked_found s t h k l same e =
-    subst (λ u. IsLinked u h) (sym same) (subst (IsLinked s) (sym e) (l.lists (bucket s k) (bucket_low s l k)))
+pub linked_found : (levels : ℕ) (s t : State) (h k : ℕ) → IsGrown levels s → t ≡ s → h ≡ head_of levels s k → IsLinked t h
+linked_found levels s t h k l same e =
+    subst (λ u. IsLinked u h) (sym same) (subst (IsLinked s) (sym e) (l.lists (bucket levels s k) (bucket_low levels s l k)))
 
 -- so has each of the table's
-pub linked_bucket : (s t : State) (b : ℕ) → IsGrown s → t ≡ s → b < buckets s → IsLinked t (b + 1)
-linked_bucket s t b l same lt =
+pub linked_bucket : (levels : ℕ) (s t : State) (b : ℕ) → IsGrown levels s → t ≡ s → b < buckets s → IsLinked t (b + 1)
+linked_bucket levels s t b l same lt =
     let h : suc b ≡ b + 1 = omega arith in
-    subst (λ u. IsLinked u (b + 1)) (sym same) (subst (IsLinked s) h (l.lists b (let x = buckets_low s l in omega arith)))
+    subst (λ u. IsLinked u (b + 1)) (sym same) (subst (IsLinked s) h (l.lists b (let x = buckets_low levels s l in omega arith)))
 
-pub few_found : (s t : State) → IsGrown s → t ≡ s → length t ≤ most_objects
-few_found s t l same = subst (λ u. length u ≤ most_objects) (sym same) l.few
+pub few_found : (levels : ℕ) (s t : State) → IsGrown levels s → t ≡ s → length t ≤ most_objects
+few_found levels s t l same = subst (λ u. length u ≤ most_objects) (sym same) l.few
 
-pub spot_found : (s t : State) (h k p : ℕ) (words : List ℕ) (node : ℕ) (node_words : List ℕ) → t ≡ s → h ≡ head_of s k → IsSpot t h k p words node node_words
-    → IsSpot s (head_of s k) k p words node node_words
-spot_found s t h k p words node node_words same e i =
+pub spot_found : (levels : ℕ) (s t : State) (h k p : ℕ) (words : List ℕ) (node : ℕ) (node_words : List ℕ) → t ≡ s → h ≡ head_of levels s k → IsSpot t h k p words node node_words
+    → IsSpot s (head_of levels s k) k p words node node_words
+spot_found levels s t h k p words node node_words same e i =
     subst (λ u. IsSpot s u k p words node node_words) e (subst (λ u. IsSpot u h k p words node node_words) same i)
 
 pub next_found : (s t : State) (k b : ℕ) (r : Option ℕ) → t ≡ s → r ≡ next_key k (map_at t (b + 1)) → r ≡ next_key k (map_at s (head_at b))

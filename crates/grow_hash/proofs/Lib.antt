@@ -1,5 +1,6 @@
 pub mod Terms
 pub mod Buckets
+pub mod MixedKeys
 pub mod KeptLists
 pub mod LinkedAdds
 pub mod LinkedDels
@@ -17,4 +18,5 @@ pub mod Sizes
 pub mod NextKeys
 pub mod Finding
 pub mod CatalogueReads
+pub mod AsGrown
 pub mod attempts

@@ -2,11 +2,12 @@
 use Rattle.std.proofs.Common.{◌≡◌, ◌≢◌, ◌+◌, ◌<◌, ◌≤◌, ◌&&◌, ◌∷◌, ℕ, zero, suc, inl, inr, Bool, true, false, cond, nat_lt, List, [], length, drop, refl, sym}
 use Rattle.grow_hash.proofs.Terms.{ap, ◌∙◌, subst, arith, length-drop, lt-ltb, get_or-drop, cases_eq, cases_lt, nat_tests, State, words_at, is_key_at, map_at}
 use Rattle.grow_hash.proofs.Terms.{owner, kind, key, word, tally, tally-none, tally-bound, tally-same, length-map_among, node_at, keys_counted, level}
-use Rattle.grow_hash.proofs.Terms.{split_place, bucket, buckets, IsGrown, head_at, is_used, grown_map}
-use Rattle.grow_hash.proofs.Buckets.{bucket_present}
+use Rattle.grow_hash.proofs.Terms.{split_place, bucket, buckets, IsGrown, head_at, is_used, grown_map, most_buckets, first_grown, hash}
+use Rattle.grow_hash.proofs.Buckets.{bucket_present, many_heads}
 use Rattle.grow_hash.proofs.GrownMaps.{used-from, used_vacant}
 use Rattle.grow_hash.proofs.GrownStates.{low_unowned, key_once}
 use Rattle.set_script.specs.Objects.{most_objects}
+use Rattle.std.proofs.Common.{◌-◌}
 
 -- where a test picks what one of two others does, and no object is picked by both
 tally-add : (t u v : List ℕ → Bool) (s : State)
@@ -32,18 +33,22 @@ tally-drop test (suc n) a s f =
     ∙ tally-drop test n (suc a) s (λ i lo lt. f i (omega arith) (omega arith))
     ∙ ap (λ i. tally test (drop i s)) (omega arith)
 
-module _ (s : State) (l : IsGrown s) where
+module _ (levels : ℕ) (s : State) (l : IsGrown levels s) where
   -- the keys of the set are those of the objects in use
-  pub set_counted : length (grown_map s) ≡ tally is_used (drop 1025 s)
-  set_counted = length-map_among is_used (drop 1025 s) (λ i j a b e.
-      (let x : words_at (drop 1025 s) i ≡ words_at s (1025 + i) = get_or-drop 1025 s i [] in
-      let y : words_at (drop 1025 s) j ≡ words_at s (1025 + j) = get_or-drop 1025 s j [] in
-      let q : 1025 + i ≡ 1025 + j = key_once s l (1025 + i) (1025 + j) (key s (1025 + j))
-      (record { node = omega arith; owned = used-from (words_at s (1025 + i)) (ap is_used (sym x) ∙ a); key_is = ap (word 2) (sym x) ∙ e ∙ ap (word 2) y })
-      (record { node = omega arith; owned = used-from (words_at s (1025 + j)) (ap is_used (sym y) ∙ b); key_is = refl }) in omega arith))
+  pub set_counted : length (grown_map levels s) ≡ tally is_used (drop (first_grown levels) s)
+  set_counted = length-map_among is_used (drop (first_grown levels) s) (λ i j a b e.
+      (let x : words_at (drop (first_grown levels) s) i ≡ words_at s (first_grown levels + i) = get_or-drop (first_grown levels) s i [] in
+      let y : words_at (drop (first_grown levels) s) j ≡ words_at s (first_grown levels + j) = get_or-drop (first_grown levels) s j [] in
+      let q : first_grown levels + i ≡ first_grown levels + j = key_once levels s l (first_grown levels + i) (first_grown levels + j) (key s (first_grown levels + j))
+      (record { node = omega arith; owned = used-from (words_at s (first_grown levels + i)) (ap is_used (sym x) ∙ a); key_is = ap (word 2) (sym x) ∙ e ∙ ap (word 2) y })
+      (record { node = omega arith; owned = used-from (words_at s (first_grown levels + j)) (ap is_used (sym y) ∙ b); key_is = refl }) in omega arith))
 
-  all_counted : length (grown_map s) ≡ tally is_used (drop 180 s)
-  all_counted = set_counted ∙ sym (tally-drop is_used 845 180 s (λ i lo lt _. used_vacant (words_at s i) (low_unowned s l i (omega arith))))
+  all_counted : length (grown_map levels s) ≡ tally is_used (drop 180 s)
+  all_counted =
+      let many : 1024 ≤ most_buckets levels = many_heads levels l.least in
+      let heads : 180 + (first_grown levels - 180) ≡ first_grown levels = omega arith in
+      set_counted ∙ ap (λ i. tally is_used (drop i s)) (sym heads)
+      ∙ sym (tally-drop is_used (first_grown levels - 180) 180 s (λ i lo lt _. used_vacant (words_at s i) (low_unowned levels s l i (omega arith))))
 
 -- whether these are the words of a node of the first buckets
 abbrev pub in_first : ℕ → List ℕ → Bool
@@ -53,14 +58,14 @@ in_first b w = is_used w && nat_lt (word 0 w) (b + 2)
 abbrev pub CountsFirst : State → ℕ → ℕ → Type 0
 CountsFirst s b n = n ≡ tally (in_first b) (drop 180 s)
 
-module _ (s : State) (l : IsGrown s) where
+module _ (levels : ℕ) (s : State) (l : IsGrown levels s) where
   -- what is known of an object by its owner
   node_known : (i : ℕ) → owner s i ≢ 0 → (kind s i ≡ 0) × (2 ≤ owner s i) × (owner s i < buckets s + 2)
   node_known i some =
-      let hi : 1025 ≤ i = elim (cases_lt i 1025) [ inl lt ↦ absurd (some (low_unowned s l i lt)) | inr ge ↦ ge ] in
+      let hi : first_grown levels ≤ i = elim (cases_lt i (first_grown levels)) [ inl lt ↦ absurd (some (low_unowned levels s l i lt)) | inr ge ↦ ge ] in
       let w = l.nodes i hi some in
-      let own : owner s i ≡ suc (head_at (bucket s (key s i))) = ap (word 0) w in
-      let lt : bucket s (key s i) < buckets s = bucket_present (level s) (split_place s) (key s i) in
+      let own : owner s i ≡ suc (head_at (bucket levels s (key s i))) = ap (word 0) w in
+      let lt : bucket levels s (key s i) < buckets s = bucket_present (level s) (split_place s) (hash levels (key s i)) in
       (ap (word 1) w, omega arith, omega arith)
 
   first_none : tally (in_first 0) (drop 180 s) ≡ 0
@@ -95,7 +100,7 @@ module _ (s : State) (l : IsGrown s) where
   pub first_start : CountsFirst s 0 0
   first_start = sym first_none
 
-  pub first_step : (t : State) (b n m : ℕ) → b < 1024 → t ≡ s → CountsFirst s b n → m ≡ length (map_at t (b + 1)) → CountsFirst s (b + 1) (n + m)
+  pub first_step : (t : State) (b n m : ℕ) → b < most_buckets levels → t ≡ s → CountsFirst s b n → m ≡ length (map_at t (b + 1)) → CountsFirst s (b + 1) (n + m)
   first_step t b n m lt same c e =
       let h : b + 1 ≡ suc b = omega arith in
       let own : m ≡ tally (is_key_at (head_at b)) (drop 180 s) =
@@ -107,5 +112,5 @@ module _ (s : State) (l : IsGrown s) where
   first_fits b n c =
       let most = tally-bound (in_first b) (drop 180 s) in let size = length-drop 180 s in let few = l.few in omega arith
 
-  pub first_end : (b n : ℕ) → b ≡ buckets s → CountsFirst s b n → n ≡ length (grown_map s)
-  first_end b n e c = c ∙ ap (λ u. tally (in_first u) (drop 180 s)) e ∙ first_all ∙ sym (all_counted s l)
+  pub first_end : (b n : ℕ) → b ≡ buckets s → CountsFirst s b n → n ≡ length (grown_map levels s)
+  first_end b n e c = c ∙ ap (λ u. tally (in_first u) (drop 180 s)) e ∙ first_all ∙ sym (all_counted levels s l)

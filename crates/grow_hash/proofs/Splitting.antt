@@ -6,6 +6,7 @@ use Rattle.grow_hash.proofs.Terms.{words_at, state_after-append, word, level, sp
 use Rattle.grow_hash.proofs.Terms.{IsTable, IsGrown, IsGrownOpening, Growing, makes, splits, growing_of, Grows, IsGrowCommit, is_splitting, count_splits}
 use Rattle.grow_hash.proofs.Buckets.{some_buckets, twice_buckets, bucket_split, bucket_whole, bucket_next, bucket_level}
 use Rattle.grow_hash.proofs.GrownOpenings.{grown_opening}
+use Rattle.grow_hash.proofs.Terms.{hash, most_level}
 
 -- the next table is that of the next level, or of the next place
 pub next_level : (level place : ℕ) → suc place ≡ buckets_at level → next_table level place ≡ table_words (suc level) 0
@@ -15,39 +16,40 @@ pub next_place : (level place : ℕ) → suc place ≢ buckets_at level → next
 next_place level place n = ap (λ (b : Bool). cond b (table_words (suc level) 0) (table_words level (suc place))) (ne_eqb (suc place) (buckets_at level) n)
 
 -- A split leaves the keys of other buckets where they are.
-pub bucket_apart : (s s' : State) (k : ℕ) → words_at s' 0 ≡ next_table (level s) (split_place s) → bucket s k ≢ split_place s
-    → bucket s' k ≡ bucket s k
-bucket_apart s s' k e n = elim (cases_eq (suc (split_place s)) (buckets_at (level s))) [
-  | inl q ↦ ap (λ w. bucket_of (word 2 w) (word 3 w) k) (e ∙ next_level (level s) (split_place s) q)
-      ∙ bucket_level (level s) k ∙ ap (λ p. bucket_of (level s) p k) (sym q) ∙ bucket_next (level s) (split_place s) k n
-  | inr q ↦ ap (λ w. bucket_of (word 2 w) (word 3 w) k) (e ∙ next_place (level s) (split_place s) q) ∙ bucket_next (level s) (split_place s) k n
+pub bucket_apart : (levels : ℕ) (s s' : State) (k : ℕ) → words_at s' 0 ≡ next_table (level s) (split_place s) → bucket levels s k ≢ split_place s
+    → bucket levels s' k ≡ bucket levels s k
+bucket_apart levels s s' k e n = elim (cases_eq (suc (split_place s)) (buckets_at (level s))) [
+  | inl q ↦ ap (λ w. bucket_of (word 2 w) (word 3 w) (hash levels k)) (e ∙ next_level (level s) (split_place s) q)
+      ∙ bucket_level (level s) (hash levels k) ∙ ap (λ p. bucket_of (level s) p (hash levels k)) (sym q) ∙ bucket_next (level s) (split_place s) (hash levels k) n
+  | inr q ↦ ap (λ w. bucket_of (word 2 w) (word 3 w) (hash levels k)) (e ∙ next_place (level s) (split_place s) q)
+      ∙ bucket_next (level s) (split_place s) (hash levels k) n
 ]
 
 -- It parts the keys of its own by twice as many buckets.
-pub bucket_parted : (s s' : State) (k : ℕ) → words_at s' 0 ≡ next_table (level s) (split_place s) → k % buckets_at (level s) ≡ split_place s
-    → bucket s' k ≡ k % buckets_at (suc (level s))
-bucket_parted s s' k e home = elim (cases_eq (suc (split_place s)) (buckets_at (level s))) [
-  | inl q ↦ ap (λ w. bucket_of (word 2 w) (word 3 w) k) (e ∙ next_level (level s) (split_place s) q) ∙ bucket_whole (suc (level s)) 0 k (omega arith)
-  | inr q ↦ ap (λ w. bucket_of (word 2 w) (word 3 w) k) (e ∙ next_place (level s) (split_place s) q)
-      ∙ bucket_split (level s) (suc (split_place s)) k (omega arith)
+pub bucket_parted : (levels : ℕ) (s s' : State) (k : ℕ) → words_at s' 0 ≡ next_table (level s) (split_place s) → hash levels k % buckets_at (level s) ≡ split_place s
+    → bucket levels s' k ≡ hash levels k % buckets_at (suc (level s))
+bucket_parted levels s s' k e home = elim (cases_eq (suc (split_place s)) (buckets_at (level s))) [
+  | inl q ↦ ap (λ w. bucket_of (word 2 w) (word 3 w) (hash levels k)) (e ∙ next_level (level s) (split_place s) q) ∙ bucket_whole (suc (level s)) 0 (hash levels k) (omega arith)
+  | inr q ↦ ap (λ w. bucket_of (word 2 w) (word 3 w) (hash levels k)) (e ∙ next_place (level s) (split_place s) q)
+      ∙ bucket_split (level s) (suc (split_place s)) (hash levels k) (omega arith)
 ]
 
 -- The table stays in range.
-pub table_splits : (s s' : State) → words_at s' 0 ≡ next_table (level s) (split_place s) → level s < 6 → IsTable s → IsTable s'
-table_splits s s' e below t = elim (cases_eq (suc (split_place s)) (buckets_at (level s))) [
+pub table_splits : (levels : ℕ) (s s' : State) → words_at s' 0 ≡ next_table (level s) (split_place s) → level s < most_level levels → IsTable levels s → IsTable levels s'
+table_splits levels s s' e below t = elim (cases_eq (suc (split_place s)) (buckets_at (level s))) [
   | inl q ↦ by_words (suc (level s)) 0 (e ∙ next_level (level s) (split_place s) q) (omega arith)
       (let some = some_buckets (suc (level s)) in omega arith) (λ _. refl)
   | inr q ↦ by_words (level s) (suc (split_place s)) (e ∙ next_place (level s) (split_place s) q) (omega arith)
       (let x = t.place_in in omega arith) (λ z. absurd (omega arith))
 ]
   where
-    by_words : (level place : ℕ) → words_at s' 0 ≡ table_words level place → level ≤ 6 → place < buckets_at level → (level ≡ 6
-        → place ≡ 0) → IsTable s'
+    by_words : (level place : ℕ) → words_at s' 0 ≡ table_words level place → level ≤ most_level levels → place < buckets_at level → (level ≡ most_level levels
+        → place ≡ 0) → IsTable levels s'
     by_words level place w a b c = record {
       words = w ∙ sym (ap (λ u. table_words (word 2 u) (word 3 u)) w);
-      level_in = subst (λ u. word 2 u ≤ 6) (sym w) a;
+      level_in = subst (λ u. word 2 u ≤ most_level levels) (sym w) a;
       place_in = subst (λ u. word 3 u < buckets_at (word 2 u)) (sym w) b;
-      whole = subst (λ u. word 2 u ≡ 6 → word 3 u ≡ 0) (sym w) c;
+      whole = subst (λ u. word 2 u ≡ most_level levels → word 3 u ≡ 0) (sym w) c;
     }
 
 -- and has no owner
@@ -65,45 +67,45 @@ bucket_more s s' e = elim (cases_eq (suc (split_place s)) (buckets_at (level s))
   | inr q ↦ ap (λ w. buckets_at (word 2 w) + word 3 w) (e ∙ next_place (level s) (split_place s) q) ∙ omega arith
 ]
 
-commit_buckets : (g : Option Growing) (s s' : State) (ws : Writes) → Grows g s s' ws → buckets s' ≡ cond (is_splitting g) 1 0 + buckets s
-commit_buckets None s s' ws w = absurd w
-commit_buckets (Some (makes command)) s s' ws w = ap (λ u. buckets_at (word 2 u) + word 3 u) w.table ∙ omega arith
-commit_buckets (Some (splits place)) s s' ws w = bucket_more s s' w.table ∙ omega arith
+commit_buckets : (levels : ℕ) (g : Option Growing) (s s' : State) (ws : Writes) → Grows levels g s s' ws → buckets s' ≡ cond (is_splitting g) 1 0 + buckets s
+commit_buckets levels None s s' ws w = absurd w
+commit_buckets levels (Some (makes command)) s s' ws w = ap (λ u. buckets_at (word 2 u) + word 3 u) w.table ∙ omega arith
+commit_buckets levels (Some (splits place)) s s' ws w = bucket_more s s' w.table ∙ omega arith
 
-lawful_on : (start : State) (front es : List Entry) → IsGrown (state_after start front) → IsAllowed IsGrowCommit start (front ++ es)
-    → IsGrown (state_after start (front ++ es))
-lawful_on start front [] l h = rw append-nil l
-lawful_on start front (Rest by ∷ es) l h =
-    let step : IsGrown (state_after start (front ++ Rest by ∷ [])) = rw state_after-append l in
-    let more = lawful_on start (front ++ Rest by ∷ []) es step (rw append_assoc h) in
+lawful_on : (levels : ℕ) (start : State) (front es : List Entry) → IsGrown levels (state_after start front) → IsAllowed (IsGrowCommit levels) start (front ++ es)
+    → IsGrown levels (state_after start (front ++ es))
+lawful_on levels start front [] l h = rw append-nil l
+lawful_on levels start front (Rest by ∷ es) l h =
+    let step : IsGrown levels (state_after start (front ++ Rest by ∷ [])) = rw state_after-append l in
+    let more = lawful_on levels start (front ++ Rest by ∷ []) es step (rw append_assoc h) in
     rw append_assoc at more
-lawful_on start front (Change c ∷ es) l h =
-    let step : IsGrown (state_after start (front ++ Change c ∷ [])) = rw state_after-append ((h front es c refl).keeps.lawful_after) in
-    let more = lawful_on start (front ++ Change c ∷ []) es step (rw append_assoc h) in
+lawful_on levels start front (Change c ∷ es) l h =
+    let step : IsGrown levels (state_after start (front ++ Change c ∷ [])) = rw state_after-append ((h front es c refl).keeps.lawful_after) in
+    let more = lawful_on levels start (front ++ Change c ∷ []) es step (rw append_assoc h) in
     rw append_assoc at more
 
 -- After an allowed history a state is lawful.
-pub grown_after : (start : State) (history : List Entry) → IsGrownOpening start → IsAllowed IsGrowCommit start history
-    → IsGrown (state_after start history)
-grown_after start history o h = lawful_on start [] history (grown_opening start o) h
+pub grown_after : (levels : ℕ) (start : State) (history : List Entry) → IsGrownOpening levels start → IsAllowed (IsGrowCommit levels) start history
+    → IsGrown levels (state_after start history)
+grown_after levels start history o h = lawful_on levels start [] history (grown_opening levels start o) h
 
-count_on : (start : State) (front es : List Entry) → IsAllowed IsGrowCommit start (front ++ es)
+count_on : (levels : ℕ) (start : State) (front es : List Entry) → IsAllowed (IsGrowCommit levels) start (front ++ es)
     → buckets (state_after start (front ++ es)) ≡ buckets (state_after start front) + count_splits es
-count_on start front [] h = ap (λ u. buckets (state_after start u)) (append-nil front) ∙ omega arith
-count_on start front (Rest by ∷ es) h =
+count_on levels start front [] h = ap (λ u. buckets (state_after start u)) (append-nil front) ∙ omega arith
+count_on levels start front (Rest by ∷ es) h =
     let same : state_after start (front ++ Rest by ∷ []) ≡ state_after start front = state_after-append start front (Rest by ∷ []) in
-    let more = count_on start (front ++ Rest by ∷ []) es (subst (IsAllowed IsGrowCommit start) (sym (append_assoc front (Rest by ∷ []) es)) h) in
+    let more = count_on levels start (front ++ Rest by ∷ []) es (subst (IsAllowed (IsGrowCommit levels) start) (sym (append_assoc front (Rest by ∷ []) es)) h) in
     ap (λ u. buckets (state_after start u)) (sym (append_assoc front (Rest by ∷ []) es)) ∙ more ∙ ap (λ u. buckets u + count_splits es) same
-count_on start front (Change c ∷ es) h =
+count_on levels start front (Change c ∷ es) h =
     let same : state_after start (front ++ Change c ∷ []) ≡ written (state_after start front) c.writes = state_after-append start front (Change c ∷ []) in
-    let more = count_on start (front ++ Change c ∷ []) es (subst (IsAllowed IsGrowCommit start) (sym (append_assoc front (Change c ∷ []) es)) h) in
-    let one = commit_buckets (growing_of c.tag) (state_after start front) (written (state_after start front) c.writes) c.writes (h front es c refl).grows in
+    let more = count_on levels start (front ++ Change c ∷ []) es (subst (IsAllowed (IsGrowCommit levels) start) (sym (append_assoc front (Change c ∷ []) es)) h) in
+    let one = commit_buckets levels (growing_of c.tag) (state_after start front) (written (state_after start front) c.writes) c.writes (h front es c refl).grows in
     ap (λ u. buckets (state_after start u)) (sym (append_assoc front (Change c ∷ []) es)) ∙ more ∙ ap (λ u. buckets u + count_splits es) same
     ∙ ap (λ n. n + count_splits es) one ∙ omega arith
 
 -- There are 16 buckets, and one more for each split.
-pub buckets_after : (start : State) (history : List Entry) → IsGrownOpening start → IsAllowed IsGrowCommit start history
+pub buckets_after : (levels : ℕ) (start : State) (history : List Entry) → IsGrownOpening levels start → IsAllowed (IsGrowCommit levels) start history
     → buckets (state_after start history) ≡ 16 + count_splits history
-buckets_after start history o h =
+buckets_after levels start history o h =
     let some = o.some in
-    count_on start [] history h ∙ ap (λ w. buckets_at (word 2 w) + word 3 w + count_splits history) (o.zeros 0 (omega arith))
+    count_on levels start [] history h ∙ ap (λ w. buckets_at (word 2 w) + word 3 w + count_splits history) (o.zeros 0 (omega arith))

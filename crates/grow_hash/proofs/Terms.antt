@@ -7,6 +7,7 @@ pub use Rattle.std.specs.Prelude.{MatchOption, ⊤}
 pub use Rattle.std.proofs.lemmas.Bool.{cases_lt, cases_eq, false_from_ne_true, cases_order}
 pub use Rattle.std.proofs.Math.Nat.{mod-lt, div-add-mod}
 pub use Rattle.std.proofs.lemmas.List.{drop-set-lt, drop-set-add, get_or_past, take-append-drop, drop-set, get_or-take, take_more_set}
+pub use Rattle.std.proofs.lemmas.Nat.{pow-add}
 pub use Rattle.std.proofs.lemmas.Bool.Decides.{nat_tests}
 pub use Rattle.mv_history.specs.State.{State, Writes, written, touches, state_after, state_at}
 pub use Rattle.mv_history.specs.Meaning.{words_at, Seat, InSection, IsSeat, IsSection, state_of, state_of_time}
@@ -36,8 +37,8 @@ pub use Rattle.set_script.specs.declared.commands.Reply.TheVariants.{Yes, No, Fu
 pub use Rattle.section_work.specs.Works.{IsPlanned}
 pub use Rattle.mv_history.proofs.Histories.{IsAllowed-front}
 pub use Rattle.section_work.specs.OwnWrites.{objects_of}
-pub use Rattle.grow_hash.specs.Tables.{buckets_at, bucket_of, bucket, level, split_place, buckets, table_words, IsTable, next_table}
-pub use Rattle.grow_hash.specs.Grown.{IsGrown, is_used, grown_name, grown_catalogue, grown_capacity, head_at, grown_map, IsGrownOpening}
+pub use Rattle.grow_hash.specs.Tables.{grow_levels, most_levels, most_level, hash, buckets_at, bucket_of, bucket, level, split_place, buckets, table_words, IsTable, next_table}
+pub use Rattle.grow_hash.specs.Grown.{most_buckets, first_grown, IsGrown, is_used, grown_name, grown_catalogue, grown_capacity, head_at, grown_map, IsGrownOpening}
 pub use Rattle.grow_hash.specs.GrowRules.{makes, growing_of, KeepsGrown, Grows, IsGrowCommit, Growing, splits, split_tag, SplitsGrown}
 pub use Rattle.grow_hash.specs.GrowPlans.{head_of, GrowPlan, IsGrowing, IsFree, IsOfGrown}
 pub use Rattle.grow_hash.specs.Splits.{is_splitting, count_splits}

@@ -17,7 +17,7 @@ IsMoved words bucket next moved =
     (head key value to : ℕ) → words ≡ list_words head key value to → moved ≡ list_words (head_at bucket) key value next
 
 -- wherever this is the table, and these nodes were read of the bucket at the split place, these are the writes of its split
-abbrev pub ArePartedWrites : ℕ → ℕ → Writes → Writes → Type 0
-ArePartedWrites at place nodes writes =
-    (s : State) → IsGrown s → level s ≡ at → split_place s ≡ place → IsRead s (head_at place) nodes 0
-    → writes ≡ split_writes s (objects_of nodes)
+abbrev pub ArePartedWrites : ℕ → ℕ → ℕ → Writes → Writes → Type 0
+ArePartedWrites levels at place nodes writes =
+    (s : State) → IsGrown levels s → level s ≡ at → split_place s ≡ place → IsRead s (head_at place) nodes 0
+    → writes ≡ split_writes levels s (objects_of nodes)

@@ -6,16 +6,16 @@ use Rattle.grow_hash.specs.GrowPlans.{GrowPlan, grow_locks}
 use Rattle.grow_hash.specs.GrowReplies.{reply_grown, changes_grown}
 
 -- what is planned for it: the change that the command makes, with its tag, and yes once it is made
-pub record PlansGrown (command : Command) (s : State) (tag : List ℕ) (ws : Writes) (answer : Reply) : Type 0 where
+pub record PlansGrown (levels : ℕ) (command : Command) (s : State) (tag : List ℕ) (ws : Writes) (answer : Reply) : Type 0 where
   pub tagged : tag ≡ tag_of command
-  pub plan : GrowPlan command s ws
+  pub plan : GrowPlan levels command s ws
   pub said : answer ≡ Yes
 
-abbrev pub grow_meaning : Command → Meaning Reply
-grow_meaning command = record {
+abbrev pub grow_meaning : ℕ → Command → Meaning Reply
+grow_meaning levels command = record {
   most = grow_locks;
-  changes = λ s. changes_grown command s false ≡ true;
-  plans = λ s tag ws answer. PlansGrown command s tag ws answer;
-  settles = λ s last answer. (answer ≡ reply_grown command s last) × (changes_grown command s last ≡ false);
-  makes = λ before after answer. (answer ≡ reply_grown command before false) × MakesGrown command before after;
+  changes = λ s. changes_grown levels command s false ≡ true;
+  plans = λ s tag ws answer. PlansGrown levels command s tag ws answer;
+  settles = λ s last answer. (answer ≡ reply_grown levels command s last) × (changes_grown levels command s last ≡ false);
+  makes = λ before after answer. (answer ≡ reply_grown levels command before false) × MakesGrown levels command before after;
 }

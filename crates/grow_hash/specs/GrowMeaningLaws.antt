@@ -7,21 +7,21 @@ use Rattle.grow_hash.specs.GrowReplies.{reply_grown}
 use Rattle.grow_hash.specs.GrowMeaning.{PlansGrown}
 
 -- the tag of a command that changes something stands for it
-tag_stands : (command : Command) (s : State) (ws : Writes) → IsOfGrown command → GrowPlan command s ws
+tag_stands : (levels : ℕ) (command : Command) (s : State) (ws : Writes) → IsOfGrown command → GrowPlan levels command s ws
     → growing_of (tag_of command) ≡ Some (makes command)
-tag_stands (Add name key) s ws e p = subst (λ n. growing_of (tag_of (Add n key)) ≡ Some (makes (Add n key))) (sym e) refl
-tag_stands (Del name key) s ws e p = subst (λ n. growing_of (tag_of (Del n key)) ≡ Some (makes (Del n key))) (sym e) refl
-tag_stands (Put name key value) s ws e p = absurd e
-tag_stands (Has name key) s ws e p = absurd p
-tag_stands (Get name key) s ws e p = absurd e
-tag_stands (Move source target key) s ws e p = absurd e
-tag_stands (Pair first second key) s ws e p = absurd e
-tag_stands (Size name) s ws e p = absurd p
-tag_stands (Next name key) s ws e p = absurd p
+tag_stands levels (Add name key) s ws e p = subst (λ n. growing_of (tag_of (Add n key)) ≡ Some (makes (Add n key))) (sym e) refl
+tag_stands levels (Del name key) s ws e p = subst (λ n. growing_of (tag_of (Del n key)) ≡ Some (makes (Del n key))) (sym e) refl
+tag_stands levels (Put name key value) s ws e p = absurd e
+tag_stands levels (Has name key) s ws e p = absurd p
+tag_stands levels (Get name key) s ws e p = absurd e
+tag_stands levels (Move source target key) s ws e p = absurd e
+tag_stands levels (Pair first second key) s ws e p = absurd e
+tag_stands levels (Size name) s ws e p = absurd p
+tag_stands levels (Next name key) s ws e p = absurd p
 
-pub makes_grown : (command : Command) (s before : State) (tag : List ℕ) (ws : Writes) (answer : Reply) → IsOfGrown command → PlansGrown command s tag ws answer
-    → IsGrowCommit tag before ws → (answer ≡ reply_grown command before false) × MakesGrown command before (written before ws)
-makes_grown command s before tag ws answer names p a =
-    let m : MakesGrown command before (written before ws) =
-    subst (λ u. Grows u before (written before ws) ws) (ap growing_of p.tagged ∙ tag_stands command s ws names p.plan) a.grows in
+pub makes_grown : (levels : ℕ) (command : Command) (s before : State) (tag : List ℕ) (ws : Writes) (answer : Reply) → IsOfGrown command → PlansGrown levels command s tag ws answer
+    → IsGrowCommit levels tag before ws → (answer ≡ reply_grown levels command before false) × MakesGrown levels command before (written before ws)
+makes_grown levels command s before tag ws answer names p a =
+    let m : MakesGrown levels command before (written before ws) =
+    subst (λ u. Grows levels u before (written before ws) ws) (ap growing_of p.tagged ∙ tag_stands levels command s ws names p.plan) a.grows in
     (p.said ∙ sym m.answer, m)

@@ -6,33 +6,33 @@ use Rattle.grow_hash.specs.Tables.{bucket}
 use Rattle.grow_hash.specs.Grown.{first_grown, head_at, grown_name}
 
 -- the object is a node, and vacant
-abbrev pub IsFree : State → ℕ → Type 0
-IsFree s o = (first_grown ≤ o) × (o < length s) × (owner s o ≡ 0)
+abbrev pub IsFree : ℕ → State → ℕ → Type 0
+IsFree levels s o = (first_grown levels ≤ o) × (o < length s) × (owner s o ≡ 0)
 
 -- the head of the bucket in which a key stands
-abbrev pub head_of : State → ℕ → ℕ
-head_of s key = head_at (bucket s key)
+abbrev pub head_of : ℕ → State → ℕ → ℕ
+head_of levels s key = head_at (bucket levels s key)
 
 -- an add of the key behind its predecessor, in a vacant node
-pub record AddGrown (s : State) (key : ℕ) (writes : Writes) : Type 0 where
+pub record AddGrown (levels : ℕ) (s : State) (key : ℕ) (writes : Writes) : Type 0 where
   pub previous : ℕ
   pub node : ℕ
-  pub place : IsAddPlace s (head_of s key) key previous
-  pub free : IsFree s node
-  pub writes_are : writes ≡ add_writes s (head_of s key) key 0 previous node
+  pub place : IsAddPlace s (head_of levels s key) key previous
+  pub free : IsFree levels s node
+  pub writes_are : writes ≡ add_writes s (head_of levels s key) key 0 previous node
 
 -- a del of the key, whose node becomes vacant
-pub record DelGrown (s : State) (key : ℕ) (writes : Writes) : Type 0 where
+pub record DelGrown (levels : ℕ) (s : State) (key : ℕ) (writes : Writes) : Type 0 where
   pub previous : ℕ
   pub node : ℕ
-  pub place : IsDelPlace s (head_of s key) key previous node
+  pub place : IsDelPlace s (head_of levels s key) key previous node
   pub writes_are : writes ≡ del_writes s previous node
 
 -- What a command that changes something locks, and how it writes that.
-abbrev pub GrowPlan : Command → State → Writes → Type 0
-GrowPlan (Add name key) s ws = AddGrown s key ws
-GrowPlan (Del name key) s ws = DelGrown s key ws
-GrowPlan command s ws = ⊥
+abbrev pub GrowPlan : ℕ → Command → State → Writes → Type 0
+GrowPlan levels (Add name key) s ws = AddGrown levels s key ws
+GrowPlan levels (Del name key) s ws = DelGrown levels s key ws
+GrowPlan levels command s ws = ⊥
 
 -- how many objects an add or a del locks
 abbrev pub grow_locks : ℕ

@@ -5,17 +5,25 @@ use mathlib.Core.Sum.{⊎_set}
 use Rattle.std.specs.Prelude.{◌≡◌, ◌≢◌, ◌^◌, ◌<◌, ◌≤◌}
 use Rattle.grow_hash.specs.Terms.{ℕ, true, false, length, Option, Some, None, List, State, Writes, written, touches, words_at, Command, Reply, Yes, owner, kind}
 use Rattle.grow_hash.specs.Terms.{key, link, value, head_words, list_words, no_words, reply, next, IsInList, IsNodeOf, IsAfter, IsLinked}
-use Rattle.grow_hash.specs.Tables.{level, split_place, most_level, buckets_at, bucket, table_words, next_table, IsTable}
+use Rattle.grow_hash.specs.Tables.{grow_levels, most_levels, level, split_place, most_level, buckets_at, bucket, table_words, next_table, IsTable}
 use Rattle.grow_hash.specs.Grown.{IsGrown, IsGrownOpening, first_grown, most_buckets, head_at, grown_catalogue, grown_capacity}
 use Rattle.grow_hash.specs.GrowRules.{Growing, makes, splits, growing_of, KeepsGrown, MakesGrown, SplitsGrown, Grows, IsGrowCommit}
 use Rattle.set_script.specs.Objects.{most_objects}
 
-pub IsGrownOpening-prop : (s : State) → IsProp (IsGrownOpening s)
-IsGrownOpening-prop s x y =
-    let some_prop : IsProp (first_grown < length s) = hlevel props in
+pub IsGrownOpening-prop : (levels : ℕ) (s : State) → IsProp (IsGrownOpening levels s)
+IsGrownOpening-prop levels s x y =
+    let least_prop : IsProp (grow_levels ≤ levels) = hlevel props in
+    let most_prop : IsProp (levels ≤ most_levels) = hlevel props in
+    let some_prop : IsProp (first_grown levels < length s) = hlevel props in
     let few_prop : IsProp (length s ≤ most_objects) = hlevel props in
     let zeros_prop : IsProp ((o : ℕ) → o < length s → words_at s o ≡ no_words) = hlevel props in
-    λ i. record { some = some_prop x.some y.some i; few = few_prop x.few y.few i; zeros = zeros_prop x.zeros y.zeros i }
+    λ i. record {
+      least = least_prop x.least y.least i;
+      most = most_prop x.most y.most i;
+      some = some_prop x.some y.some i;
+      few = few_prop x.few y.few i;
+      zeros = zeros_prop x.zeros y.zeros i;
+    }
 
 IsLinked-prop : (s : State) (head : ℕ) → IsProp (IsLinked s head)
 IsLinked-prop s head x y =
@@ -37,12 +45,12 @@ IsLinked-prop s head x y =
       once = once_prop x.once y.once i;
     }
 
-IsTable-prop : (s : State) → IsProp (IsTable s)
-IsTable-prop s x y =
+IsTable-prop : (levels : ℕ) (s : State) → IsProp (IsTable levels s)
+IsTable-prop levels s x y =
     let words_prop : IsProp (words_at s 0 ≡ table_words (level s) (split_place s)) = hlevel props in
-    let level_prop : IsProp (level s ≤ most_level) = hlevel props in
+    let level_prop : IsProp (level s ≤ most_level levels) = hlevel props in
     let place_prop : IsProp (split_place s < buckets_at (level s)) = hlevel props in
-    let whole_prop : IsProp (level s ≡ most_level → split_place s ≡ 0) = hlevel props in
+    let whole_prop : IsProp (level s ≡ most_level levels → split_place s ≡ 0) = hlevel props in
     λ i. record {
       words = words_prop x.words y.words i;
       level_in = level_prop x.level_in y.level_in i;
@@ -50,17 +58,21 @@ IsTable-prop s x y =
       whole = whole_prop x.whole y.whole i;
     }
 
-pub IsGrown-prop : (s : State) → IsProp (IsGrown s)
-IsGrown-prop s x y =
-    let some_prop : IsProp (first_grown < length s) = hlevel props in
+pub IsGrown-prop : (levels : ℕ) (s : State) → IsProp (IsGrown levels s)
+IsGrown-prop levels s x y =
+    let least_prop : IsProp (grow_levels ≤ levels) = hlevel props in
+    let most_prop : IsProp (levels ≤ most_levels) = hlevel props in
+    let some_prop : IsProp (first_grown levels < length s) = hlevel props in
     let few_prop : IsProp (length s ≤ most_objects) = hlevel props in
-    let heads_prop : IsProp ((b : ℕ) → b < most_buckets → words_at s (head_at b) ≡ head_words (link s (head_at b))) = hlevel props in
-    let nodes_prop : IsProp ((o : ℕ) → first_grown ≤ o → owner s o ≢ 0
-    → words_at s o ≡ list_words (head_at (bucket s (key s o))) (key s o) (value s o) (link s o)) = hlevel props in
+    let heads_prop : IsProp ((b : ℕ) → b < most_buckets levels → words_at s (head_at b) ≡ head_words (link s (head_at b))) = hlevel props in
+    let nodes_prop : IsProp ((o : ℕ) → first_grown levels ≤ o → owner s o ≢ 0
+    → words_at s o ≡ list_words (head_at (bucket levels s (key s o))) (key s o) (value s o) (link s o)) = hlevel props in
     λ i. record {
+      least = least_prop x.least y.least i;
+      most = most_prop x.most y.most i;
       some = some_prop x.some y.some i;
       few = few_prop x.few y.few i;
-      table = IsTable-prop s x.table y.table i;
+      table = IsTable-prop levels s x.table y.table i;
       heads = heads_prop x.heads y.heads i;
       lists = λ b lt. IsLinked-prop s (head_at b) (x.lists b lt) (y.lists b lt) i;
       nodes = nodes_prop x.nodes y.nodes i;
@@ -69,36 +81,36 @@ IsGrown-prop s x y =
 Reply-set : IsSet Reply
 Reply-set = hlevel (props, ⊎_set)
 
-KeepsGrown-prop : (before after : State) → IsProp (KeepsGrown before after)
-KeepsGrown-prop before after x y =
+KeepsGrown-prop : (levels : ℕ) (before after : State) → IsProp (KeepsGrown levels before after)
+KeepsGrown-prop levels before after x y =
     let keys_prop : IsProp ((o : ℕ) → owner before o ≢ 0 → owner after o ≡ owner before o → key after o ≡ key before o) = hlevel props in
     λ i. record {
-      lawful_before = IsGrown-prop before x.lawful_before y.lawful_before i;
-      lawful_after = IsGrown-prop after x.lawful_after y.lawful_after i;
+      lawful_before = IsGrown-prop levels before x.lawful_before y.lawful_before i;
+      lawful_after = IsGrown-prop levels after x.lawful_after y.lawful_after i;
       keys = keys_prop x.keys y.keys i;
     }
 
-MakesGrown-prop : (command : Command) (before after : State) → IsProp (MakesGrown command before after)
-MakesGrown-prop command before after x y =
+MakesGrown-prop : (levels : ℕ) (command : Command) (before after : State) → IsProp (MakesGrown levels command before after)
+MakesGrown-prop levels command before after x y =
     let table_prop : IsProp (words_at after 0 ≡ words_at before 0) = hlevel props in
     λ i. record {
-      answer = Reply-set (reply command (grown_catalogue before) (grown_capacity before) false) Yes x.answer y.answer i;
-      leaves = Coded-set (coded_list (coded_list (coded× coded_ℕ coded_ℕ))) (grown_catalogue after)
-          (next command (grown_catalogue before) (grown_capacity before) false) x.leaves y.leaves i;
+      answer = Reply-set (reply command (grown_catalogue levels before) (grown_capacity levels before) false) Yes x.answer y.answer i;
+      leaves = Coded-set (coded_list (coded_list (coded× coded_ℕ coded_ℕ))) (grown_catalogue levels after)
+          (next command (grown_catalogue levels before) (grown_capacity levels before) false) x.leaves y.leaves i;
       table = table_prop x.table y.table i;
     }
 
-SplitsGrown-prop : (place : ℕ) (before after : State) (writes : Writes) → IsProp (SplitsGrown place before after writes)
-SplitsGrown-prop place before after writes x y =
+SplitsGrown-prop : (levels place : ℕ) (before after : State) (writes : Writes) → IsProp (SplitsGrown levels place before after writes)
+SplitsGrown-prop levels place before after writes x y =
     let here_prop : IsProp (place ≡ split_place before) = hlevel props in
-    let below_prop : IsProp (level before < most_level) = hlevel props in
+    let below_prop : IsProp (level before < most_level levels) = hlevel props in
     let table_prop : IsProp (words_at after 0 ≡ next_table (level before) (split_place before)) = hlevel props in
     let touched_prop : (o : ℕ) → IsProp (touches writes o ≡ true) = λ o. hlevel props in
     let nodes_prop : IsProp ((o : ℕ) → IsNodeOf before (head_at place) o → touches writes o ≡ true) = hlevel props in
     λ i. record {
       here = here_prop x.here y.here i;
       below = below_prop x.below y.below i;
-      leaves = Coded-set (coded_list (coded_list (coded× coded_ℕ coded_ℕ))) (grown_catalogue after) (grown_catalogue before) x.leaves y.leaves i;
+      leaves = Coded-set (coded_list (coded_list (coded× coded_ℕ coded_ℕ))) (grown_catalogue levels after) (grown_catalogue levels before) x.leaves y.leaves i;
       table = table_prop x.table y.table i;
       writes_table = touched_prop 0 x.writes_table y.writes_table i;
       writes_old = touched_prop (head_at place) x.writes_old y.writes_old i;
@@ -106,13 +118,13 @@ SplitsGrown-prop place before after writes x y =
       writes_nodes = nodes_prop x.writes_nodes y.writes_nodes i;
     }
 
-Grows-prop : (growing : Option Growing) (before after : State) (writes : Writes) → IsProp (Grows growing before after writes)
-Grows-prop None before after writes = hlevel props
-Grows-prop (Some (makes command)) before after writes = MakesGrown-prop command before after
-Grows-prop (Some (splits place)) before after writes = SplitsGrown-prop place before after writes
+Grows-prop : (levels : ℕ) (growing : Option Growing) (before after : State) (writes : Writes) → IsProp (Grows levels growing before after writes)
+Grows-prop levels None before after writes = hlevel props
+Grows-prop levels (Some (makes command)) before after writes = MakesGrown-prop levels command before after
+Grows-prop levels (Some (splits place)) before after writes = SplitsGrown-prop levels place before after writes
 
-pub IsGrowCommit-prop : (tag : List ℕ) (before : State) (writes : Writes) → IsProp (IsGrowCommit tag before writes)
-IsGrowCommit-prop tag before writes x y = λ i. record {
-  keeps = KeepsGrown-prop before (written before writes) x.keeps y.keeps i;
-  grows = Grows-prop (growing_of tag) before (written before writes) writes x.grows y.grows i;
+pub IsGrowCommit-prop : (levels : ℕ) (tag : List ℕ) (before : State) (writes : Writes) → IsProp (IsGrowCommit levels tag before writes)
+IsGrowCommit-prop levels tag before writes x y = λ i. record {
+  keeps = KeepsGrown-prop levels before (written before writes) x.keeps y.keeps i;
+  grows = Grows-prop levels (growing_of tag) before (written before writes) writes x.grows y.grows i;
 }

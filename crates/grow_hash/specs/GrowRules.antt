@@ -27,23 +27,23 @@ abbrev pub split_tag : ℕ → List ℕ
 split_tag place = 7 ∷ place ∷ 0 ∷ 0 ∷ []
 
 -- What each commit keeps: both states are lawful, and an object that stays in its list keeps its key.
-pub record KeepsGrown (before after : State) : Type 0 where
-  pub lawful_before : IsGrown before
-  pub lawful_after : IsGrown after
+pub record KeepsGrown (levels : ℕ) (before after : State) : Type 0 where
+  pub lawful_before : IsGrown levels before
+  pub lawful_after : IsGrown levels after
   pub keys : (o : ℕ) → owner before o ≢ 0 → owner after o ≡ owner before o → key after o ≡ key before o
 
 -- The command replies yes on the catalogue of the state before, and leaves that of the state after. The table is as before.
-pub record MakesGrown (command : Command) (before after : State) : Type 0 where
-  pub answer : reply command (grown_catalogue before) (grown_capacity before) false ≡ Yes
-  pub leaves : grown_catalogue after ≡ next command (grown_catalogue before) (grown_capacity before) false
+pub record MakesGrown (levels : ℕ) (command : Command) (before after : State) : Type 0 where
+  pub answer : reply command (grown_catalogue levels before) (grown_capacity levels before) false ≡ Yes
+  pub leaves : grown_catalogue levels after ≡ next command (grown_catalogue levels before) (grown_capacity levels before) false
   pub table : words_at after 0 ≡ words_at before 0
 
 -- The bucket is the next to be split, and is split: the catalogue is as before, the table goes on by one place, and the table, the heads
 -- of both halves and every node of the bucket are written.
-pub record SplitsGrown (place : ℕ) (before after : State) (writes : Writes) : Type 0 where
+pub record SplitsGrown (levels place : ℕ) (before after : State) (writes : Writes) : Type 0 where
   pub here : place ≡ split_place before
-  pub below : level before < most_level
-  pub leaves : grown_catalogue after ≡ grown_catalogue before
+  pub below : level before < most_level levels
+  pub leaves : grown_catalogue levels after ≡ grown_catalogue levels before
   pub table : words_at after 0 ≡ next_table (level before) (split_place before)
   pub writes_table : touches writes 0 ≡ true
   pub writes_old : touches writes (head_at place) ≡ true
@@ -51,12 +51,12 @@ pub record SplitsGrown (place : ℕ) (before after : State) (writes : Writes) : 
   pub writes_nodes : (o : ℕ) → IsNodeOf before (head_at place) o → touches writes o ≡ true
 
 -- it does so
-abbrev pub Grows : Option Growing → State → State → Writes → Type 0
-Grows None before after writes = ⊥
-Grows (Some (makes command)) before after writes = MakesGrown command before after
-Grows (Some (splits place)) before after writes = SplitsGrown place before after writes
+abbrev pub Grows : ℕ → Option Growing → State → State → Writes → Type 0
+Grows levels None before after writes = ⊥
+Grows levels (Some (makes command)) before after writes = MakesGrown levels command before after
+Grows levels (Some (splits place)) before after writes = SplitsGrown levels place before after writes
 
 -- A commit of a growing hash set with this tag and these writes, on the state before it.
-pub record IsGrowCommit (tag : List ℕ) (before : State) (writes : Writes) : Type 0 where
-  pub keeps : KeepsGrown before (written before writes)
-  pub grows : Grows (growing_of tag) before (written before writes) writes
+pub record IsGrowCommit (levels : ℕ) (tag : List ℕ) (before : State) (writes : Writes) : Type 0 where
+  pub keeps : KeepsGrown levels before (written before writes)
+  pub grows : Grows levels (growing_of tag) before (written before writes) writes

@@ -1,4 +1,5 @@
 pub mod Terms
+pub mod Mixing
 pub mod Tables
 pub mod Grown
 pub mod GrowRules

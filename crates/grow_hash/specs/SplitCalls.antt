@@ -17,6 +17,6 @@ abbrev pub most_writes : ℕ
 most_writes = 64
 
 -- the level is below the greatest, and the bucket at the split place is short enough
-pub record IsSplittable (s : State) : Type 0 where
-  pub below : level s < most_level
+pub record IsSplittable (levels : ℕ) (s : State) : Type 0 where
+  pub below : level s < most_level levels
   pub short : keys_at_place s ≤ most_split

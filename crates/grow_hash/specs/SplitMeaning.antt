@@ -10,24 +10,24 @@ use Rattle.grow_hash.specs.SplitCalls.{IsSplittable, most_writes}
 use Rattle.grow_hash.specs.SplitSteps.{IsClosed}
 
 -- what is planned for it: the split, with its tag
-pub record PlansSplit (s : State) (tag : List ℕ) (ws : Writes) : Type 0 where
-  pub splittable : IsSplittable s
+pub record PlansSplit (levels : ℕ) (s : State) (tag : List ℕ) (ws : Writes) : Type 0 where
+  pub splittable : IsSplittable levels s
   pub tagged : tag ≡ split_tag (split_place s)
-  pub plan : SplitPlan s ws
+  pub plan : SplitPlan levels s ws
 
 -- why none is made: it can't be, or it could where a time were left
-abbrev pub SettlesSplit : State → Bool → Looked → Type 0
-SettlesSplit s last Splits = ⊥
-SettlesSplit s last Whole = IsClosed s Whole
-SettlesSplit s last (Long keys) = IsClosed s (Long keys)
-SettlesSplit s last Worn = IsSplittable s × (last ≡ true)
+abbrev pub SettlesSplit : ℕ → State → Bool → Looked → Type 0
+SettlesSplit levels s last Splits = ⊥
+SettlesSplit levels s last Whole = IsClosed levels s Whole
+SettlesSplit levels s last (Long keys) = IsClosed levels s (Long keys)
+SettlesSplit levels s last Worn = IsSplittable levels s × (last ≡ true)
 
-abbrev pub split_meaning : Meaning Looked
-split_meaning = record {
+abbrev pub split_meaning : ℕ → Meaning Looked
+split_meaning levels = record {
   most = most_writes;
-  changes = λ s. IsSplittable s;
-  plans = λ s tag ws looked. PlansSplit s tag ws;
-  settles = λ s last looked. SettlesSplit s last looked;
+  changes = λ s. IsSplittable levels s;
+  plans = λ s tag ws looked. PlansSplit levels s tag ws;
+  settles = λ s last looked. SettlesSplit levels s last looked;
   makes = λ before after looked. ⊤;
 }
 

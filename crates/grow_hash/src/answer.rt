@@ -6,7 +6,7 @@ use section_work::Cause;
 pub enum Split {
     /// The bucket at the split place was split, by one commit of this printed time.
     Done { time: u64 },
-    /// All buckets are split: the level is 6, and there are 1,024.
+    /// All buckets are split: the level is the greatest one, and there are `2^LEVELS` buckets.
     Whole,
     /// The bucket at the split place has this many keys, more than the 61 that a split can write.
     Long { keys: u32 },

@@ -9,10 +9,11 @@ ghost use Rattle.grow_hash.specs.GrowAttempts.{GrowAttempted, as_work};
 
 use crate::attempt::GrowStep;
 use crate::grow_work::GrowWork;
-use crate::rules::GrowRules;
+use crate::rules::GrowingRules;
 use mv_history::Store;
 use section_work::{Attempt, attempt_work};
 use set_script::{Command, Reply};
+use std::marker::PhantomData;
 
 /// Attempts a command of a growing hash set in one section of the store, and gives the store back.
 ///
@@ -33,17 +34,23 @@ use set_script::{Command, Reply};
 ///
 /// A split of the key's bucket by another seat is such an entry: it writes each object of the bucket, so an add or a del
 /// there that was planned before it is refused.
-pub fn attempt_grow<S: Store<Rules = GrowRules>>(store: S, command: &Command) -> (S, GrowStep)
+pub fn attempt_grow<const LEVELS: u32, R: GrowingRules<LEVELS>, S: Store<Rules = R>>(
+    store: S,
+    command: &Command,
+) -> (S, GrowStep)
     requires command { IsOfGrown command.now }
     requires most { grow_locks ≤ (S.seat_of store).write_max }
     ensures attempted { let shows = causes S.Open.may_refuse S.Open.has_trail S.took S.holds_back S.Open.found_held S.Open.loaded in
-        GrowAttempted shows (S.seat_of store) (S.seat_of result.0) command.now result.1 }
+        GrowAttempted LEVELS shows (S.seat_of store) (S.seat_of result.0) command.now result.1 }
     ensures steps { let shows = causes S.Open.may_refuse S.Open.has_trail S.took S.holds_back S.Open.found_held S.Open.loaded in
         IsStepped S.Open.section S.Open.as_before shows (S.seat_of store) (S.seat_of result.0) (as_work result.1) }
     ensures continues { Continues (S.seat_of store) (S.seat_of result.0) }
     ensures at_most_one { TriesOne (S.seat_of store) (S.seat_of result.0) }
 {
-    let work = GrowWork { command: *command };
+    let work: GrowWork<LEVELS, R> = GrowWork {
+        command: *command,
+        rules: PhantomData,
+    };
     let mut nothing = ();
     let (store, attempt) = attempt_work(store, &work, &mut nothing);
     let step = step_of(attempt);

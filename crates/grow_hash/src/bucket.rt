@@ -1,10 +1,12 @@
 // The bucket that is to be split, and what its split writes.
 ghost use Rattle.std.specs.Prelude.{◌≡◌, ◌+◌, ◌<◌, ◌≤◌, if◌then◌else◌};
 ghost use Rattle.grow_hash.specs.Terms.{length, take, map_at, IsLinked};
-ghost use Rattle.grow_hash.specs.Tables.{most_level, buckets_at, next_table};
+ghost use Rattle.grow_hash.specs.Tables.{most_levels, most_level, buckets_at, next_table};
+ghost use Rattle.grow_hash.specs.Grown.{most_buckets};
 ghost use Rattle.grow_hash.specs.BucketReads.{IsRead, ArePartedWrites, IsMoved};
 ghost use Rattle.set_script.specs.Objects.{most_objects};
 
+use crate::mixing::hash;
 use crate::table::{buckets_at, next_table};
 use mv_history::{View, Words};
 
@@ -86,7 +88,7 @@ impl Firsts {
 
 // The words of a node in the list of this bucket, where it leads to this node.
 fn moved(words: Words, bucket: u64, next: u32) -> Words
-    requires bucket { bucket < 1024 }
+    requires bucket { bucket < most_buckets most_levels }
     ensures { IsMoved words bucket next result }
 {
     let mut words = words;
@@ -96,11 +98,12 @@ fn moved(words: Words, bucket: u64, next: u32) -> Words
 }
 
 // What the split of the bucket at this place writes, which has these nodes. It goes through them from the last on.
-pub(crate) fn part(level: u32, place: u32, bucket: &Bucket) -> Parted
-    requires level { level < most_level }
+pub(crate) fn part(levels: u32, level: u32, place: u32, bucket: &Bucket) -> Parted
+    requires most { levels ≤ most_levels }
+    requires level { level < most_level levels }
     requires place { place < buckets_at level }
     requires few { bucket.now.keys ≤ 61 }
-    ensures writes { ArePartedWrites level place (take bucket.now.keys bucket.now.nodes) (take result.count result.writes) }
+    ensures writes { ArePartedWrites levels level place (take bucket.now.keys bucket.now.nodes) (take result.count result.writes) }
     ensures place { result.place ≡ place }
 {
     let buckets = buckets_at(level);
@@ -110,7 +113,8 @@ pub(crate) fn part(level: u32, place: u32, bucket: &Bucket) -> Parted
     while index > 0 {
         index -= 1;
         let (node, words) = bucket.nodes[index];
-        let goes_to = words[2] % (2 * buckets) as u64;
+        let number = hash(levels, words[2]);
+        let goes_to = number % (2 * buckets) as u64;
         let next = firsts.put(goes_to == place as u64, node);
         writes[FIRST + index] = (node, moved(words, goes_to, next));
     }

@@ -8,10 +8,11 @@ ghost use Rattle.grow_hash.specs.SplitMeaning.{split_of};
 ghost use Rattle.grow_hash.specs.SplitAttempts.{SplitTried, SplitStepped};
 
 use crate::answer::Split;
-use crate::rules::GrowRules;
+use crate::rules::GrowingRules;
 use crate::split_work::{Looked, SplitWork};
 use mv_history::Store;
 use section_work::{Attempt, Place, attempt_work};
+use std::marker::PhantomData;
 
 /// Splits the bucket at the split place in one section of the store, and gives the store back.
 ///
@@ -21,7 +22,7 @@ use section_work::{Attempt, Place, attempt_work};
 ///
 /// Its tests are on the state of a section that this call entered, which began with all that the seat had seen, in this order.
 ///
-/// - `Whole` exactly where the level is 6.
+/// - `Whole` exactly where the level is `LEVELS - 4`, the greatest one.
 /// - `Long` exactly where the bucket has more than 61 keys, with their number.
 /// - `Worn` exactly where the section's time is the store's last one.
 /// - `Again` where this call's `prepare` found no room for a write set in the seat's log, which `LogFull` says with what holds
@@ -33,17 +34,20 @@ use section_work::{Attempt, Place, attempt_work};
 /// commit that found no time left is answered by a second look, by the same tests.
 ///
 /// The split of one bucket at a time is linear hashing (Litwin, VLDB 1980).
-pub fn try_split<S: Store<Rules = GrowRules>>(store: S) -> (S, Split)
+pub fn try_split<const LEVELS: u32, R: GrowingRules<LEVELS>, S: Store<Rules = R>>(
+    store: S,
+) -> (S, Split)
     requires most { most_writes ≤ (S.seat_of store).write_max }
     ensures tried { let shows = causes S.Open.may_refuse S.Open.has_trail S.took S.holds_back S.Open.found_held S.Open.loaded in
-        SplitTried shows (S.seat_of store) (S.seat_of result.0) result.1 }
+        SplitTried LEVELS shows (S.seat_of store) (S.seat_of result.0) result.1 }
     ensures steps { let shows = causes S.Open.may_refuse S.Open.has_trail S.took S.holds_back S.Open.found_held S.Open.loaded in
         SplitStepped S.Open.section S.Open.as_before shows (S.seat_of store) (S.seat_of result.0) result.1 }
     ensures continues { Continues (S.seat_of store) (S.seat_of result.0) }
     ensures at_most_one { TriesOne (S.seat_of store) (S.seat_of result.0) }
 {
     let mut nothing = ();
-    let (store, attempt) = attempt_work(store, &SplitWork, &mut nothing);
+    let work: SplitWork<LEVELS, R> = SplitWork { rules: PhantomData };
+    let (store, attempt) = attempt_work(store, &work, &mut nothing);
     let split = answer(attempt);
     (store, split)
 }

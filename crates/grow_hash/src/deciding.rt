@@ -33,18 +33,22 @@ impl Finding {
 
 /// Finds what the command comes to in the view's state, where a time is left. It walks along the bucket of
 /// its key once; a `size` reads each object of each bucket once.
-pub fn find_change<V: View>(view: &mut V, command: &Command) -> Finding
-    requires lawful { IsGrown (V.state view.old) }
+pub fn find_change<const LEVELS: u32, V: View>(view: &mut V, command: &Command) -> Finding
+    requires lawful { IsGrown LEVELS (V.state view.old) }
     requires command { IsOfGrown command.now }
-    ensures found { IsGrowFound command.now (V.state view.old) result }
+    ensures found { IsGrowFound LEVELS command.now (V.state view.old) result }
     ensures as_before { V.as_before view.old view.new }
 {
     match *command {
-        Command::Add { key, .. } => find_add(view, key),
-        Command::Del { key, .. } => find_del(view, key),
-        Command::Has { key, .. } => Finding::Settled(yes_or_no(find(view, key).spot.has(key))),
-        Command::Size { .. } => Finding::Settled(Reply::Count { count: size(view) }),
-        Command::Next { key, .. } => Finding::Settled(match next(view, key) {
+        Command::Add { key, .. } => find_add::<LEVELS, V>(view, key),
+        Command::Del { key, .. } => find_del::<LEVELS, V>(view, key),
+        Command::Has { key, .. } => Finding::Settled(yes_or_no(
+            find::<LEVELS, V>(view, key).spot.has(key),
+        )),
+        Command::Size { .. } => Finding::Settled(Reply::Count {
+            count: size::<LEVELS, V>(view),
+        }),
+        Command::Next { key, .. } => Finding::Settled(match next::<LEVELS, V>(view, key) {
             Some(key) => Reply::Key { key },
             None => Reply::NoKey,
         }),
@@ -58,27 +62,27 @@ fn yes_or_no(holds: bool) -> Reply
     if holds { Reply::Yes } else { Reply::No }
 }
 
-fn find_add<V: View>(view: &mut V, key: u32) -> Finding
-    requires lawful { IsGrown (V.state view.old) }
-    ensures found { IsGrowFound (Add grown_name key) (V.state view.old) result }
+fn find_add<const LEVELS: u32, V: View>(view: &mut V, key: u32) -> Finding
+    requires lawful { IsGrown LEVELS (V.state view.old) }
+    ensures found { IsGrowFound LEVELS (Add grown_name key) (V.state view.old) result }
     ensures as_before { V.as_before view.old view.new }
 {
-    let search = find(view, key);
+    let search = find::<LEVELS, V>(view, key);
     if search.spot.has(key) {
         return Finding::Settled(Reply::No);
     }
-    match vacant(view, key) {
+    match vacant::<LEVELS, V>(view, key) {
         None => Finding::Settled(Reply::Full),
         Some(node) => Finding::Open(search.spot.add_writes(search.head, key, 0, node)),
     }
 }
 
-fn find_del<V: View>(view: &mut V, key: u32) -> Finding
-    requires lawful { IsGrown (V.state view.old) }
-    ensures found { IsGrowFound (Del grown_name key) (V.state view.old) result }
+fn find_del<const LEVELS: u32, V: View>(view: &mut V, key: u32) -> Finding
+    requires lawful { IsGrown LEVELS (V.state view.old) }
+    ensures found { IsGrowFound LEVELS (Del grown_name key) (V.state view.old) result }
     ensures as_before { V.as_before view.old view.new }
 {
-    let search = find(view, key);
+    let search = find::<LEVELS, V>(view, key);
     if search.spot.has(key) {
         Finding::Open(search.spot.del_writes())
     } else {

@@ -4,26 +4,28 @@ ghost use Rattle.set_script.specs.Tags.{tag_of as command_tag};
 ghost use Rattle.grow_hash.specs.GrowPlans.{IsOfGrown};
 
 use crate::deciding::{Finding, find_change};
-use crate::rules::GrowRules;
+use crate::rules::GrowingRules;
 use crate::search::NAME;
 use mv_history::{Tag, View, Words};
 use section_work::{Decision, Work};
 use set_script::{Command, Reply};
+use std::marker::PhantomData;
 
 /// A command of a growing hash set.
 #[derive(Drop)]
-pub struct GrowWork {
+pub struct GrowWork<const LEVELS: u32, R> {
     pub command: Command,
+    pub rules: PhantomData<R>,
 }
 
-impl Work for GrowWork {
+impl<const LEVELS: u32, R: GrowingRules<LEVELS>> Work for GrowWork<LEVELS, R> {
     ghost use Rattle.std.specs.Prelude.{⊤};
     ghost use Rattle.set_script.specs.Tags.{tag_of as command_tag};
     ghost use Rattle.grow_hash.specs.GrowPlans.{IsOfGrown};
     ghost use Rattle.grow_hash.specs.GrowMeaning.{grow_meaning};
     ghost use Rattle.grow_hash.specs.GrowMeaningLaws.{makes_grown};
 
-    type Rules = GrowRules;
+    type Rules = R;
 
     type Reply = Reply;
 
@@ -33,7 +35,7 @@ impl Work for GrowWork {
 
     ghost accepts = { λ w. IsOfGrown w.command };
 
-    ghost means = { λ w. grow_meaning w.command };
+    ghost means = { λ w. grow_meaning LEVELS w.command };
 
     ghost tag_of = { λ w plan. command_tag w.command };
 
@@ -52,7 +54,7 @@ impl Work for GrowWork {
         _time: u64,
     ) -> (V, Decision<Reply, [(u32, Words); 2]>) {
         let mut view = view;
-        match find_change(&mut view, &self.command) {
+        match find_change::<LEVELS, V>(&mut view, &self.command) {
             Finding::Settled(reply) => (view, Decision::Settled(reply)),
             Finding::Open(plan) => {
                 let reply = Reply::Yes;
@@ -75,7 +77,8 @@ impl Work for GrowWork {
 
     ghost knows_on = { λ memo s t on known. tt };
 
-    ghost makes = { λ w s before tag ws reply accepts plan drifts allowed. makes_grown w.command s before tag ws reply accepts plan allowed };
+    ghost makes = { λ w s before tag ws reply accepts plan drifts allowed. makes_grown LEVELS w.command s before tag ws reply accepts plan
+        (R.allowed_grows tag before ws allowed) };
 }
 
 // The tag of a command that changes something.

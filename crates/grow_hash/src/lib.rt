@@ -2,9 +2,11 @@
 //!
 //! # The model
 //!
+//! The set grows up to `2^LEVELS` buckets, from 10 `LEVELS` (1,024 buckets, those of the program) to 20.
 //! Object 0 is the table: its level and its split place say how many buckets there are, and which
-//! bucket a key has (`specs/Tables.antt`). Objects 1 to 1024 are the heads of the buckets, and those
-//! from 1025 on are nodes. A state is lawful where each head leads with strictly rising keys through
+//! bucket a key has (`specs/Tables.antt`). Objects 1 to `2^LEVELS` are the heads of the buckets, and those
+//! behind them are nodes. With 10 `LEVELS` the bucket is the remainder of the key; with more the key is mixed
+//! first (`specs/Mixing.antt`). A state is lawful where each head leads with strictly rising keys through
 //! exactly the nodes that name it, and each node is vacant or in the bucket of its key
 //! (`specs/Grown.antt`, and `list_set`'s `specs/Linked.antt` for one list). It stands for the
 //! catalogue that has the keys in `h0`; that definition folds over the nodes, and follows no link.
@@ -17,7 +19,8 @@
 //! its predecessor and its node; so a split of their bucket meets them, and every other commit leaves
 //! their bucket and their place. That each is fit, so that it stays allowed whatever others commit
 //! meanwhile, is a law (`grow_plans_are_fit`, `split_plans_are_fit`), and so is that each state is lawful and has 16 buckets
-//! and one more for each split (`grown_states_remain`).
+//! and one more for each split (`grown_states_remain`). Code that is generic over the levels names its rules by the bound
+//! `GrowingRules`, whose laws say that they are these.
 //!
 //! # The contract
 //!
@@ -73,6 +76,7 @@ mod bucket_split;
 mod deciding;
 mod grow_work;
 mod laws;
+mod mixing;
 mod reading;
 mod rules;
 mod search;
@@ -83,7 +87,7 @@ pub use answer::Split;
 pub use attempt::GrowStep;
 pub use attempting::attempt_grow;
 pub use bucket_split::try_split;
-pub use laws::{grow_plans_are_fit, grown_states_remain, split_plans_are_fit};
+pub use laws::{grow_plans_are_fit, grown_states_remain, mixed_keys_differ, split_plans_are_fit};
 pub use reading::read_grown;
-pub use rules::GrowRules;
+pub use rules::{GROW_LEVELS, GrowRules, GrowingRules};
 pub use table::table_of;

@@ -2,16 +2,15 @@
 ghost use Rattle.std.specs.Prelude.{◌≡◌, ◌<◌, ◌≤◌, ℕ, length, min, MatchOption};
 ghost use Rattle.set_script.specs.Catalogue.{next_key};
 ghost use Rattle.list_set.specs.Spots.{EndsHere};
-ghost use Rattle.grow_hash.specs.Grown.{IsGrown, grown_map};
+ghost use Rattle.grow_hash.specs.Tables.{grow_levels, most_levels};
+ghost use Rattle.grow_hash.specs.Grown.{IsGrown, first_grown, grown_map};
 ghost use Rattle.grow_hash.specs.GrowPlans.{head_of, IsFree};
 ghost use Rattle.set_script.specs.Objects.{most_objects};
 
-use crate::table::{bucket_of, buckets, table_of};
+use crate::mixing::hash;
+use crate::table::{bucket_of, buckets, first_node, table_of};
 use list_set::{Spot, find_linked, size_linked};
 use mv_history::View;
-
-// The object that is the first node. Object 0 is the table, and the others are heads of buckets.
-pub(crate) const FIRST_NODE: u32 = 1025;
 
 // The number of the name `h0`, which is that of the set.
 pub(crate) const NAME: u32 = 10;
@@ -24,25 +23,26 @@ pub(crate) struct Search {
 }
 
 // Searches the bucket of the key.
-pub(crate) fn find<V: View>(view: &mut V, key: u32) -> Search
-    requires lawful { IsGrown (V.state view.old) }
-    ensures head { result.head ≡ head_of (V.state view.old) key }
-    ensures spot { EndsHere (V.state view.old) (head_of (V.state view.old) key) key result.spot }
+pub(crate) fn find<const LEVELS: u32, V: View>(view: &mut V, key: u32) -> Search
+    requires lawful { IsGrown LEVELS (V.state view.old) }
+    ensures head { result.head ≡ head_of LEVELS (V.state view.old) key }
+    ensures spot { EndsHere (V.state view.old) (head_of LEVELS (V.state view.old) key) key result.spot }
     ensures as_before { V.as_before view.old view.new }
 {
-    let (level, place) = table_of(view);
-    let head = bucket_of(level, place, key) + 1;
+    let (level, place) = table_of::<LEVELS, V>(view);
+    let number = hash(LEVELS, key as u64);
+    let head = bucket_of(level, place, number) + 1;
     let spot = find_linked(view, head, key);
     Search { head, spot }
 }
 
 // The number of keys. It reads each object of each list.
-pub(crate) fn size<V: View>(view: &mut V) -> u64
-    requires lawful { IsGrown (V.state view.old) }
-    ensures size { result ≡ length (grown_map (V.state view.old)) }
+pub(crate) fn size<const LEVELS: u32, V: View>(view: &mut V) -> u64
+    requires lawful { IsGrown LEVELS (V.state view.old) }
+    ensures size { result ≡ length (grown_map LEVELS (V.state view.old)) }
     ensures as_before { V.as_before view.old view.new }
 {
-    let (level, place) = table_of(view);
+    let (level, place) = table_of::<LEVELS, V>(view);
     let mut count = 0;
     for bucket in 0..buckets(level, place) {
         count += size_linked(view, bucket + 1);
@@ -51,12 +51,12 @@ pub(crate) fn size<V: View>(view: &mut V) -> u64
 }
 
 // The least key that is not below this one. It searches each bucket.
-pub(crate) fn next<V: View>(view: &mut V, key: u32) -> Option<u32>
-    requires lawful { IsGrown (V.state view.old) }
-    ensures next { result ≡ next_key key (grown_map (V.state view.old)) }
+pub(crate) fn next<const LEVELS: u32, V: View>(view: &mut V, key: u32) -> Option<u32>
+    requires lawful { IsGrown LEVELS (V.state view.old) }
+    ensures next { result ≡ next_key key (grown_map LEVELS (V.state view.old)) }
     ensures as_before { V.as_before view.old view.new }
 {
-    let (level, place) = table_of(view);
+    let (level, place) = table_of::<LEVELS, V>(view);
     let mut least = None;
     for bucket in 0..buckets(level, place) {
         let spot = find_linked(view, bucket + 1, key);
@@ -79,26 +79,29 @@ fn lesser(least: Option<u32>, key: u32) -> u32
 
 // A vacant node, if there is one. It looks from a node on that depends on the key, and once round, so that
 // seats that add different keys seldom want the same node.
-pub(crate) fn vacant<V: View>(view: &mut V, key: u32) -> Option<u32>
-    requires some { 1025 < length (V.state view.old) }
+pub(crate) fn vacant<const LEVELS: u32, V: View>(view: &mut V, key: u32) -> Option<u32>
+    requires least { grow_levels ≤ LEVELS }
+    requires most { LEVELS ≤ most_levels }
+    requires some { first_grown LEVELS < length (V.state view.old) }
     requires few { length (V.state view.old) ≤ most_objects }
-    ensures found { MatchOption result ((o : ℕ) → IsFree (V.state view.old) o → ⊥) (IsFree (V.state view.old)) }
+    ensures found { MatchOption result ((o : ℕ) → IsFree LEVELS (V.state view.old) o → ⊥) (IsFree LEVELS (V.state view.old)) }
     ensures as_before { V.as_before view.old view.new }
 {
     let objects = view.objects();
-    let from = FIRST_NODE + key % (objects - FIRST_NODE);
-    match vacant_between(view, from, objects) {
+    let first = first_node(LEVELS);
+    let from = first + key % (objects - first);
+    match vacant_between::<LEVELS, V>(view, from, objects) {
         Some(object) => Some(object),
-        None => vacant_between(view, FIRST_NODE, from),
+        None => vacant_between::<LEVELS, V>(view, first, from),
     }
 }
 
 // The first vacant object of a range of nodes.
-fn vacant_between<V: View>(view: &mut V, from: u32, end: u32) -> Option<u32>
-    requires nodes { 1025 ≤ from }
+fn vacant_between<const LEVELS: u32, V: View>(view: &mut V, from: u32, end: u32) -> Option<u32>
+    requires nodes { first_grown LEVELS ≤ from }
     requires within { end ≤ length (V.state view.old) }
     requires few { length (V.state view.old) ≤ most_objects }
-    ensures found { MatchOption result ((o : ℕ) → from ≤ o → o < end → IsFree (V.state view.old) o → ⊥) (IsFree (V.state view.old)) }
+    ensures found { MatchOption result ((o : ℕ) → from ≤ o → o < end → IsFree LEVELS (V.state view.old) o → ⊥) (IsFree LEVELS (V.state view.old)) }
     ensures as_before { V.as_before view.old view.new }
 {
     for object in from..end {

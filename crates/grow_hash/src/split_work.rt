@@ -4,10 +4,11 @@ ghost use Rattle.grow_hash.specs.Grown.{IsGrown};
 ghost use Rattle.grow_hash.specs.SplitSteps.{IsPlannedSplit, IsClosed};
 
 use crate::bucket::{MOST_SPLIT, Parted, part, read_bucket};
-use crate::rules::GrowRules;
-use crate::table::{MOST_LEVEL, table_of};
+use crate::rules::GrowingRules;
+use crate::table::{most_level, table_of};
 use mv_history::{Tag, View, Words};
 use section_work::{Decision, Work};
+use std::marker::PhantomData;
 
 /// What a look at the bucket at the split place comes to.
 #[derive(Clone, Copy, Debug, Drop, PartialEq, Eq)]
@@ -23,14 +24,17 @@ pub(crate) enum Looked {
 }
 
 /// The split of the bucket at the split place.
-pub(crate) struct SplitWork;
+#[derive(Drop)]
+pub(crate) struct SplitWork<const LEVELS: u32, R> {
+    pub rules: PhantomData<R>,
+}
 
-impl Work for SplitWork {
+impl<const LEVELS: u32, R: GrowingRules<LEVELS>> Work for SplitWork<LEVELS, R> {
     ghost use Rattle.std.specs.Prelude.{⊤, take};
     ghost use Rattle.grow_hash.specs.GrowRules.{split_tag};
     ghost use Rattle.grow_hash.specs.SplitMeaning.{split_meaning};
 
-    type Rules = GrowRules;
+    type Rules = R;
 
     type Reply = Looked;
 
@@ -40,7 +44,7 @@ impl Work for SplitWork {
 
     ghost accepts = { λ w. ⊤ };
 
-    ghost means = { λ w. split_meaning };
+    ghost means = { λ w. split_meaning LEVELS };
 
     ghost tag_of = { λ w parted. split_tag parted.place };
 
@@ -57,7 +61,7 @@ impl Work for SplitWork {
         _time: u64,
     ) -> (V, Decision<Looked, Parted>) {
         let mut view = view;
-        match plan_split(&mut view) {
+        match plan_split::<LEVELS, V>(&mut view) {
             Ok(plan) => {
                 let reply = Looked::Splits;
                 (view, Decision::Change { plan, reply })
@@ -84,20 +88,20 @@ impl Work for SplitWork {
 }
 
 // What the split of the bucket at the split place writes, or by which of the first two tests none can be made.
-fn plan_split<V: View>(view: &mut V) -> Result<Parted, Looked>
-    requires lawful { IsGrown (V.state view.old) }
+fn plan_split<const LEVELS: u32, V: View>(view: &mut V) -> Result<Parted, Looked>
+    requires lawful { IsGrown LEVELS (V.state view.old) }
     ensures planned { MatchResult result
-        (λ parted. IsPlannedSplit (V.state view.old) parted.place (take parted.count parted.writes))
-        (λ looked. IsClosed (V.state view.old) looked) }
+        (λ parted. IsPlannedSplit LEVELS (V.state view.old) parted.place (take parted.count parted.writes))
+        (λ looked. IsClosed LEVELS (V.state view.old) looked) }
     ensures as_before { V.as_before view.old view.new }
 {
-    let (level, place) = table_of(view);
-    if level == MOST_LEVEL {
+    let (level, place) = table_of::<LEVELS, V>(view);
+    if level == most_level(LEVELS) {
         return Err(Looked::Whole);
     }
     let bucket = read_bucket(view, place + 1);
     if bucket.keys > MOST_SPLIT {
         return Err(Looked::Long { keys: bucket.keys });
     }
-    Ok(part(level, place, &bucket))
+    Ok(part(LEVELS, level, place, &bucket))
 }

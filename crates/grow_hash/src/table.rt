@@ -1,16 +1,16 @@
 // The table of a growing hash set.
-ghost use Rattle.std.specs.Prelude.{◌≡◌, ◌+◌, ◌<◌, ◌≤◌};
-ghost use Rattle.grow_hash.specs.Tables.{level, split_place, most_level, buckets_at, bucket_of, next_table};
-ghost use Rattle.grow_hash.specs.Grown.{IsGrown};
+ghost use Rattle.std.specs.Prelude.{◌≡◌, ◌+◌, ◌%◌, ◌<◌, ◌≤◌};
+ghost use Rattle.grow_hash.specs.Tables.{level, split_place, grow_levels, most_levels, most_level, buckets_at, bucket_of, next_table};
+ghost use Rattle.grow_hash.specs.Grown.{IsGrown, first_grown};
 
 use mv_history::{View, Words};
 
-/// The level of the table, 0 to 6, and its split place: the set has `16 * 2^level` buckets, and one
+/// The level of the table, 0 to `LEVELS - 4`, and its split place: the set has `16 * 2^level` buckets, and one
 /// more for each bucket before the split place.
 ///
 /// It needs a lawful state. It reads one object, never refuses, and takes no memory.
-pub fn table_of<V: View>(view: &mut V) -> (u32, u32)
-    requires lawful { IsGrown (V.state view.old) }
+pub fn table_of<const LEVELS: u32, V: View>(view: &mut V) -> (u32, u32)
+    requires lawful { IsGrown LEVELS (V.state view.old) }
     ensures level { result.0 ≡ level (V.state view.old) }
     ensures place { result.1 ≡ split_place (V.state view.old) }
     ensures as_before { V.as_before view.old view.new }
@@ -19,23 +19,17 @@ pub fn table_of<V: View>(view: &mut V) -> (u32, u32)
     (words[2] as u32, words[3] as u32)
 }
 
-// The greatest level.
-pub(crate) const MOST_LEVEL: u32 = 6;
-
-// The number of buckets with which each level begins, and at which the last one ends.
-const BUCKETS: [u32; 7] = [16, 32, 64, 128, 256, 512, 1024];
-
 // The number of buckets with which the level begins.
 pub(crate) fn buckets_at(level: u32) -> u32
-    requires level { level ≤ most_level }
+    requires level { level ≤ most_level most_levels }
     ensures { result ≡ buckets_at level }
 {
-    BUCKETS[level as usize]
+    16 << level
 }
 
 // The words of the table once the bucket at this place is split.
 pub(crate) fn next_table(level: u32, place: u32) -> Words
-    requires level { level ≤ most_level }
+    requires level { level ≤ most_level most_levels }
     requires place { place < buckets_at level }
     ensures { result ≡ next_table level place }
 {
@@ -48,23 +42,50 @@ pub(crate) fn next_table(level: u32, place: u32) -> Words
 
 // The number of buckets of a table.
 pub(crate) fn buckets(level: u32, place: u32) -> u32
-    requires level { level ≤ most_level }
+    requires level { level ≤ most_level most_levels }
     requires place { place < buckets_at level }
     ensures { result ≡ buckets_at level + place }
 {
     buckets_at(level) + place
 }
 
-// The bucket of a key, where the buckets before this place are split.
-pub(crate) fn bucket_of(level: u32, place: u32, key: u32) -> u32
-    requires level { level ≤ most_level }
-    ensures { result ≡ bucket_of level place key }
+// The bucket of a key with this hash, where the buckets before this place are split.
+pub(crate) fn bucket_of(level: u32, place: u32, hash: u64) -> u32
+    requires level { level ≤ most_level most_levels }
+    ensures { result ≡ bucket_of level place hash }
 {
     let buckets = buckets_at(level);
-    let bucket = key % buckets;
+    let bucket = remainder(hash, buckets);
     if bucket < place {
-        key % (2 * buckets)
+        remainder(hash, 2 * buckets)
     } else {
         bucket
     }
+}
+
+// The remainder of a hash.
+fn remainder(hash: u64, buckets: u32) -> u32
+    requires some { 0 < buckets }
+    ensures { result ≡ hash % buckets }
+{
+    (hash % buckets as u64) as u32
+}
+
+// The greatest level.
+pub(crate) fn most_level(levels: u32) -> u32
+    requires least { grow_levels ≤ levels }
+    ensures { result ≡ most_level levels }
+{
+    levels - 4
+}
+
+// The object that is the first node. Object 0 is the table, and the others are heads of buckets.
+pub(crate) fn first_node(levels: u32) -> u32
+    requires least { grow_levels ≤ levels }
+    requires most { levels ≤ most_levels }
+    ensures { result ≡ first_grown levels }
+{
+    let most = most_level(levels);
+    let heads = buckets_at(most);
+    heads + 1
 }

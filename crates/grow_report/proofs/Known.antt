@@ -18,7 +18,7 @@ use Rattle.run_report.specs.declared.line.Line.{Line}
 use Rattle.run_report.specs.Order.{time_of}
 use Rattle.run_report.specs.Worked.{Past}
 use Rattle.run_report.proofs.history.Grown.{longer, made_in, there_longer, state_longer, IsAtOpening, IsKnown, AreKnown}
-use Rattle.grow_hash.specs.Tables.{level, split_place}
+use Rattle.grow_hash.specs.Tables.{grow_levels, level, split_place}
 use Rattle.grow_hash.specs.Grown.{grown_catalogue, grown_capacity}
 use Rattle.grow_hash.specs.GrowRules.{split_tag}
 use Rattle.grow_hash.specs.SplitCalls.{keys_at_place, most_split}
@@ -41,9 +41,9 @@ module _ (p : Past) (more : List Entry) where
           there = there_longer p.entries more (time - (p.base + 1)) (Change placed.0) made.there;
           seat_is = made.seat_is;
           tagged = made.tagged;
-          answers = made.answers ∙ sym (λ i. reply command (grown_catalogue (before i)) (grown_capacity p.start) false);
-          changing = (λ i. changes command (grown_catalogue (before i)) (grown_capacity p.start) false) ∙ made.changing;
-          leaves = ap grown_catalogue now ∙ made.leaves ∙ sym (λ i. next command (grown_catalogue (before i)) (grown_capacity p.start) false);
+          answers = made.answers ∙ sym (λ i. reply command (grown_catalogue grow_levels (before i)) (grown_capacity grow_levels p.start) false);
+          changing = (λ i. changes command (grown_catalogue grow_levels (before i)) (grown_capacity grow_levels p.start) false) ∙ made.changing;
+          leaves = ap (grown_catalogue grow_levels) now ∙ made.leaves ∙ sym (λ i. next command (grown_catalogue grow_levels (before i)) (grown_capacity grow_levels p.start) false);
         },
       )
   place_longer seat command (Read time) answer commits placed =
@@ -53,8 +53,8 @@ module _ (p : Past) (more : List Entry) where
         record {
           after = read.after;
           seen = omega (arith, read.seen, length-append p.entries more);
-          answers = read.answers ∙ sym (λ i. reply command (grown_catalogue (same i)) (grown_capacity p.start) (time == p.last));
-          unchanging = (λ i. changes command (grown_catalogue (same i)) (grown_capacity p.start) (time == p.last)) ∙ read.unchanging;
+          answers = read.answers ∙ sym (λ i. reply command (grown_catalogue grow_levels (same i)) (grown_capacity grow_levels p.start) (time == p.last));
+          unchanging = (λ i. changes command (grown_catalogue grow_levels (same i)) (grown_capacity grow_levels p.start) (time == p.last)) ∙ read.unchanging;
         },
       )
 

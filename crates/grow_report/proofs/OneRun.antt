@@ -33,6 +33,7 @@ use Rattle.grow_report.proofs.Openings.{grown_empty}
 use Rattle.grow_report.proofs.Seats.{all_ids, all_stand, all_steps, groups_count, steps_flat}
 use Rattle.grow_report.proofs.Steps.{turn_steps}
 use Rattle.grow_report.proofs.Still.{plain_from}
+use Rattle.grow_hash.specs.Tables.{grow_levels}
 
 -- a run stays one whatever the order of its lines
 pub run_permuted : (p : Past) (scripts : List (List Command)) (lines others : List Line) (end : Maps) (splits : ℕ) (tables : List LogTable)
@@ -55,14 +56,14 @@ run_permuted p scripts lines others end splits tables same run =
       end_is = run.end_is;
       table_each = run.table_each;
       table_of = run.table_of;
-      run = legal_permuted scripts lines others p.base (grown_capacity p.start) end same run.run;
+      run = legal_permuted scripts lines others p.base (grown_capacity grow_levels p.start) end same run.run;
     }
 
 -- What holds of a history that the seats of the scripts made from an opening state on, and of the turns of all of them.
 pub record IsGrowWorked (p : Past) (scripts : List (List Command)) (groups : List (List Turn)) : Type 0 where
-  pub opening : IsGrownOpening p.start
+  pub opening : IsGrownOpening grow_levels p.start
   pub legal : IsLegal (length p.start) p.entries
-  pub allowed : IsAllowed IsGrowCommit p.start p.entries
+  pub allowed : IsAllowed (IsGrowCommit grow_levels) p.start p.entries
   pub last : p.last ≡ LAST
   pub makers : All (λ e. maker_of e < length scripts) p.entries
   pub each : AllTurns p 0 scripts groups
@@ -109,7 +110,7 @@ module _ (p : Past) (scripts : List (List Command)) (groups : List (List Turn)) 
 
   -- ordered lines replay from empty maps
   replays : (ordered : List Line) → IsPermutation lines ordered → IsOrdered ordered
-      → Replays scripts (grown_capacity p.start) empty ordered (grown_catalogue (state_after p.start p.entries))
+      → Replays scripts (grown_capacity grow_levels p.start) empty ordered (grown_catalogue grow_levels (state_after p.start p.entries))
   replays ordered same rising =
       let from : p.base ≡ p.base + 0 = omega arith in
       let left : AreLeft p scripts 0 ordered = record {
@@ -121,10 +122,10 @@ module _ (p : Past) (scripts : List (List Command)) (groups : List (List Turn)) 
             let found = plain_from p.entries i c there in
             lines_permuted (p.base + suc i) lines ordered same ∙ one_line i c found.0 ∙ ap (λ b. cond b 0 1) found.1;
       } in
-      subst (λ m. Replays scripts (grown_capacity p.start) m ordered (grown_catalogue (state_after p.start p.entries))) (grown_empty p.start h.opening)
+      subst (λ m. Replays scripts (grown_capacity grow_levels p.start) m ordered (grown_catalogue grow_levels (state_after p.start p.entries))) (grown_empty p.start h.opening)
       (replay p scripts h.allowed h.last 0 ordered left)
 
-  legal_run : LegalRun scripts lines p.base (grown_capacity p.start) (grown_catalogue (state_after p.start p.entries))
+  legal_run : LegalRun scripts lines p.base (grown_capacity grow_levels p.start) (grown_catalogue grow_levels (state_after p.start p.entries))
   legal_run =
       let ordered = some_order lines in
       record {
@@ -138,9 +139,9 @@ module _ (p : Past) (scripts : List (List Command)) (groups : List (List Turn)) 
   -- The lines are those of one run.
   pub grow_run_of : (all : List Line) (tables : List LogTable) → all ≡ lines → length tables ≡ length scripts
       → ((seat : ℕ) (table : LogTable) → slice_get tables seat ≡ Some table → IsTableOf p.entries seat table)
-      → GrowRunOf p scripts all (grown_catalogue (state_after p.start p.entries)) (count_splits p.entries) tables
+      → GrowRunOf p scripts all (grown_catalogue grow_levels (state_after p.start p.entries)) (count_splits p.entries) tables
   grow_run_of all tables are each of_seat =
-      run_permuted p scripts lines all (grown_catalogue (state_after p.start p.entries)) (count_splits p.entries) tables
+      run_permuted p scripts lines all (grown_catalogue grow_levels (state_after p.start p.entries)) (count_splits p.entries) tables
       (subst (IsPermutation lines) (sym are) (IsPermutation-refl lines))
       record {
         opening = h.opening;
@@ -153,8 +154,8 @@ module _ (p : Past) (scripts : List (List Command)) (groups : List (List Turn)) 
         each = h.each;
         of_turns = sym (splits_all p scripts groups h.each h.makers);
         of_history = refl;
-        buckets_are = buckets_after p.start p.entries h.opening h.allowed;
-        lawful = grown_after p.start p.entries h.opening h.allowed;
+        buckets_are = buckets_after grow_levels p.start p.entries h.opening h.allowed;
+        lawful = grown_after grow_levels p.start p.entries h.opening h.allowed;
         end_is = refl;
         table_each = each;
         table_of = of_seat;

@@ -8,6 +8,7 @@ use Rattle.set_script.specs.Catalogue.{empty, put}
 use Rattle.set_script.specs.CatalogueOf.{map_among}
 use Rattle.set_script.proofs.ObjectWords.{word}
 use Rattle.grow_hash.specs.Grown.{IsGrownOpening, grown_catalogue, grown_map, grown_name, is_used}
+use Rattle.grow_hash.specs.Tables.{grow_levels}
 
 none_picked : (test : List ℕ → _) (s : State) → ((i : ℕ) → i < length s → test (words_at s i) ≡ false) → map_among test s ≡ []
 unfolding map_among
@@ -16,12 +17,12 @@ none_picked test (w ∷ s) f =
     ap (λ b. cond b (put (word 2 w) (word 5 w) (map_among test s)) (map_among test s)) (f 0 (omega arith))
     ∙ none_picked test s (λ i l. f (suc i) (omega arith))
 
-opening_map : (s : State) → IsGrownOpening s → grown_map s ≡ []
+opening_map : (s : State) → IsGrownOpening grow_levels s → grown_map grow_levels s ≡ []
 opening_map s z =
     none_picked is_used (drop 1025 s)
     (λ i lt.
     let within : 1025 + i < length s = omega (arith, lt, length-drop 1025 s) in
     ap is_used (get_or-drop 1025 s i [] ∙ z.zeros (1025 + i) within))
 
-pub grown_empty : (s : State) → IsGrownOpening s → grown_catalogue s ≡ empty
+pub grown_empty : (s : State) → IsGrownOpening grow_levels s → grown_catalogue grow_levels s ≡ empty
 grown_empty s z = ap (λ m. set empty grown_name m) (opening_map s z)

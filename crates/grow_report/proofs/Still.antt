@@ -13,6 +13,7 @@ use Rattle.run_report.proofs.history.Changes.{IsQuiet, state_next}
 use Rattle.grow_hash.specs.Grown.{grown_catalogue}
 use Rattle.grow_hash.specs.GrowRules.{Growing, makes, splits, growing_of, Grows, IsGrowCommit}
 use Rattle.grow_hash.specs.Splits.{is_splitting}
+use Rattle.grow_hash.specs.Tables.{grow_levels}
 
 -- an entry, but that a split is as one that writes nothing
 abbrev pub plain_entry : Entry → Entry
@@ -51,8 +52,8 @@ plain_from (e ∷ es) zero c is =
 plain_from (e ∷ es) (suc i) c is = plain_from es i c is
 
 -- what is done leaves the catalogue where it is a split
-grows_leaves : (growing : Option Growing) (before after : State) (writes : Writes) → is_splitting growing ≡ true → Grows growing before after writes
-    → grown_catalogue after ≡ grown_catalogue before
+grows_leaves : (growing : Option Growing) (before after : State) (writes : Writes) → is_splitting growing ≡ true → Grows grow_levels growing before after writes
+    → grown_catalogue grow_levels after ≡ grown_catalogue grow_levels before
 grows_leaves None before after writes is h = absurd h
 grows_leaves (Some (makes command)) before after writes is h = absurd (cc)
 grows_leaves (Some (splits place)) before after writes is h = h.leaves
@@ -63,23 +64,23 @@ take_none [] (suc i) is = refl
 take_none (e ∷ es) zero is = absurd (cc)
 take_none (e ∷ es) (suc i) is = ap (λ r. e ∷ r) (take_none es i is)
 
-module _ (start : State) (es : List Entry) (allowed : IsAllowed IsGrowCommit start es) where
+module _ (start : State) (es : List Entry) (allowed : IsAllowed (IsGrowCommit grow_levels) start es) where
   -- the catalogue after so many entries
   abbrev pub catalogue_at : ℕ → Maps
-  catalogue_at t = grown_catalogue (state_at start es t)
+  catalogue_at t = grown_catalogue grow_levels (state_at start es t)
 
   split_leaves : (i : ℕ) (c : Commit) → slice_get es i ≡ Some (Change c) → is_splitting (growing_of c.tag) ≡ true
       → catalogue_at (suc i) ≡ catalogue_at i
   split_leaves i c there split =
       let made = allowed (take i es) (drop (suc i) es) c (split_at es i (Change c) there) in
-      ap grown_catalogue (state_next start es i (Change c) there)
+      ap (grown_catalogue grow_levels) (state_next start es i (Change c) there)
       ∙ grows_leaves (growing_of c.tag) (state_at start es i) (written (state_at start es i) c.writes) c.writes split made.grows
 
   -- one entry that is no command
   one_still : (i : ℕ) (e : Option Entry) → slice_get es i ≡ e → ((c : Commit) → slice_get (plain es) i ≡ Some (Change c) → ⊥)
       → catalogue_at (suc i) ≡ catalogue_at i
-  one_still i None is quiet = ap (λ r. grown_catalogue (state_after start r)) (take_none es i is)
-  one_still i (Some (Rest seat)) is quiet = ap grown_catalogue (state_next start es i (Rest seat) is)
+  one_still i None is quiet = ap (λ r. grown_catalogue grow_levels (state_after start r)) (take_none es i is)
+  one_still i (Some (Rest seat)) is quiet = ap (grown_catalogue grow_levels) (state_next start es i (Rest seat) is)
   one_still i (Some (Change c)) is quiet = by (is_splitting (growing_of c.tag)) refl
     where
       by : (b : Bool) → is_splitting (growing_of c.tag) ≡ b → catalogue_at (suc i) ≡ catalogue_at i

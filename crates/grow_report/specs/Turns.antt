@@ -43,7 +43,7 @@ use Rattle.run_report.specs.Legal.{Follows}
 use Rattle.run_report.specs.Order.{time_of}
 use Rattle.run_report.specs.Summary.{says_yes}
 use Rattle.run_report.specs.Worked.{Past, past_of, state_of_time}
-use Rattle.grow_hash.specs.Tables.{level, most_level, split_place}
+use Rattle.grow_hash.specs.Tables.{grow_levels, level, most_level, split_place}
 use Rattle.grow_hash.specs.Grown.{grown_catalogue, grown_capacity}
 use Rattle.grow_hash.specs.GrowRules.{split_tag}
 use Rattle.grow_hash.specs.SplitCalls.{keys_at_place, most_split}
@@ -55,16 +55,16 @@ pub record IsGrowCommitOf (p : Past) (seat : ℕ) (command : Command) (time : �
   pub there : slice_get p.entries (time - (p.base + 1)) ≡ Some (Change c)
   pub seat_is : c.seat ≡ seat
   pub tagged : c.tag ≡ tag_of command
-  pub answers : answer ≡ reply command (grown_catalogue (state_of_time p (time - 1))) (grown_capacity p.start) false
-  pub changing : changes command (grown_catalogue (state_of_time p (time - 1))) (grown_capacity p.start) false ≡ true
-  pub leaves : grown_catalogue (state_of_time p time) ≡ next command (grown_catalogue (state_of_time p (time - 1))) (grown_capacity p.start) false
+  pub answers : answer ≡ reply command (grown_catalogue grow_levels (state_of_time p (time - 1))) (grown_capacity grow_levels p.start) false
+  pub changing : changes command (grown_catalogue grow_levels (state_of_time p (time - 1))) (grown_capacity grow_levels p.start) false ≡ true
+  pub leaves : grown_catalogue grow_levels (state_of_time p time) ≡ next command (grown_catalogue grow_levels (state_of_time p (time - 1))) (grown_capacity grow_levels p.start) false
 
 -- This is the command's reply in the state of this printed time, and it has nothing to change there.
 pub record IsGrowReadOf (p : Past) (command : Command) (time : ℕ) (answer : Reply) : Type 0 where
   pub after : p.base ≤ time
   pub seen : time ≤ p.base + length p.entries
-  pub answers : answer ≡ reply command (grown_catalogue (state_of_time p time)) (grown_capacity p.start) (time == p.last)
-  pub unchanging : changes command (grown_catalogue (state_of_time p time)) (grown_capacity p.start) (time == p.last) ≡ false
+  pub answers : answer ≡ reply command (grown_catalogue grow_levels (state_of_time p time)) (grown_capacity grow_levels p.start) (time == p.last)
+  pub unchanging : changes command (grown_catalogue grow_levels (state_of_time p time)) (grown_capacity grow_levels p.start) (time == p.last) ≡ false
 
 -- the command has this place and this reply in the history, and these are the commits of it: one, or none
 abbrev pub GrowPlaceOf : Past → ℕ → Command → Place → Reply → List Commit → Type 0
@@ -81,7 +81,7 @@ pub record IsSplitOf (p : Past) (seat time : ℕ) (c : Commit) : Type 0 where
 -- The state of this printed time can't be split: the level is the greatest, or the next bucket has too many keys, or it is the last time.
 abbrev pub CannotSplit : Past → ℕ → Type 0
 CannotSplit p time =
-    (level (state_of_time p time) ≡ most_level) ⊎ (most_split < keys_at_place (state_of_time p time)) ⊎ (time ≡ p.last)
+    (level (state_of_time p time) ≡ most_level grow_levels) ⊎ (most_split < keys_at_place (state_of_time p time)) ⊎ (time ≡ p.last)
 
 -- The time is ahead of a seat's next line, if there is one: that line follows it.
 abbrev pub IsAhead : Option Place → ℕ → Type 0

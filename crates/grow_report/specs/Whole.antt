@@ -15,7 +15,7 @@ use Rattle.run_report.specs.declared.line.Line.{Line}
 use Rattle.run_report.specs.Legal.{LegalRun, command_of}
 use Rattle.run_report.specs.Whole.{IsTableOf, commit_lines}
 use Rattle.run_report.specs.Worked.{Past}
-use Rattle.grow_hash.specs.Tables.{buckets}
+use Rattle.grow_hash.specs.Tables.{grow_levels, buckets}
 use Rattle.grow_hash.specs.Grown.{IsGrown, IsGrownOpening, grown_catalogue, grown_capacity}
 use Rattle.grow_hash.specs.GrowRules.{IsGrowCommit, growing_of}
 use Rattle.grow_hash.specs.Splits.{is_splitting, count_splits}
@@ -59,9 +59,9 @@ flat_turns groups = flat_map (λ turns. turns) groups
 -- with so many splits.
 pub record GrowRunOf (p : Past) (scripts : List (List Command)) (lines : List Line) (end : Maps) (splits : ℕ) (tables : List LogTable) : Type 0 where
   -- the history begins with objects that are all zero, it is legal, and each of its commits does what its command does, or is a split
-  pub opening : IsGrownOpening p.start
+  pub opening : IsGrownOpening grow_levels p.start
   pub legal : IsLegal (length p.start) p.entries
-  pub allowed : IsAllowed IsGrowCommit p.start p.entries
+  pub allowed : IsAllowed (IsGrowCommit grow_levels) p.start p.entries
   -- each line stands in the history, and each commit of the history has exactly one line or is a split
   pub stand : All (GrowStandsIn p scripts) lines
   pub one_line : EachHasOneLineOrSplits p lines
@@ -74,10 +74,10 @@ pub record GrowRunOf (p : Past) (scripts : List (List Command)) (lines : List Li
   pub of_history : splits ≡ count_splits p.entries
   pub buckets_are : buckets (state_after p.start p.entries) ≡ 16 + splits
   -- the maps are those of the state after the whole history, which is lawful
-  pub lawful : IsGrown (state_after p.start p.entries)
-  pub end_is : end ≡ grown_catalogue (state_after p.start p.entries)
+  pub lawful : IsGrown grow_levels (state_after p.start p.entries)
+  pub end_is : end ≡ grown_catalogue grow_levels (state_after p.start p.entries)
   -- there is a table for each script, in order, and it counts what that seat did
   pub table_each : length tables ≡ length scripts
   pub table_of : (seat : ℕ) (table : LogTable) → slice_get tables seat ≡ Some table → IsTableOf p.entries seat table
   -- each command of each script has exactly one line, and the replay of the lines gives every reply and ends in the maps
-  pub run : LegalRun scripts lines p.base (grown_capacity p.start) end
+  pub run : LegalRun scripts lines p.base (grown_capacity grow_levels p.start) end

@@ -2,7 +2,7 @@
 ghost use Rattle.std.specs.Prelude.{◌≡◌, ◌≤◌, ◌+◌, All, IfErr, IfOk, MatchResult, length, map, string_bytes};
 ghost use Rattle.grow_hash.specs.GrowPlans.{IsOfGrown};
 ghost use Rattle.grow_hash.specs.Grown.{IsGrown};
-ghost use Rattle.grow_hash.specs.Tables.{buckets};
+ghost use Rattle.grow_hash.specs.Tables.{grow_levels, buckets};
 ghost use Rattle.script_workers.specs.Workers.{items_of};
 ghost use Rattle.run_report.specs.Order.{IsOrdered};
 ghost use Rattle.run_words.specs.Words.{FitOptions};
@@ -12,7 +12,7 @@ ghost use Rattle.script_files.specs.declared.scripts.Grammar.TheVariants as gram
 ghost use Rattle.script_files.specs.Scripts.{AnyStop, NoneFails, commands as by_command};
 
 use grow_domain::run_grow_domain;
-use grow_hash::{GrowRules, read_grown, table_of};
+use grow_hash::{GROW_LEVELS, GrowRules, read_grown, table_of};
 use grow_report::{order_grown, render_grown};
 use mv_history::View;
 use mvrlu::Closing;
@@ -33,12 +33,12 @@ const WRITE_MAX: u32 = 64;
 const FIRST_BUCKETS: u32 = 16;
 
 // The text of a run on a growing set, and what is left of its domain.
-type FromRun = (Vec<u8>, Closing<GrowRules>);
+type FromRun = (Vec<u8>, Closing<GrowRules<GROW_LEVELS>>);
 
 // What a run on a growing set gives, as a run of scripts does, and how many splits its history has.
 #[derive(Drop)]
 struct ToldGrown {
-    closing: Closing<GrowRules>,
+    closing: Closing<GrowRules<GROW_LEVELS>>,
     lines: Vec<Line>,
     end: Catalogue,
     splits: u32,
@@ -120,7 +120,7 @@ fn run_grown_set<R: Threads + Wait + Sync, G: Gate>(
     ))?;
     order_grown(&mut lines);
     let splits = count_splits(&mut closing);
-    let end = read_grown(alloc, &mut closing)?;
+    let end = read_grown::<GROW_LEVELS, _>(alloc, &mut closing)?;
     Ok(ToldGrown {
         closing,
         lines,
@@ -131,10 +131,10 @@ fn run_grown_set<R: Threads + Wait + Sync, G: Gate>(
 
 // How many splits a growing set has had: one for each bucket but those that it began with.
 fn count_splits<V: View>(view: &mut V) -> u32
-    requires lawful { IsGrown (V.state view.old) }
+    requires lawful { IsGrown grow_levels (V.state view.old) }
     ensures splits { FIRST_BUCKETS + result ≡ buckets (V.state view.old) }
     ensures as_before { V.as_before view.old view.new }
 {
-    let (level, place) = table_of(view);
+    let (level, place) = table_of::<GROW_LEVELS, V>(view);
     (FIRST_BUCKETS << level) + place - FIRST_BUCKETS
 }

@@ -5,7 +5,7 @@ ghost use Rattle.mvrlu.specs.Orders.{AreRising};
 
 use crate::opening::{numbers, open_grown};
 use crate::steps::{Step, play};
-use grow_hash::GrowRules;
+use grow_hash::{GROW_LEVELS, GrowRules};
 use mv_history::{View, Words};
 use mvrlu::{Domain, Seat};
 use std::alloc::{AllocError, Global};
@@ -36,10 +36,10 @@ fn expect_list<V: View>(rt: &impl Abort, view: &mut V, head: u32, keys: &[u64]) 
 fn play_seat(
     rt: &impl Abort,
     alloc: Global,
-    domain: &Domain<GrowRules>,
-    mut seats: Vec<Seat<GrowRules>>,
+    domain: &Domain<GrowRules<GROW_LEVELS>>,
+    mut seats: Vec<Seat<GrowRules<GROW_LEVELS>>>,
     steps: &[Step],
-) -> (Vec<Seat<GrowRules>>, Result<(), AllocError>)
+) -> (Vec<Seat<GrowRules<GROW_LEVELS>>>, Result<(), AllocError>)
     requires one { vec_len seats ≡ 1 }
     requires rising { AreRising seat_of domain.now seats.items }
     requires most { 64 ≤ (numbers_of domain.now).write_max }

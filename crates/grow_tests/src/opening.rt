@@ -3,7 +3,7 @@ ghost use Rattle.std.specs.Prelude.{◌≡◌, ◌<◌, IfOk, replicate};
 ghost use Rattle.mvrlu.specs.Opened.{IsOpened};
 ghost use Rattle.set_script.specs.Objects.{no_words};
 
-use grow_hash::GrowRules;
+use grow_hash::{GROW_LEVELS, GrowRules};
 use mv_layout::Config;
 use mvrlu::{Domain, OpenFault, Seat, open_zeros};
 use std::alloc::{AllocError, Global};
@@ -30,7 +30,7 @@ pub(crate) fn numbers(objects: u32, base: u64) -> Config
 pub(crate) fn open_grown(
     alloc: Global,
     config: Config,
-) -> Result<(Domain<GrowRules>, Vec<Seat<GrowRules>>), Fail>
+) -> Result<(Domain<GrowRules<GROW_LEVELS>>, Vec<Seat<GrowRules<GROW_LEVELS>>>), Fail>
     requires some { 1025 < config.objects }
     requires few { config.objects < 65536 }
     ensures { IfOk result (λ r. IsOpened config (replicate config.objects no_words) r.0 r.1.items) }

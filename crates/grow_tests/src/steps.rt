@@ -4,7 +4,7 @@ ghost use Rattle.mv_history.specs.Calls.{Continues};
 ghost use Rattle.grow_hash.specs.GrowPlans.{IsOfGrown};
 ghost use Rattle.grow_hash.specs.SplitCalls.{most_writes};
 
-use grow_hash::{GrowRules, GrowStep, Split, attempt_grow, read_grown, table_of, try_split};
+use grow_hash::{GROW_LEVELS, GrowRules, GrowStep, Split, attempt_grow, read_grown, table_of, try_split};
 use mv_history::{Section, Store};
 use section_work::Place;
 use set_script::{Catalogue, Command, Name, Reply};
@@ -79,7 +79,7 @@ pub(crate) fn command(ask: Ask) -> Command
 }
 
 // Attempts a command once. Of what it ensures, its callers need only that the seat goes on.
-fn answer_of<S: Store<Rules = GrowRules>>(store: S, ask: Ask) -> (S, GrowStep)
+fn answer_of<S: Store<Rules = GrowRules<GROW_LEVELS>>>(store: S, ask: Ask) -> (S, GrowStep)
     requires most { most_writes ≤ (S.seat_of store).write_max }
     ensures { Continues (S.seat_of store) (S.seat_of result.0) }
 {
@@ -87,7 +87,7 @@ fn answer_of<S: Store<Rules = GrowRules>>(store: S, ask: Ask) -> (S, GrowStep)
 }
 
 // Attempts a command once, and looks at its reply and its place.
-fn attempt<S: Store<Rules = GrowRules>>(
+fn attempt<S: Store<Rules = GrowRules<GROW_LEVELS>>>(
     rt: &impl Abort,
     store: S,
     ask: Ask,
@@ -103,7 +103,7 @@ fn attempt<S: Store<Rules = GrowRules>>(
 }
 
 // Adds new keys.
-fn add_all<S: Store<Rules = GrowRules>>(rt: &impl Abort, mut store: S, keys: Keys, from: u64) -> S
+fn add_all<S: Store<Rules = GrowRules<GROW_LEVELS>>>(rt: &impl Abort, mut store: S, keys: Keys, from: u64) -> S
     requires most { most_writes ≤ (S.seat_of store).write_max }
     ensures { Continues (S.seat_of store) (S.seat_of result) }
 {
@@ -115,7 +115,7 @@ fn add_all<S: Store<Rules = GrowRules>>(rt: &impl Abort, mut store: S, keys: Key
 }
 
 // Tries a split once. Of what it ensures, its callers need only that the seat goes on.
-fn split_of<S: Store<Rules = GrowRules>>(store: S) -> (S, Split)
+fn split_of<S: Store<Rules = GrowRules<GROW_LEVELS>>>(store: S) -> (S, Split)
     requires most { most_writes ≤ (S.seat_of store).write_max }
     ensures { Continues (S.seat_of store) (S.seat_of result.0) }
 {
@@ -123,7 +123,7 @@ fn split_of<S: Store<Rules = GrowRules>>(store: S) -> (S, Split)
 }
 
 // Tries a split once, and looks at its answer.
-fn split_once<S: Store<Rules = GrowRules>>(rt: &impl Abort, store: S, split: Split) -> S
+fn split_once<S: Store<Rules = GrowRules<GROW_LEVELS>>>(rt: &impl Abort, store: S, split: Split) -> S
     requires most { most_writes ≤ (S.seat_of store).write_max }
     ensures { Continues (S.seat_of store) (S.seat_of result) }
 {
@@ -133,7 +133,7 @@ fn split_once<S: Store<Rules = GrowRules>>(rt: &impl Abort, store: S, split: Spl
 }
 
 // Splits so many buckets.
-fn split_all<S: Store<Rules = GrowRules>>(rt: &impl Abort, mut store: S, count: u32) -> S
+fn split_all<S: Store<Rules = GrowRules<GROW_LEVELS>>>(rt: &impl Abort, mut store: S, count: u32) -> S
     requires most { most_writes ≤ (S.seat_of store).write_max }
     ensures { Continues (S.seat_of store) (S.seat_of result) }
 {
@@ -146,23 +146,23 @@ fn split_all<S: Store<Rules = GrowRules>>(rt: &impl Abort, mut store: S, count: 
 }
 
 // The level and the split place.
-fn read_table<S: Store<Rules = GrowRules>>(store: S) -> (S, (u32, u32))
+fn read_table<S: Store<Rules = GrowRules<GROW_LEVELS>>>(store: S) -> (S, (u32, u32))
     ensures { Continues (S.seat_of store) (S.seat_of result.0) }
 {
     let mut section = store.enter();
-    let table = table_of(&mut section);
+    let table = table_of::<GROW_LEVELS, _>(&mut section);
     (section.leave(), table)
 }
 
 // The whole catalogue.
-fn read_all<S: Store<Rules = GrowRules>>(
+fn read_all<S: Store<Rules = GrowRules<GROW_LEVELS>>>(
     alloc: Global,
     store: S,
 ) -> (S, Result<Catalogue, AllocError>)
     ensures { Continues (S.seat_of store) (S.seat_of result.0) }
 {
     let mut section = store.enter();
-    let all = read_grown(alloc, &mut section);
+    let all = read_grown::<GROW_LEVELS, _>(alloc, &mut section);
     (section.leave(), all)
 }
 
@@ -180,7 +180,7 @@ fn expect_keys(rt: &impl Abort, all: &Catalogue, keys: Keys) {
 }
 
 // Looks that the table has this level and this split place.
-fn expect_table<S: Store<Rules = GrowRules>>(rt: &impl Abort, store: S, level: u32, place: u32) -> S
+fn expect_table<S: Store<Rules = GrowRules<GROW_LEVELS>>>(rt: &impl Abort, store: S, level: u32, place: u32) -> S
     ensures { Continues (S.seat_of store) (S.seat_of result) }
 {
     let (after, table) = read_table(store);
@@ -189,7 +189,7 @@ fn expect_table<S: Store<Rules = GrowRules>>(rt: &impl Abort, store: S, level: u
 }
 
 // Looks that the set has exactly these keys. The error is want of memory for them.
-fn expect_held<S: Store<Rules = GrowRules>>(
+fn expect_held<S: Store<Rules = GrowRules<GROW_LEVELS>>>(
     rt: &impl Abort,
     alloc: Global,
     store: S,
@@ -202,7 +202,7 @@ fn expect_held<S: Store<Rules = GrowRules>>(
 }
 
 // Makes one step. The error is want of memory for the keys.
-fn make<S: Store<Rules = GrowRules>>(
+fn make<S: Store<Rules = GrowRules<GROW_LEVELS>>>(
     rt: &impl Abort,
     alloc: Global,
     store: S,
@@ -222,7 +222,7 @@ fn make<S: Store<Rules = GrowRules>>(
 }
 
 // Makes the steps, one after another. The error is want of memory, and comes at the step that found it.
-pub(crate) fn play<S: Store<Rules = GrowRules>>(
+pub(crate) fn play<S: Store<Rules = GrowRules<GROW_LEVELS>>>(
     rt: &impl Abort,
     alloc: Global,
     mut store: S,

@@ -7,6 +7,7 @@ use Rattle.grow_workers.proofs.Terms.{GrowAttempted, Done, is_added, odd_with, S
 use Rattle.grow_workers.proofs.Terms.{GrowKept, kept, LinkedCommand, LinkedTurn, LinkedDone, LinkedIf, IsAnsweredBy, IsUnderTurn}
 use Rattle.grow_workers.proofs.Places.{answered, command_ran}
 use Rattle.item_workers.specs.declared.runner.Tried.TheVariants as tries
+use Rattle.grow_hash.specs.Tables.{grow_levels}
 
 -- behind the second of two adds their number is even
 even_then : (o a : Bool) → (o && a) ≡ true → odd_with o a ≡ false
@@ -15,8 +16,8 @@ even_then _ _ e = absurd (cc)
 
 module _ (k : Causes) (s : GrowKept) (command : Command) where
   -- An attempt of the command that is done leaves its link, and a seat that may hold what a split locks.
-  pub done_command : (t u : Seat) (place : Place) (answer : Reply) → IsUnder most_writes s.seat t → IsSeat IsGrownOpening IsGrowCommit u
-      → GrowAttempted k t u command (Done answer place) → LinkedCommand k s.seat u command place answer × IsUnder most_writes u u
+  pub done_command : (t u : Seat) (place : Place) (answer : Reply) → IsUnder most_writes s.seat t → IsSeat (IsGrownOpening grow_levels) (IsGrowCommit grow_levels) u
+      → GrowAttempted grow_levels k t u command (Done answer place) → LinkedCommand k s.seat u command place answer × IsUnder most_writes u u
   done_command t u place answer under lawful left =
       let linked : LinkedCommand k s.seat u command place answer = record { from = t; none = under.none; attempted = left; lawful = lawful } in
       let ran = command_ran k s.seat u command place answer linked in
@@ -35,7 +36,7 @@ module _ (k : Causes) (s : GrowKept) (command : Command) where
   -- What a try of the split leaves that is due behind a command that is done.
   pub split_told : (between t u : Seat) (odd : Bool) (found : Option (Place × Reply)) (place : Place) (answer : Reply) (tried : Tried (Place × Reply))
       → LinkedCommand k s.seat between command place answer → IsUnder most_writes between t → (s.odd && is_added command answer) ≡ true
-      → IsSeat IsGrownOpening IsGrowCommit u
+      → IsSeat (IsGrownOpening grow_levels) (IsGrowCommit grow_levels) u
       → OnTried (λ d. (d ≡ (place, answer)) × (odd ≡ false) × (found ≡ None) × IsAnsweredBy k t u)
       ((odd ≡ true) × (found ≡ Some (place, answer)) × CommitsNone t u) tried
       → OnTried (λ d. LinkedDone k s (kept u odd) command d × ((found ≡ None) × (most_writes ≤ u.write_max))) (IsUnderTurn k s command (kept u odd) found) tried

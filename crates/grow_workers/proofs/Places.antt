@@ -17,10 +17,11 @@ use Rattle.grow_workers.proofs.Terms.{State, Seat, IsSeat, Continues, Continues-
 use Rattle.grow_workers.proofs.Terms.{last_by, ran_commit, ran_read, ran_after, LinkedCommand, IsAnsweredBy, LinkedIf}
 use Rattle.set_script.specs.declared.commands.Command.TheVariants as commands
 use Rattle.grow_hash.specs.declared.answer.Split.TheVariants as splits
+use Rattle.grow_hash.specs.Tables.{grow_levels}
 
 -- each state has as many nodes as the first
-pub same_room : (s : Seat) (time : ℕ) → grown_capacity (state_of_time (past_of s) time) ≡ grown_capacity s.start
-same_room s time = ap (λ objects. objects - first_grown) (length-state_after s.start (take (time - s.base) s.seen))
+pub same_room : (s : Seat) (time : ℕ) → grown_capacity grow_levels (state_of_time (past_of s) time) ≡ grown_capacity grow_levels s.start
+same_room s time = ap (λ objects. objects - first_grown grow_levels) (length-state_after s.start (take (time - s.base) s.seen))
 
 -- the reply of a change is yes only where there is one
 change_yes : (a o : Bool) → (if a then (if o then Full else (if false then Worn else Yes)) else No) ≡ Yes → a && not o && not false ≡ true
@@ -28,12 +29,12 @@ change_yes true false e = refl
 change_yes _ _ e = absurd (cc)
 
 -- what locks something and replies yes changes something
-plan_changes : (command : Command) (from : State) (writes : Writes) (s : State) → GrowPlan command from writes
-    → reply command (grown_catalogue s) (grown_capacity s) false ≡ Yes → changes command (grown_catalogue s) (grown_capacity s) false ≡ true
+plan_changes : (command : Command) (from : State) (writes : Writes) (s : State) → GrowPlan grow_levels command from writes
+    → reply command (grown_catalogue grow_levels s) (grown_capacity grow_levels s) false ≡ Yes → changes command (grown_catalogue grow_levels s) (grown_capacity grow_levels s) false ≡ true
 plan_changes (commands.Add name key) from writes s plan said =
-    change_yes (applies (commands.Add name key) (grown_catalogue s)) (overflows (commands.Add name key) (grown_catalogue s) (grown_capacity s)) said
+    change_yes (applies (commands.Add name key) (grown_catalogue grow_levels s)) (overflows (commands.Add name key) (grown_catalogue grow_levels s) (grown_capacity grow_levels s)) said
 plan_changes (commands.Del name key) from writes s plan said =
-    change_yes (applies (commands.Del name key) (grown_catalogue s)) (overflows (commands.Del name key) (grown_catalogue s) (grown_capacity s)) said
+    change_yes (applies (commands.Del name key) (grown_catalogue grow_levels s)) (overflows (commands.Del name key) (grown_catalogue grow_levels s) (grown_capacity grow_levels s)) said
 plan_changes _ from writes s plan said = absurd plan
 
 -- the command took place there, with this reply
@@ -41,8 +42,8 @@ abbrev pub RanAt : Seat → Seat → Command → Place → Reply → Type 0
 RanAt old new command place answer = RanTo (λ p seat made. GrowPlaceOf p seat command place answer made) old new place
 
 -- an attempt that is done
-done_at : (k : Causes) (s t : Seat) (command : Command) (place : Place) (answer : Reply) → IsSeat IsGrownOpening IsGrowCommit t
-    → GrowAttempted k s t command (Done answer place) → RanAt s t command place answer
+done_at : (k : Causes) (s t : Seat) (command : Command) (place : Place) (answer : Reply) → IsSeat (IsGrownOpening grow_levels) (IsGrowCommit grow_levels) t
+    → GrowAttempted grow_levels k s t command (Done answer place) → RanAt s t command place answer
 done_at k s t command (AtCommit time) answer lawful d =
     let done = d.done in
     let before : State = state_of_time (past_of t) (time - 1) in
@@ -56,10 +57,10 @@ done_at k s t command (AtCommit time) answer lawful d =
         there = done.entry.there;
         seat_is = by;
         tagged = done.plan.tagged;
-        answers = done.makes.0 ∙ (λ i. reply command (grown_catalogue before) (room i) false);
-        changing = sym (λ i. changes command (grown_catalogue before) (room i) false)
+        answers = done.makes.0 ∙ (λ i. reply command (grown_catalogue grow_levels before) (room i) false);
+        changing = sym (λ i. changes command (grown_catalogue grow_levels before) (room i) false)
             ∙ plan_changes command (state_at t.start t.seen done.commit.snapshot) done.commit.writes before done.plan.plan done.makes.1.answer;
-        leaves = done.makes.1.leaves ∙ (λ i. next command (grown_catalogue before) (room i) false);
+        leaves = done.makes.1.leaves ∙ (λ i. next command (grown_catalogue grow_levels before) (room i) false);
       },
     ))
 done_at k s t command (Read time) answer lawful read =
@@ -71,8 +72,8 @@ done_at k s t command (Read time) answer lawful read =
       record {
         after = after;
         seen = seen;
-        answers = read.settles.0 ∙ (λ i. reply command (grown_catalogue now) (room i) (time == t.last));
-        unchanging = sym (λ i. changes command (grown_catalogue now) (room i) (time == t.last)) ∙ read.settles.1;
+        answers = read.settles.0 ∙ (λ i. reply command (grown_catalogue grow_levels now) (room i) (time == t.last));
+        unchanging = sym (λ i. changes command (grown_catalogue grow_levels now) (room i) (time == t.last)) ∙ read.settles.1;
       },
     ))
 
@@ -107,10 +108,10 @@ is_last : (time last : ℕ) → (time == last) ≡ true → time ≡ last
 is_last time last e = grind (arith, nat_tests)
 
 -- a try that answered
-pub answered : (k : Causes) (s t : Seat) → IsSeat IsGrownOpening IsGrowCommit t → IsAnsweredBy k s t → Behind true s t
+pub answered : (k : Causes) (s t : Seat) → IsSeat (IsGrownOpening grow_levels) (IsGrowCommit grow_levels) t → IsAnsweredBy k s t → Behind true s t
 answered k s t lawful a = go a.split a.tried a.answered
   where
-    go : (split : Split) → SplitTried k s t split → ((cause : _) → split ≡ splits.Again cause → ⊥) → Behind true s t
+    go : (split : Split) → SplitTried grow_levels k s t split → ((cause : _) → split ≡ splits.Again cause → ⊥) → Behind true s t
     go (splits.Done time) h other =
         let done = h.made.done in
         let by = last_by t s.mine done.commit lawful.mine done.mine in

@@ -12,6 +12,7 @@ use Rattle.grow_hash.specs.declared.answer.Split.{Split}
 use Rattle.grow_hash.specs.declared.answer.Split.TheVariants.{Again}
 use Rattle.grow_report.specs.Turns.{is_added, odd_with}
 use Rattle.script_workers.specs.Terms.{Seat, IsSeat, Command, Reply, Place, Causes, Line, BySeat, Chain, IsUnder, none_begun, DoneBehind}
+use Rattle.grow_hash.specs.Tables.{grow_levels}
 
 -- What is kept from one command to the next: the seat, and whether the adds that replied yes are an odd number.
 pub record GrowKept : Type 0 where
@@ -24,17 +25,17 @@ kept seat odd = record { seat = seat; odd = odd }
 -- Behind attempts that made no commit there was one of this command that was done.
 abbrev pub LinkedCommand : Causes → Seat → Seat → Command → Place → Reply → Type 0
 LinkedCommand k s t command place answer =
-    DoneBehind (λ old new. GrowAttempted k old new command (Done answer place)) (IsSeat IsGrownOpening IsGrowCommit) s t
+    DoneBehind (λ old new. GrowAttempted grow_levels k old new command (Done answer place)) (IsSeat (IsGrownOpening grow_levels) (IsGrowCommit grow_levels)) s t
 
 -- one try of a split led from the one seat to the other, and answered
 pub record IsAnsweredBy (k : Causes) (old new : Seat) : Type 0 where
   pub split : Split
-  pub tried : SplitTried k old new split
+  pub tried : SplitTried grow_levels k old new split
   pub answered : (cause : Cause) → split ≡ Again cause → ⊥
 
 -- Behind tries that made no commit one answered.
 abbrev pub LinkedSplit : Causes → Seat → Seat → Type 0
-LinkedSplit k s t = DoneBehind (IsAnsweredBy k) (IsSeat IsGrownOpening IsGrowCommit) s t
+LinkedSplit k s t = DoneBehind (IsAnsweredBy k) (IsSeat (IsGrownOpening grow_levels) (IsGrowCommit grow_levels)) s t
 
 -- where a split is due there was one, and else nothing was done
 abbrev pub LinkedIf : Bool → Causes → Seat → Seat → Type 0

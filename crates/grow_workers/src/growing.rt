@@ -5,7 +5,7 @@ ghost use Rattle.grow_report.specs.Turns.{is_added, odd_with};
 ghost use Rattle.script_workers.specs.Terms.{causes, OnTried, CommitsNone};
 ghost use Rattle.grow_workers.specs.Links.{IsAnsweredBy};
 
-use grow_hash::{GrowRules, GrowStep, Split, attempt_grow, try_split};
+use grow_hash::{GROW_LEVELS, GrowRules, GrowStep, Split, attempt_grow, try_split};
 use item_workers::{Runner, Tried};
 use mv_history::Store;
 use section_work::Place;
@@ -14,7 +14,7 @@ use std::alloc::{AllocError, Global};
 
 /// A store of a growing set that does commands, each by attempts; behind each second add that replied yes it tries a split
 /// until it is answered. What it answers is the command's place and its reply.
-pub struct Growing<S: Store<Rules = GrowRules>> {
+pub struct Growing<S: Store<Rules = GrowRules<GROW_LEVELS>>> {
     store: S,
     // Whether the adds that replied yes are an odd number.
     odd: bool,
@@ -22,7 +22,7 @@ pub struct Growing<S: Store<Rules = GrowRules>> {
     done: Option<(Place, Reply)>,
 }
 
-impl<S: Store<Rules = GrowRules>> Runner for Growing<S> {
+impl<S: Store<Rules = GrowRules<GROW_LEVELS>>> Runner for Growing<S> {
     ghost use Rattle.std.specs.Prelude.{◌≡◌, ◌≤◌, false, None};
     ghost use Rattle.section_work.specs.Causes.{causes};
     ghost use Rattle.grow_hash.specs.GrowPlans.{IsOfGrown};
@@ -112,7 +112,7 @@ impl<S: Store<Rules = GrowRules>> Runner for Growing<S> {
 }
 
 // One try of the split that is due behind a command with this place and this reply. It is due behind the second of two adds.
-fn split<S: Store<Rules = GrowRules>>(
+fn split<S: Store<Rules = GrowRules<GROW_LEVELS>>>(
     store: S,
     place: Place,
     reply: Reply,

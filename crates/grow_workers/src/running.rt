@@ -9,7 +9,7 @@ ghost use Rattle.script_workers.specs.Terms.{MOST_COMMANDS, causes};
 ghost use Rattle.grow_workers.specs.Links.{AllLinkedTurns};
 
 use crate::growing::Growing;
-use grow_hash::GrowRules;
+use grow_hash::{GROW_LEVELS, GrowRules};
 use item_workers::run_lists;
 use mv_history::Store;
 use run_outside::Gate;
@@ -37,7 +37,7 @@ use std::thread::Threads;
 /// hold the 64 objects that a split locks at most.
 ///
 /// The error is want of memory. It comes before the first command is tried, and hands the stores back as they were.
-pub fn run_grow<R: Threads + Wait + Sync, S: Store<Rules = GrowRules> + Send, G: Gate>(
+pub fn run_grow<R: Threads + Wait + Sync, S: Store<Rules = GrowRules<GROW_LEVELS>> + Send, G: Gate>(
     rt: &R,
     alloc: Global,
     stores: Vec<S>,

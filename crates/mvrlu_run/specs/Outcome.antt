@@ -21,6 +21,7 @@ use Rattle.script_files.specs.declared.stop.Stop.TheVariants.{Read}
 use Rattle.script_files.specs.Reading.{AreTold}
 use Rattle.script_files.specs.Scripts.{AllScripts, ScriptOf, KindOf, grammar_of, StopsAt, IsRefused, IsLong, AnyStop, IsFirstFailed, NoneFails}
 use Rattle.mvrlu_run.specs.Told.{IsTextFor, files_of, reading_of}
+use Rattle.grow_hash.specs.Tables.{grow_levels}
 
 -- what the program sees of files and output at one moment
 pub record Outside : Type 0 where
@@ -85,7 +86,7 @@ abbrev pub ReadsSets : Closed → Type 0
 ReadsSets No = ⊤
 ReadsSets (Sets closing) = IsLawful (last_state (whole_of closing))
 ReadsSets (Blocks closing) = IsLawful (last_state (whole_of closing))
-ReadsSets (Grown closing) = IsGrown (last_state (whole_of closing))
+ReadsSets (Grown closing) = IsGrown grow_levels (last_state (whole_of closing))
 
 -- no call of the files failed, or they are steady
 abbrev pub ReadsAll : Outside → Outside → Type 0

@@ -1,5 +1,5 @@
 // How a call of the program ends.
-use grow_hash::GrowRules;
+use grow_hash::{GROW_LEVELS, GrowRules};
 use mvrlu::Closing;
 use run_words::Limit;
 use script_files::Stop;
@@ -16,7 +16,7 @@ pub enum Closed {
     /// The domain of the blocks, likewise.
     Blocks(Closing<BlockRules>),
     /// The domain of the growing set, likewise.
-    Grown(Closing<GrowRules>),
+    Grown(Closing<GrowRules<GROW_LEVELS>>),
 }
 
 /// What became of a call of the program.

@@ -1,10 +1,12 @@
 // How many reads of objects it takes to attempt a command on a growing hash set.
 ghost use Rattle.std.specs.Prelude.{◌≡◌, ◌<◌, ◌≤◌};
+ghost use Rattle.grow_hash.specs.Tables.{grow_levels, most_levels};
+ghost use Rattle.grow_hash.specs.Grown.{first_grown};
 ghost use Rattle.grow_hash.specs.GrowPlans.{IsOfGrown};
 ghost use Rattle.set_script.specs.Objects.{most_objects};
 
 use crate::counted::Counted;
-use grow_hash::{GrowRules, GrowStep, attempt_grow};
+use grow_hash::{GROW_LEVELS, GrowRules, GrowStep, GrowingRules, attempt_grow};
 use mv_history::{Store, View, WORDS};
 use plain_store::PlainStore;
 use section_work::Place;
@@ -47,7 +49,7 @@ fn command(ask: Ask) -> Command
 }
 
 // What a command, which locks two objects at most, is answered, and how many reads it took.
-fn count_reads<S: Store<Rules = GrowRules>>(
+fn count_reads<const LEVELS: u32, R: GrowingRules<LEVELS>, S: Store<Rules = R>>(
     rt: &impl Abort,
     store: S,
     ask: Ask,
@@ -90,7 +92,7 @@ fn expect_step(rt: &impl Abort, answer: GrowStep, reply: Reply, place: Place) {
 }
 
 // Attempts the commands, one after another.
-fn play<S: Store<Rules = GrowRules>>(rt: &impl Abort, mut store: S, rows: &[Row]) -> S {
+fn play<const LEVELS: u32, R: GrowingRules<LEVELS>, S: Store<Rules = R>>(rt: &impl Abort, mut store: S, rows: &[Row]) -> S {
     for (ask, reply, place, most) in rows {
         let (after, answer, reads) = count_reads(rt, store, *ask);
         expect_step(rt, answer, *reply, *place);
@@ -101,8 +103,10 @@ fn play<S: Store<Rules = GrowRules>>(rt: &impl Abort, mut store: S, rows: &[Row]
 }
 
 // A store of so many objects of zeros.
-fn open(alloc: Global, count: u32) -> Result<PlainStore<GrowRules>, AllocError>
-    requires some { 1025 < count }
+fn open<const LEVELS: u32>(alloc: Global, count: u32) -> Result<PlainStore<GrowRules<LEVELS>>, AllocError>
+    requires least { grow_levels ≤ LEVELS }
+    requires most { LEVELS ≤ most_levels }
+    requires some { first_grown LEVELS < count }
     requires few { count ≤ most_objects }
 {
     let zeros = vec![in alloc; [0; WORDS]; count as usize]?;
@@ -111,6 +115,27 @@ fn open(alloc: Global, count: u32) -> Result<PlainStore<GrowRules>, AllocError>
 
 #[test]
 fn one_walk_of_one_bucket(rt: HostRuntime) -> Result<(), Fail> {
-    let _store = play(&rt, open(rt.alloc(), 4096)?, &ROWS);
+    let _store = play(&rt, open::<GROW_LEVELS>(rt.alloc(), 4096)?, &ROWS);
+    Ok(())
+}
+
+// Multiples of 4,096, in a set that mixes its keys: they stand in three of the first sixteen buckets.
+static MIXED: [Row; 7] = [
+    // Bucket 3, and behind the node there.
+    (Ask::Add(8192), Reply::Yes, Place::Commit(1), 4),
+    (Ask::Add(28672), Reply::Yes, Place::Commit(2), 5),
+    // Bucket 13.
+    (Ask::Add(4096), Reply::Yes, Place::Commit(3), 4),
+    (Ask::Add(36864), Reply::Yes, Place::Commit(4), 5),
+    // Bucket 6.
+    (Ask::Add(16384), Reply::Yes, Place::Commit(5), 4),
+    (Ask::Has(28672), Reply::Yes, Place::Read(5), 6),
+    // Bucket 0, which has none.
+    (Ask::Has(0), Reply::No, Place::Read(5), 3),
+];
+
+#[test]
+fn mixed_keys_stand_apart(rt: HostRuntime) -> Result<(), Fail> {
+    let _store = play(&rt, open::<11>(rt.alloc(), 4096)?, &MIXED);
     Ok(())
 }

@@ -39,74 +39,74 @@ applied : (a o : Bool) → a ≡ true → o ≡ false → (a && not o && not fal
 applied a o e f = ap (λ (t : Bool). t && not o && not false) e ∙ ap (λ (t : Bool). not t && not false) f
 
 -- whether a search of the bucket of the key found it is whether the set has it
-module _ (s : State) (k : ℕ) (l : IsGrown s) (spot : Spot) (ends : EndsHere s (head_of s k) k spot) (has : Bool)
+module _ (levels : ℕ) (s : State) (k : ℕ) (l : IsGrown levels s) (spot : Spot) (ends : EndsHere s (head_of levels s k) k spot) (has : Bool)
     (is : has ≡ (not (eqb spot.node 0) && eqb (word 2 spot.node_words) k)) where
-  found_has : has ≡ has_key k (grown_map s)
-  found_has = is ∙ ends.has ∙ same_has s k l
+  found_has : has ≡ has_key k (grown_map levels s)
+  found_has = is ∙ ends.has ∙ same_has levels s k l
 
   pub has_found : (command : Command) (name : ℕ) (r : Reply) → command ≡ Has name k → IsOfGrown command → r ≡ cond has Yes No
-      → IsGrowFound command s (Settled r)
+      → IsGrowFound levels command s (Settled r)
   has_found command name r e names said =
-      subst (λ (u : Command). IsGrowFound u s (Settled r)) (sym e)
-      (subst (λ n. IsGrowFound (Has n k) s (Settled r)) (sym (subst IsOfGrown e names))
+      subst (λ (u : Command). IsGrowFound levels u s (Settled r)) (sym e)
+      (subst (λ n. IsGrowFound levels (Has n k) s (Settled r)) (sym (subst IsOfGrown e names))
       (λ last. said ∙ ap (λ (b : Bool). cond b Yes No) found_has, refl))
 
-  pub add_no : has ≡ true → IsGrowFound (Add grown_name k) s (Settled No)
+  pub add_no : has ≡ true → IsGrowFound levels (Add grown_name k) s (Settled No)
   add_no e =
-      let there : applies (Add grown_name k) (grown_catalogue s) ≡ false = ap not (sym found_has ∙ e) in
-      (λ last. no_reply _ (overflows (Add grown_name k) (grown_catalogue s) (grown_capacity s)) last there, unapplied _ _ false there)
+      let there : applies (Add grown_name k) (grown_catalogue levels s) ≡ false = ap not (sym found_has ∙ e) in
+      (λ last. no_reply _ (overflows (Add grown_name k) (grown_catalogue levels s) (grown_capacity levels s)) last there, unapplied _ _ false there)
 
-  pub del_no : has ≡ false → IsGrowFound (Del grown_name k) s (Settled No)
+  pub del_no : has ≡ false → IsGrowFound levels (Del grown_name k) s (Settled No)
   del_no e =
-      let out : applies (Del grown_name k) (grown_catalogue s) ≡ false = sym found_has ∙ e in
-      (λ last. no_reply _ (overflows (Del grown_name k) (grown_catalogue s) (grown_capacity s)) last out, unapplied _ false false out)
+      let out : applies (Del grown_name k) (grown_catalogue levels s) ≡ false = sym found_has ∙ e in
+      (λ last. no_reply _ (overflows (Del grown_name k) (grown_catalogue levels s) (grown_capacity levels s)) last out, unapplied _ false false out)
 
-  pub add_full : has ≡ false → ((o : ℕ) → IsFree s o → ⊥) → IsGrowFound (Add grown_name k) s (Settled Full)
+  pub add_full : has ≡ false → ((o : ℕ) → IsFree levels s o → ⊥) → IsGrowFound levels (Add grown_name k) s (Settled Full)
   add_full e none =
-      let out : has_key k (grown_map s) ≡ false = sym found_has ∙ e in
-      let over : overflows (Add grown_name k) (grown_catalogue s) (grown_capacity s) ≡ true = add_overflows s k l none out in
+      let out : has_key k (grown_map levels s) ≡ false = sym found_has ∙ e in
+      let over : overflows (Add grown_name k) (grown_catalogue levels s) (grown_capacity levels s) ≡ true = add_overflows levels s k l none out in
       (λ last. full_reply _ _ last (ap not out) over, overfull _ _ false over)
 
-  pub add_open : has ≡ false → (node : ℕ) → IsFree s node → k < 2 ^ 32 → (h : ℕ) (ws : Writes) → h ≡ head_of s k
+  pub add_open : has ≡ false → (node : ℕ) → IsFree levels s node → k < 2 ^ 32 → (h : ℕ) (ws : Writes) → h ≡ head_of levels s k
       → AreAddWrites h k 0 node spot ws
-      → IsGrowFound (Add grown_name k) s (Open ws)
+      → IsGrowFound levels (Add grown_name k) s (Open ws)
   add_open e node free fit h ws at_head writes =
-      let are : AreAddWrites (head_of s k) k 0 node spot ws = subst (λ u. AreAddWrites u k 0 node spot ws) at_head writes in
-      let f = add_found s s (head_of s k) k spot.previous spot.words spot.node spot.node_words has refl ends is e 0 node ws (are s ends) in
-      let here : spot.previous ≢ node = add_apart s (bucket s k) k 0 spot.previous node l refl f.0 free.0 free.1 free.2 in
-      let ok = add_allowed s (bucket s k) k spot.previous node l refl f.0 free.0 free.1 free.2 fit in
-      let fits : overflows (Add grown_name k) (grown_catalogue s) (grown_capacity s) ≡ false =
-      commit_room (Add grown_name k) s (add_writes s (head_of s k) k 0 spot.previous node) ok.keeps
-      (ap (set empty grown_name) (add_map s (bucket s k) k 0 spot.previous node l refl f.0 free.0 free.1 free.2)) in
-      let plan : GrowPlan (Add grown_name k) s ws =
+      let are : AreAddWrites (head_of levels s k) k 0 node spot ws = subst (λ u. AreAddWrites u k 0 node spot ws) at_head writes in
+      let f = add_found s s (head_of levels s k) k spot.previous spot.words spot.node spot.node_words has refl ends is e 0 node ws (are s ends) in
+      let here : spot.previous ≢ node = add_apart levels s (bucket levels s k) k 0 spot.previous node l refl f.0 free.0 free.1 free.2 in
+      let ok = add_allowed levels s (bucket levels s k) k spot.previous node l refl f.0 free.0 free.1 free.2 fit in
+      let fits : overflows (Add grown_name k) (grown_catalogue levels s) (grown_capacity levels s) ≡ false =
+      commit_room levels (Add grown_name k) s (add_writes s (head_of levels s k) k 0 spot.previous node) ok.keeps
+      (ap (set empty grown_name) (add_map levels s (bucket levels s k) k 0 spot.previous node l refl f.0 free.0 free.1 free.2)) in
+      let plan : GrowPlan levels (Add grown_name k) s ws =
       record { previous = spot.previous; node = node; place = f.0; free = free; writes_are = f.1 } in (
         applied _ _ (ap not (sym found_has ∙ e)) fits,
         record {
           plan = plan;
           distinct = ap are_distinct f.1 ∙ two_distinct spot.previous node here;
           within = subst (λ (u : Writes). AreWithin u (length s)) (sym f.1)
-              (two_within spot.previous node (length s) (list_in_range s (bucket s k) spot.previous l (bucket_low s l k) f.0.within) free.1);
+              (two_within spot.previous node (length s) (list_in_range levels s (bucket levels s k) spot.previous l (bucket_low levels s l k) f.0.within) free.1);
           locks = ap length f.1;
-          fit = plan_fit s (Add grown_name k) ws plan (refl, fit) l;
+          fit = plan_fit levels s (Add grown_name k) ws plan (refl, fit) l;
         },
       )
 
-  pub del_open : has ≡ true → k < 2 ^ 32 → (ws : Writes) → AreDelWrites spot ws → IsGrowFound (Del grown_name k) s (Open ws)
+  pub del_open : has ≡ true → k < 2 ^ 32 → (ws : Writes) → AreDelWrites spot ws → IsGrowFound levels (Del grown_name k) s (Open ws)
   del_open e fit ws are =
-      let f = del_found s s (head_of s k) k spot.previous spot.words spot.node spot.node_words has refl ends is e ws (are s (head_of s k) k ends) in
-      let linked = l.lists (bucket s k) (bucket_low s l k) in
-      let here : spot.previous ≢ spot.node = del_apart s (head_of s k) k spot.previous spot.node linked f.0 in
-      let node = del_node s (head_of s k) k spot.previous spot.node linked f.0 in
-      let plan : GrowPlan (Del grown_name k) s ws = record { previous = spot.previous; node = spot.node; place = f.0; writes_are = f.1 } in (
+      let f = del_found s s (head_of levels s k) k spot.previous spot.words spot.node spot.node_words has refl ends is e ws (are s (head_of levels s k) k ends) in
+      let linked = l.lists (bucket levels s k) (bucket_low levels s l k) in
+      let here : spot.previous ≢ spot.node = del_apart s (head_of levels s k) k spot.previous spot.node linked f.0 in
+      let node = del_node s (head_of levels s k) k spot.previous spot.node linked f.0 in
+      let plan : GrowPlan levels (Del grown_name k) s ws = record { previous = spot.previous; node = spot.node; place = f.0; writes_are = f.1 } in (
         applied _ _ (sym found_has ∙ e) refl,
         record {
           plan = plan;
           distinct = ap are_distinct f.1 ∙ two_distinct spot.previous spot.node here;
           within = subst (λ (u : Writes). AreWithin u (length s)) (sym f.1)
-              (two_within spot.previous spot.node (length s) (list_in_range s (bucket s k) spot.previous l (bucket_low s l k) f.0.within)
-              (owned_in_range s spot.node (head_of s k) node.1));
+              (two_within spot.previous spot.node (length s) (list_in_range levels s (bucket levels s k) spot.previous l (bucket_low levels s l k) f.0.within)
+              (owned_in_range s spot.node (head_of levels s k) node.1));
           locks = ap length f.1;
-          fit = plan_fit s (Del grown_name k) ws plan (refl, fit) l;
+          fit = plan_fit levels s (Del grown_name k) ws plan (refl, fit) l;
         },
       )
 
@@ -116,28 +116,28 @@ changing_parts true false e = (refl, refl)
 changing_parts true true e = absurd (cc)
 changing_parts false o e = absurd (cc)
 
-pub change_late : (command : Command) (s : State) (ws : Writes) → changes_grown command s false ≡ true → GrowPlan command s ws
-    → Worn ≡ reply_grown command s true
-change_late (Add name key) s ws e p =
-    let h = changing_parts (applies (Add name key) (grown_catalogue s)) (overflows (Add name key) (grown_catalogue s) (grown_capacity s)) e in
-    worn_reply (applies (Add name key) (grown_catalogue s)) (overflows (Add name key) (grown_catalogue s) (grown_capacity s)) h.0 h.1
-change_late (Del name key) s ws e p =
-    let h = changing_parts (applies (Del name key) (grown_catalogue s)) false e in
-    worn_reply (applies (Del name key) (grown_catalogue s)) false h.0 refl
-change_late (Put name key value) s ws e p = absurd p
-change_late (Has name key) s ws e p = absurd p
-change_late (Get name key) s ws e p = absurd p
-change_late (Move source target key) s ws e p = absurd p
-change_late (Pair first second key) s ws e p = absurd p
-change_late (Size name) s ws e p = absurd p
-change_late (Next name key) s ws e p = absurd p
+pub change_late : (levels : ℕ) (command : Command) (s : State) (ws : Writes) → changes_grown levels command s false ≡ true → GrowPlan levels command s ws
+    → Worn ≡ reply_grown levels command s true
+change_late levels (Add name key) s ws e p =
+    let h = changing_parts (applies (Add name key) (grown_catalogue levels s)) (overflows (Add name key) (grown_catalogue levels s) (grown_capacity levels s)) e in
+    worn_reply (applies (Add name key) (grown_catalogue levels s)) (overflows (Add name key) (grown_catalogue levels s) (grown_capacity levels s)) h.0 h.1
+change_late levels (Del name key) s ws e p =
+    let h = changing_parts (applies (Del name key) (grown_catalogue levels s)) false e in
+    worn_reply (applies (Del name key) (grown_catalogue levels s)) false h.0 refl
+change_late levels (Put name key value) s ws e p = absurd p
+change_late levels (Has name key) s ws e p = absurd p
+change_late levels (Get name key) s ws e p = absurd p
+change_late levels (Move source target key) s ws e p = absurd p
+change_late levels (Pair first second key) s ws e p = absurd p
+change_late levels (Size name) s ws e p = absurd p
+change_late levels (Next name key) s ws e p = absurd p
 
-pub found_late : (command : Command) (s : State) (f : Finding) → IsGrowFound command s f → reply_at_last f ≡ reply_grown command s true
-found_late command s (Settled answer) i = i.0 true
-found_late command s (Open writes) i = change_late command s writes i.0 i.1.plan
+pub found_late : (levels : ℕ) (command : Command) (s : State) (f : Finding) → IsGrowFound levels command s f → reply_at_last f ≡ reply_grown levels command s true
+found_late levels command s (Settled answer) i = i.0 true
+found_late levels command s (Open writes) i = change_late levels command s writes i.0 i.1.plan
 
-pub unchanging_late : (command : Command) (s : State) → changes_grown command s true ≡ false
-unchanging_late command s = late (applies command (grown_catalogue s)) (overflows command (grown_catalogue s) (grown_capacity s))
+pub unchanging_late : (levels : ℕ) (command : Command) (s : State) → changes_grown levels command s true ≡ false
+unchanging_late levels command s = late (applies command (grown_catalogue levels s)) (overflows command (grown_catalogue levels s) (grown_capacity levels s))
   where
     late : (a o : Bool) → (a && not o && not true) ≡ false
     late true true = refl
@@ -145,13 +145,13 @@ unchanging_late command s = late (applies command (grown_catalogue s)) (overflow
     late false o = refl
 
 -- what changes nothing where a time is left changes nothing at all
-pub unchanging_any : (command : Command) (s : State) (last : Bool) → changes_grown command s false ≡ false → changes_grown command s last ≡ false
-unchanging_any command s false e = e
-unchanging_any command s true e = unchanging_late command s
+pub unchanging_any : (levels : ℕ) (command : Command) (s : State) (last : Bool) → changes_grown levels command s false ≡ false → changes_grown levels command s last ≡ false
+unchanging_any levels command s false e = e
+unchanging_any levels command s true e = unchanging_late levels command s
 
 -- a vacant node, or that there is none, in a state as another
-pub none_same : (s t : State) → t ≡ s → ((o : ℕ) → IsFree t o → ⊥) → (o : ℕ) → IsFree s o → ⊥
-none_same s t e none o free = none o (subst (λ (u : State). IsFree u o) (sym e) free)
+pub none_same : (levels : ℕ) (s t : State) → t ≡ s → ((o : ℕ) → IsFree levels t o → ⊥) → (o : ℕ) → IsFree levels s o → ⊥
+none_same levels s t e none o free = none o (subst (λ (u : State). IsFree levels u o) (sym e) free)
 
-pub free_same : (s t : State) (o : ℕ) → t ≡ s → IsFree t o → IsFree s o
-free_same s t o e free = subst (λ (u : State). IsFree u o) e free
+pub free_same : (levels : ℕ) (s t : State) (o : ℕ) → t ≡ s → IsFree levels t o → IsFree levels s o
+free_same levels s t o e free = subst (λ (u : State). IsFree levels u o) e free

@@ -5,12 +5,12 @@ use Rattle.grow_hash.proofs.Terms.{state_at, IsAllowed, Seat, InSection, IsSeat,
 use Rattle.grow_hash.proofs.Splitting.{grown_after}
 
 -- the state of each time that a seat has seen is lawful
-pub grown_at : (s : Seat) → IsSeat IsGrownOpening IsGrowCommit s → (t : ℕ) → IsGrown (state_at s.start s.seen t)
-grown_at s h t =
-    grown_after s.start (take t s.seen) h.start
-    (IsAllowed-front IsGrowCommit s.start (take t s.seen) (drop t s.seen)
-    (subst (λ e. IsAllowed IsGrowCommit s.start e) (sym (take-append-drop t s.seen)) h.allowed))
+pub grown_at : (levels : ℕ) (s : Seat) → IsSeat (IsGrownOpening levels) (IsGrowCommit levels) s → (t : ℕ) → IsGrown levels (state_at s.start s.seen t)
+grown_at levels s h t =
+    grown_after levels s.start (take t s.seen) h.start
+    (IsAllowed-front (IsGrowCommit levels) s.start (take t s.seen) (drop t s.seen)
+    (subst (λ e. IsAllowed (IsGrowCommit levels) s.start e) (sym (take-append-drop t s.seen)) h.allowed))
 
 -- so is what a section reads that holds nothing
-pub grown_read : (s : InSection) → IsSection IsGrownOpening IsGrowCommit s → s.own ≡ [] → IsGrown (state_of s)
-grown_read s h none = subst IsGrown (sym (reads_snapshot s none)) (grown_at s.seat h.seat s.at)
+pub grown_read : (levels : ℕ) (s : InSection) → IsSection (IsGrownOpening levels) (IsGrowCommit levels) s → s.own ≡ [] → IsGrown levels (state_of s)
+grown_read levels s h none = subst (IsGrown levels) (sym (reads_snapshot s none)) (grown_at levels s.seat h.seat s.at)

@@ -15,39 +15,39 @@ use Rattle.grow_hash.proofs.split.Fits.{split_fit}
 use Rattle.grow_hash.proofs.split.Planned.{plan_distinct, plan_within, plan_some}
 use Rattle.grow_hash.proofs.split.Times.{tagged_then, left_then, more_then, counted_then}
 
-pub closed_settles : (s : State) (last : Bool) (looked : Looked) → IsClosed s looked → SettlesSplit s last looked
-closed_settles s last Splits h = absurd h
-closed_settles s last Whole h = h
-closed_settles s last (Long keys) h = h
-closed_settles s last Worn h = absurd h
+pub closed_settles : (levels : ℕ) (s : State) (last : Bool) (looked : Looked) → IsClosed levels s looked → SettlesSplit levels s last looked
+closed_settles levels s last Splits h = absurd h
+closed_settles levels s last Whole h = h
+closed_settles levels s last (Long keys) h = h
+closed_settles levels s last Worn h = absurd h
 
 -- what was planned for the split is planned for it as a work
-pub planned_as : (s : State) (place count : ℕ) (writes : Writes) → IsGrown s → count ≤ 64 → IsPlannedSplit s place (take count writes)
-    → IsPlanned IsGrowCommit split_meaning s (split_tag place) (take count writes) Splits
-planned_as s place count writes l few p = record {
+pub planned_as : (levels : ℕ) (s : State) (place count : ℕ) (writes : Writes) → IsGrown levels s → count ≤ 64 → IsPlannedSplit levels s place (take count writes)
+    → IsPlanned (IsGrowCommit levels) (split_meaning levels) s (split_tag place) (take count writes) Splits
+planned_as levels s place count writes l few p = record {
   plan = record { splittable = p.splittable; tagged = ap split_tag p.place_is; plan = p.plan };
-  some = plan_some s (take count writes) l p.plan;
+  some = plan_some levels s (take count writes) l p.plan;
   few = omega (arith, few, length-take count writes);
-  distinct = plan_distinct s (take count writes) l p.plan;
-  within = plan_within s (take count writes) l p.plan;
-  fit = subst (λ (n : ℕ). IsFit IsGrowCommit s (split_tag n) (take count writes)) (sym p.place_is) (split_fit s (take count writes) p.plan l);
+  distinct = plan_distinct levels s (take count writes) l p.plan;
+  within = plan_within levels s (take count writes) l p.plan;
+  fit = subst (λ (n : ℕ). IsFit (IsGrowCommit levels) s (split_tag n) (take count writes)) (sym p.place_is) (split_fit levels s (take count writes) p.plan l);
 }
 
-module _ (k : Causes) (old new : Seat) (law : IsSeat IsGrownOpening IsGrowCommit new) where
-  split_done : (time : ℕ) (looked : Looked) → IsDoneAt k split_meaning old new looked time → IsSplitDone k old new time
+module _ (levels : ℕ) (k : Causes) (old new : Seat) (law : IsSeat (IsGrownOpening levels) (IsGrowCommit levels) new) where
+  split_done : (time : ℕ) (looked : Looked) → IsDoneAt k (split_meaning levels) old new looked time → IsSplitDone levels k old new time
   split_done time looked d =
       let c = d.done.commit in
       let place : ℕ = split_place (state_at new.start new.seen c.snapshot) in
       record {
         looked = looked;
         made = d;
-        tagged = tagged_then new law c place time d.done.plan.tagged d.done.entry;
-        leaves = left_then new law c place time d.done.plan.tagged d.done.entry;
-        more = more_then new law c place time d.done.plan.tagged d.done.entry;
-        counted = counted_then new law c place time d.done.plan.tagged d.done.entry;
+        tagged = tagged_then levels new law c place time d.done.plan.tagged d.done.entry;
+        leaves = left_then levels new law c place time d.done.plan.tagged d.done.entry;
+        more = more_then levels new law c place time d.done.plan.tagged d.done.entry;
+        counted = counted_then levels new law c place time d.done.plan.tagged d.done.entry;
       }
 
-  pub split_tried : (a : Attempt Looked) → Attempted k split_meaning old new a → SplitTried k old new (split_of a)
+  pub split_tried : (a : Attempt Looked) → Attempted k (split_meaning levels) old new a → SplitTried levels k old new (split_of a)
   split_tried (WorkDone looked (AtCommit time)) h = split_done time looked h
   split_tried (WorkDone Splits (Read time)) h = absurd h.settles
   split_tried (WorkDone Whole (Read time)) h = (time, h)

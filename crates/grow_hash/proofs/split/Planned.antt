@@ -4,7 +4,7 @@ use Rattle.set_script.proofs.TreeShape.{is_in-none}
 use Rattle.set_script.proofs.Written.{distinct-objects_of}
 use Rattle.std.proofs.Common.{◌≡◌, ◌+◌, ◌<◌, ◌≤◌, ◌⊎◌, ◌∷◌, ℕ, suc, inl, inr, true, List, [], length, refl, sym, ap, ◌∙◌, subst, arith}
 use Rattle.grow_hash.proofs.Terms.{State, Writes, touches, are_distinct, AreWithin, objects_of, owned_in_range, IsIn, in-touches, level, split_place}
-use Rattle.grow_hash.proofs.Terms.{buckets_at, IsGrown, head_at, SplitPlan, new_bucket, split_writes}
+use Rattle.grow_hash.proofs.Terms.{buckets_at, IsGrown, head_at, SplitPlan, new_bucket, split_writes, most_buckets, first_grown}
 use Rattle.grow_hash.proofs.Buckets.{some_buckets, more_buckets, twice_buckets}
 use Rattle.grow_hash.proofs.GrownStates.{node_high}
 use Rattle.grow_hash.proofs.split.Paths.{AreRising, rising_node, head_path_rises}
@@ -14,25 +14,25 @@ rising_distinct : (s : State) (head : ℕ) (ns : List ℕ) → AreRising s head 
 rising_distinct s head [] r = tt
 rising_distinct s head (n ∷ ns) r = (is_in-none n ns (λ i. first_apart s head n ns r n i refl), rising_distinct s head ns r.2)
 
-module _ (s : State) (ws : Writes) (l : IsGrown s) (p : SplitPlan s ws) where
+module _ (levels : ℕ) (s : State) (ws : Writes) (l : IsGrown levels s) (p : SplitPlan levels s ws) where
   abbrev old : ℕ
   old = split_place s
 
-  new_low : split_place s + buckets_at (level s) < 1024
+  new_low : split_place s + buckets_at (level s) < most_buckets levels
   new_low =
       let x = l.table.place_in in
-      let y : buckets_at (suc (level s)) ≤ 1024 = more_buckets (level s) p.below in let z = twice_buckets (level s) in omega arith
+      let y : buckets_at (suc (level s)) ≤ most_buckets levels = more_buckets levels (level s) l.least p.below in let z = twice_buckets (level s) in omega arith
 
   rising : AreRising s (head_at old) p.nodes
   rising = head_path_rises s (head_at old) (l.lists old (let x = new_low in omega arith)) p.nodes p.path
 
-  high : (n : ℕ) → IsIn n p.nodes → 1025 ≤ n
-  high n i = node_high s (head_at old) l n (rising_node s (head_at old) p.nodes rising n i)
+  high : (n : ℕ) → IsIn n p.nodes → first_grown levels ≤ n
+  high n i = node_high levels s (head_at old) l n (rising_node s (head_at old) p.nodes rising n i)
 
   -- The table, both heads and the nodes,
   objects : objects_of ws ≡ 0 ∷ head_at old ∷ head_at (new_bucket s) ∷ p.nodes
   objects =
-      ap objects_of p.writes_are ∙ ap (λ os. 0 ∷ head_at old ∷ head_at (new_bucket s) ∷ os) (parted_objects s p.nodes)
+      ap objects_of p.writes_are ∙ ap (λ os. 0 ∷ head_at old ∷ head_at (new_bucket s) ∷ os) (parted_objects levels s p.nodes)
 
   object_in : (o : ℕ) → touches ws o ≡ true → (o ≡ 0) ⊎ ((o ≡ head_at old) ⊎ ((o ≡ head_at (new_bucket s)) ⊎ IsIn o p.nodes))
   object_in o t = subst (IsIn o) objects (in-touches ws o t)
@@ -45,15 +45,15 @@ module _ (s : State) (ws : Writes) (l : IsGrown s) (p : SplitPlan s ws) where
       distinct-objects_of ws (subst IsDistinct (sym objects) (
         is_in-none 0 (head_at old ∷ head_at (new_bucket s) ∷ p.nodes) (λ i. elim i [
           | inl e ↦ omega arith
-          | inr j ↦ elim j [ inl e ↦ omega arith | inr k ↦ (let x : 1025 ≤ 0 = high 0 k in omega arith) ]
+          | inr j ↦ elim j [ inl e ↦ omega arith | inr k ↦ (let x : first_grown levels ≤ 0 = high 0 k in omega arith) ]
         ]),
         (
           is_in-none (head_at old) (head_at (new_bucket s) ∷ p.nodes) (λ i. elim i [
             | inl e ↦ omega arith
-            | inr k ↦ (let x : 1025 ≤ head_at old = high (head_at old) k in omega arith)
+            | inr k ↦ (let x : first_grown levels ≤ head_at old = high (head_at old) k in omega arith)
           ]),
           (
-            is_in-none (head_at (new_bucket s)) p.nodes (λ k. (let x : 1025 ≤ head_at (new_bucket s) = high (head_at (new_bucket s)) k in omega arith)),
+            is_in-none (head_at (new_bucket s)) p.nodes (λ k. (let x : first_grown levels ≤ head_at (new_bucket s) = high (head_at (new_bucket s)) k in omega arith)),
             rising_distinct s (head_at old) p.nodes rising,
           ),
         ),
@@ -76,4 +76,4 @@ module _ (s : State) (ws : Writes) (l : IsGrown s) (p : SplitPlan s ws) where
       ]
 
   pub plan_some : 0 < length ws
-  plan_some = let e : length ws ≡ length (split_writes s p.nodes) = ap length p.writes_are in omega arith
+  plan_some = let e : length ws ≡ length (split_writes levels s p.nodes) = ap length p.writes_are in omega arith

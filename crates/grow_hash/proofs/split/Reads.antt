@@ -1,16 +1,16 @@
 -- What a look at the bucket at the split place finds.
 use Rattle.std.proofs.Common.{◌≡◌, ◌≢◌, ◌+◌, ◌<◌, ◌≤◌}
 use Rattle.grow_hash.proofs.Terms.{ℕ, length, sym, ap, ◌∙◌, subst, arith, State, Writes, map_at, objects_of, IsLinked, level, split_place, buckets_at, IsGrown}
-use Rattle.grow_hash.proofs.Terms.{head_at, IsRead, ArePartedWrites, IsPath, IsPlannedSplit}
+use Rattle.grow_hash.proofs.Terms.{head_at, IsRead, ArePartedWrites, IsPath, IsPlannedSplit, most_buckets, most_level}
 use Rattle.grow_hash.specs.SplitCalls.{keys_at_place}
 use Rattle.grow_hash.proofs.Buckets.{few_buckets}
 use Rattle.grow_hash.proofs.split.ReadBuckets.{read_path}
 use Rattle.set_script.specs.Objects.{most_objects}
 
-module _ (s t : State) (at place head : ℕ) (l : IsGrown s) (level_is : at ≡ level s) (place_is : place ≡ split_place s) (same : t ≡ s) where
-  place_low : place < 1024
+module _ (levels : ℕ) (s t : State) (at place head : ℕ) (l : IsGrown levels s) (level_is : at ≡ level s) (place_is : place ≡ split_place s) (same : t ≡ s) where
+  place_low : place < most_buckets levels
   place_low =
-      let x = l.table.place_in in let few : buckets_at (level s) ≤ 1024 = few_buckets (level s) l.table.level_in in omega arith
+      let x = l.table.place_in in let few : buckets_at (level s) ≤ most_buckets levels = few_buckets levels (level s) l.least l.table.level_in in omega arith
 
   head_is : head ≡ place + 1 → head ≡ head_at (split_place s)
   head_is e = omega arith
@@ -27,16 +27,16 @@ module _ (s t : State) (at place head : ℕ) (l : IsGrown s) (level_is : at ≡ 
   pub table_low : place < buckets_at at
   table_low = subst (λ u. place < buckets_at u) (sym level_is) (subst (λ u. u < buckets_at (level s)) (sym place_is) l.table.place_in)
 
-  pub below_most : at ≢ 6 → at < 6
+  pub below_most : at ≢ most_level levels → at < most_level levels
   below_most ne = let x = l.table.level_in in omega arith
 
   keys_are : (keys : ℕ) → head ≡ place + 1 → keys ≡ length (map_at t head) → keys ≡ keys_at_place s
   keys_are keys e k = k ∙ ap (λ (u : State). length (map_at u head)) same ∙ ap (λ h. length (map_at s h)) (head_is e)
 
   -- and where it is short enough, its split is planned;
-  pub planned_by : (keys : ℕ) (reads writes : Writes) → at ≢ 6 → head ≡ place + 1 → keys ≡ length (map_at t head) → keys ≤ 61
+  pub planned_by : (keys : ℕ) (reads writes : Writes) → at ≢ most_level levels → head ≡ place + 1 → keys ≡ length (map_at t head) → keys ≤ 61
       → IsRead t head reads 0
-      → ArePartedWrites at place reads writes → IsPlannedSplit s place writes
+      → ArePartedWrites levels at place reads writes → IsPlannedSplit levels s place writes
   planned_by keys reads writes ne e k few read parted =
       let many = keys_are keys e k in
       let here : IsRead s (head_at place) reads 0 =
@@ -51,6 +51,6 @@ module _ (s t : State) (at place head : ℕ) (l : IsGrown s) (level_is : at ≡ 
       }
 
   -- else it has this many keys.
-  pub long_by : (keys : ℕ) → at ≢ 6 → head ≡ place + 1 → keys ≡ length (map_at t head) → 61 < keys
-      → (level s < 6) × (keys ≡ keys_at_place s) × (61 < keys)
+  pub long_by : (keys : ℕ) → at ≢ most_level levels → head ≡ place + 1 → keys ≡ length (map_at t head) → 61 < keys
+      → (level s < most_level levels) × (keys ≡ keys_at_place s) × (61 < keys)
   long_by keys ne e k more = (let low = below_most ne in omega arith, keys_are keys e k, more)

@@ -9,6 +9,7 @@ use Rattle.domain_lines.specs.Joined.{past_of_whole}
 use Rattle.domain_lines.proofs.OneHistory.{one_history}
 use Rattle.grow_domain.proofs.OneRun.{all_continue, grown_met}
 use Rattle.grow_domain.proofs.running.run_grow_domain.Goals as goal
+use Rattle.grow_hash.specs.Tables.{grow_levels}
 
 -- all seats of the domain came back
 pub meet_all-requires : goal.meet_all-requires
@@ -27,7 +28,7 @@ returns-in-Ok-clause-ran g c =
     let w = whole_of c.meet_all.result in
     let count = length-map c.args.scripts.now items_of ∙ c.requires.as_many in
     grown_met (past_of_whole w) firsts met scripts c.in-Ok.lines.items w.tables
-    (one_history c.args.domain w IsGrownOpening IsGrowCommit _ firsts met c.requires.opening c.requires.new
+    (one_history c.args.domain w (IsGrownOpening grow_levels) (IsGrowCommit grow_levels) _ firsts met c.requires.opening c.requires.new
     (c.meet_all.ensures.met firsts c.requires.new on)
     (length-map c.args.seats.items (λ s. seat_of s) ∙ sym count) (sym (count ∙ c.requires.all)))
     c.in-Ok.ensures.ran

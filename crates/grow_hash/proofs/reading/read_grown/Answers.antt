@@ -11,15 +11,17 @@ loop-object-init g c = record {
 
 pub overflow_cast-key : goal.overflow_cast-key
 overflow_cast-key g c = record {
-  fits = key_fits _ _ _ _ c.requires.lawful (g.met.V.View.same_state _ _ c.loop-object.invariant.before) c.loop-object-test.true
+  fits = key_fits g.row.LEVELS _ _ _ _ c.requires.lawful (g.met.V.View.same_state _ _ c.loop-object.invariant.before)
+      (omega (arith, c.first_node-first.ensures, c.loop-object-test.true))
       (omega (arith, c.loop-object.auto.object, c.objects-object.ensures)) c.read.ensures.words c.if-owner-ne0.true;
 }
 
 pub loop-object-preserved-in_ok-insert : goal.loop-object-preserved-in_ok-insert
 loop-object-preserved-in_ok-insert g c = record {
   before = g.met.V.View.as_long_before _ _ _ c.loop-object.invariant.before c.read.ensures.as_before;
-  from = omega (arith, c.loop-object-test.true);
-  read = reads_more _ _ _ _ c.requires.lawful (g.met.V.View.same_state _ _ c.loop-object.invariant.before) c.loop-object-test.true
+  from = omega (arith, c.first_node-first.ensures, c.loop-object-test.true);
+  read = reads_more g.row.LEVELS _ _ _ _ c.requires.lawful (g.met.V.View.same_state _ _ c.loop-object.invariant.before)
+      (omega (arith, c.first_node-first.ensures, c.loop-object-test.true))
       (omega (arith, c.loop-object.auto.object, c.objects-object.ensures)) c.read.ensures.words _ _ c.if-owner-ne0.true c.loop-object.invariant.read
       c.in_ok-insert.ensures.put;
 }
@@ -27,12 +29,13 @@ loop-object-preserved-in_ok-insert g c = record {
 pub loop-object-preserved : goal.loop-object-preserved
 loop-object-preserved g c = record {
   before = g.met.V.View.as_long_before _ _ _ c.loop-object.invariant.before c.read.ensures.as_before;
-  from = omega (arith, c.loop-object-test.true);
-  read = reads_past _ _ _ _ c.requires.lawful (g.met.V.View.same_state _ _ c.loop-object.invariant.before) c.loop-object-test.true
+  from = omega (arith, c.first_node-first.ensures, c.loop-object-test.true);
+  read = reads_past g.row.LEVELS _ _ _ _ c.requires.lawful (g.met.V.View.same_state _ _ c.loop-object.invariant.before)
+      (omega (arith, c.first_node-first.ensures, c.loop-object-test.true))
       (omega (arith, c.loop-object.auto.object, c.objects-object.ensures)) c.read.ensures.words _ c.if-owner-ne0.false c.loop-object.invariant.read;
 }
 
 pub returns-clause-catalogue : goal.returns-clause-catalogue
 returns-clause-catalogue g c =
-    reads_all (g.V.View.state c.args.view.now) c.loop-object.object c.loop-object.all
-    (omega (arith, c.loop-object.invariant.from, c.loop-object-test.false)) c.loop-object.invariant.read
+    reads_all g.row.LEVELS (g.V.View.state c.args.view.now) c.loop-object.object c.loop-object.all
+    (omega (arith, c.first_node-first.ensures, c.loop-object.invariant.from, c.loop-object-test.false)) c.loop-object.invariant.read

@@ -15,6 +15,7 @@ use Rattle.grow_run.proofs.Still.{still_grown}
 use Rattle.domain_loan.proofs.Opened.{opened_new}
 use Rattle.run_kinds.proofs.Opened.{back_meets}
 use Rattle.grow_run.proofs.growing.run_grown_set.Goals as goal
+use Rattle.grow_hash.specs.Tables.{grow_levels}
 
 pub run_grow_domain-requires-clause-new : goal.run_grow_domain-requires-clause-new
 run_grow_domain-requires-clause-new g c κs within = opened_new c.in_ok-domain.domain _ _ c.in_ok-domain.seats.items c.in_ok-domain.ensures
@@ -32,7 +33,7 @@ pub read_grown-requires : goal.read_grown-requires
 read_grown-requires g c =
     let run = rw c.in_ok-closing.ensures at c.run_grow_domain.ensures.ran in
     record {
-      lawful = subst IsGrown (sym (still_state c.in_ok-closing.closing.last c.count_splits-splits.new.view.last c.count_splits-splits.ensures.as_before))
+      lawful = subst (IsGrown grow_levels) (sym (still_state c.in_ok-closing.closing.last c.count_splits-splits.new.view.last c.count_splits-splits.ensures.as_before))
           run.lawful;
     }
 
@@ -58,11 +59,11 @@ returns-clause-ran g c =
       start = still.start ∙ ends.0 ∙ c.in_ok-domain.ensures.opening;
       base = still.base ∙ ends.1 ∙ ap (λ (n : Config). n.base) c.in_ok-domain.ensures.numbers;
       run = run_along c.in_ok-domain.domain c.in_ok-domain.seats.items _ (config_of c.args.options 64 (length scripts)) c.in_ok-domain.ensures
-          (ap (config_of c.args.options 64) many) IsGrowCommit (grow_chain_of scripts)
+          (ap (config_of c.args.options 64) many) (IsGrowCommit grow_levels) (grow_chain_of scripts)
           (λ past. GrowRunOf past scripts lines c.in_ok-end.end splits c.read_grown.new.view.last.tables)
           c.in_ok-closing.lines.items lines
           c.in_ok-closing.closing.last c.read_grown.new.view.last c.order_grown.ensures.permutation still linked
           (still_grown c.in_ok-closing.closing.last c.read_grown.new.view.last scripts lines c.in_ok-end.end _ splits
-          still (c.in_ok-end.ensures.catalogue ∙ ap grown_catalogue same)
+          still (c.in_ok-end.ensures.catalogue ∙ ap (grown_catalogue grow_levels) same)
           (omega (arith, counted.splits, run.buckets_are)) (c.order_grown.ensures.whole _ _ _ _ _ run));
     }

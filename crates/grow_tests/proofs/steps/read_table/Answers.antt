@@ -5,10 +5,11 @@ use Rattle.mv_history.proofs.Steps.{Continues-Continues}
 use Rattle.grow_hash.specs.Grown.{IsGrown}
 use Rattle.grow_hash.proofs.attempts.Times.{grown_read}
 use Rattle.grow_tests.proofs.steps.read_table.Goals as goal
+use Rattle.grow_hash.specs.Tables.{grow_levels}
 
 pub table_of-table-requires : goal.table_of-table-requires
 table_of-table-requires g c = record {
-  lawful = subst IsGrown (sym (g.met.S.Open.Section.reads _)) (grown_read _ (g.met.S.Open.Section.lawful _) c.enter-section.ensures.enters.own);
+  lawful = subst (IsGrown grow_levels) (sym (g.met.S.Open.Section.reads _)) (grown_read grow_levels _ (g.met.S.Open.Section.lawful _) c.enter-section.ensures.enters.own);
 }
 
 pub returns : goal.returns

@@ -42,7 +42,8 @@ impl<S: Store<Rules = SetRules>> HintedStore<S> {
     ghost use Rattle.section_work.specs.Sections.{TriesOne};
     ghost use Rattle.section_work.specs.Steps.{IsStepped};
 
-    /// The store, with these hints, which become those of its seat. It takes no memory.
+    /// The store, with these hints, which become those of its seat; of what else is remembered nothing is kept but the fingers.
+    /// It takes no memory.
     pub fn new(store: S, memo: Box<Memo>) -> HintedStore<S>
         ensures store { result.store ≡ store }
         ensures hints { result.hints ≡ memo.value.hints }

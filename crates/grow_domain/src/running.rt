@@ -52,7 +52,14 @@ pub fn run_grow_domain<R: Threads + Wait + Sync, G: Gate>(
     seats: Vec<Seat<GrowRules<GROW_LEVELS>>>,
     scripts: &[Vec<Command>],
     gate: &G,
-) -> Result<(Closing<GrowRules<GROW_LEVELS>>, Vec<Line>), (Domain<GrowRules<GROW_LEVELS>>, Vec<Seat<GrowRules<GROW_LEVELS>>>, AllocError)>
+) -> Result<
+    (Closing<GrowRules<GROW_LEVELS>>, Vec<Line>),
+    (
+        Domain<GrowRules<GROW_LEVELS>>,
+        Vec<Seat<GrowRules<GROW_LEVELS>>>,
+        AllocError,
+    ),
+>
     requires new { AreNewFrom domain 0 (map seat_of seats.items) }
     requires all { length seats.items ≡ (numbers_of domain).seats }
     requires opening { IsGrownOpening grow_levels (opening_of domain) }
@@ -64,7 +71,8 @@ pub fn run_grow_domain<R: Threads + Wait + Sync, G: Gate>(
         GrowRunOf (past_of_whole (whole_of done.0)) (map items_of scripts.now) done.1.items (grown_catalogue grow_levels (last_state (whole_of done.0)))
         (count_splits (whole_of done.0).history) (whole_of done.0).tables) }
     ensures linked { IfOk result (λ done. MetAlong
-        (λ firsts met. AllLinkedTurns (handle_causes (IsGrownOpening grow_levels) (IsGrowCommit grow_levels)) firsts met (map items_of scripts.now) done.1.items)
+        (λ firsts met. AllLinkedTurns (handle_causes (IsGrownOpening grow_levels) (IsGrowCommit grow_levels)) firsts met
+        (map items_of scripts.now) done.1.items)
         (IsGrowCommit grow_levels) (numbers_of domain) (opening_of domain) (map seat_of seats.items) (whole_of done.0)) }
     ensures opening { IfOk result (λ done.
         ((whole_of done.0).start ≡ opening_of domain) × ((whole_of done.0).base ≡ (numbers_of domain).base)) }
@@ -77,7 +85,10 @@ pub fn run_grow_domain<R: Threads + Wait + Sync, G: Gate>(
 }
 
 // What a run of the seats leaves: the seats and the lines; or the seats as they were.
-type FromSeats = Result<(Vec<Seat<GrowRules<GROW_LEVELS>>>, Vec<Line>), (Vec<Seat<GrowRules<GROW_LEVELS>>>, AllocError)>;
+type FromSeats = Result<
+    (Vec<Seat<GrowRules<GROW_LEVELS>>>, Vec<Line>),
+    (Vec<Seat<GrowRules<GROW_LEVELS>>>, AllocError),
+>;
 
 // Runs a script on each seat.
 fn run_seats<R: Threads + Wait + Sync, G: Gate>(
@@ -94,8 +105,8 @@ fn run_seats<R: Threads + Wait + Sync, G: Gate>(
     requires growing { All (λ script. All IsOfGrown script.items) scripts.now }
     requires most { 64 ≤ (numbers_of domain.now).write_max }
     ensures ran { IfOk result (λ done. AllRanGrow (map seat_of seats.items) (map seat_of done.0.items) (map items_of scripts.now) done.1.items) }
-    ensures linked { IfOk result (λ done. AllLinkedTurns (handle_causes (IsGrownOpening grow_levels) (IsGrowCommit grow_levels)) (map seat_of seats.items) (map seat_of done.0.items)
-        (map items_of scripts.now) done.1.items) }
+    ensures linked { IfOk result (λ done. AllLinkedTurns (handle_causes (IsGrownOpening grow_levels) (IsGrowCommit grow_levels))
+        (map seat_of seats.items) (map seat_of done.0.items) (map items_of scripts.now) done.1.items) }
     ensures err { IfErr result (λ refused. map seat_of refused.0.items ≡ map seat_of seats.items) }
 {
     let (handles, left) = lend_all(alloc, domain, seats)?;

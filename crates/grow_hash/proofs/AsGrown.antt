@@ -48,7 +48,8 @@ module _ (starts : State → Type 0) (allowed : List ℕ → State → Writes �
   }))
 
   -- and so is what is planned for it
-  pub planned_by : {Reply : Type 0} (m : Meaning Reply) (s : State) (tag : List ℕ) (ws : Writes) (reply : Reply) → IsPlanned (IsGrowCommit levels) m s tag ws reply
+  pub planned_by : {Reply : Type 0} (m : Meaning Reply) (s : State) (tag : List ℕ) (ws : Writes) (reply : Reply)
+      → IsPlanned (IsGrowCommit levels) m s tag ws reply
       → IsPlanned allowed m s tag ws reply
   planned_by m s tag ws reply p = record {
     plan = p.plan;

@@ -1,6 +1,7 @@
 -- The bucket of a key, and what a split does to it.
 use Rattle.std.proofs.lemmas.Nat.{mod-mul-add}
-use Rattle.std.proofs.Common.{◌≡◌, ◌≢◌, ◌+◌, ◌*◌, ◌/◌, ◌-◌, ◌%◌, ◌^◌, ◌<◌, ◌≤◌, ◌⊎◌, ℕ, zero, suc, inl, inr, cond, Bool, sym, ap, ◌∙◌, arith, lt-ltb, le-ltb, mod-lt}
+use Rattle.std.proofs.Common.{◌≡◌, ◌≢◌, ◌+◌, ◌*◌, ◌/◌, ◌-◌, ◌%◌, ◌^◌, ◌<◌, ◌≤◌, ◌⊎◌, ℕ, zero, suc, inl, inr, cond, Bool, sym, ap, ◌∙◌, arith, lt-ltb, le-ltb}
+use Rattle.std.proofs.Common.{mod-lt}
 use Rattle.grow_hash.proofs.Terms.{cases_lt, div-add-mod, pow-add, grow_levels, most_levels, most_level, most_buckets, buckets_at, bucket_of}
 
 -- there are some buckets

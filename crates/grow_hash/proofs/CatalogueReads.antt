@@ -66,5 +66,6 @@ module _ (levels : ℕ) (s t : State) (o : ℕ) (words : List ℕ) (l : IsGrown 
       (used_vacant words vacant)))
 
 -- all nodes were read
-pub reads_all : (levels : ℕ) (s : State) (o : ℕ) (all : Maps) → o ≡ first_grown levels → HasFrom s o all → all ≡ set empty grown_name (map_among is_used (drop (first_grown levels) s))
+pub reads_all : (levels : ℕ) (s : State) (o : ℕ) (all : Maps) → o ≡ first_grown levels → HasFrom s o all
+    → all ≡ set empty grown_name (map_among is_used (drop (first_grown levels) s))
 reads_all levels s o all e h = subst (λ i. HasFrom s i all) e h

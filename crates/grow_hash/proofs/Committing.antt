@@ -8,7 +8,8 @@ use Rattle.grow_hash.proofs.GrownStates.{lawful_fits}
 
 -- What a commit leaves that keeps what it must has room in the nodes.
 pub commit_room : (levels : ℕ) (command : Command) (s : State) (ws : Writes) → KeepsGrown levels s (written s ws)
-    → grown_catalogue levels (written s ws) ≡ changed command (grown_catalogue levels s) → overflows command (grown_catalogue levels s) (grown_capacity levels s) ≡ false
+    → grown_catalogue levels (written s ws) ≡ changed command (grown_catalogue levels s)
+    → overflows command (grown_catalogue levels s) (grown_capacity levels s) ≡ false
 commit_room levels command s ws keeps leaves =
     let fits : cost (grown_catalogue levels (written s ws)) ≤ grown_capacity levels (written s ws) = lawful_fits levels (written s ws) keeps.lawful_after in
     let same : length (written s ws) ≡ length s = length-written s ws in
@@ -16,7 +17,8 @@ commit_room levels command s ws keeps leaves =
     overflows-fits command (grown_catalogue levels s) (grown_capacity levels s) (omega arith)
 
 -- A commit that keeps what it must, keeps the table and leaves the command's catalogue is one.
-pub grow_commit : (levels : ℕ) (command : Command) (s : State) (ws : Writes) → growing_of (tag_of command) ≡ Some (makes command) → KeepsGrown levels s (written s ws)
+pub grow_commit : (levels : ℕ) (command : Command) (s : State) (ws : Writes) → growing_of (tag_of command) ≡ Some (makes command)
+    → KeepsGrown levels s (written s ws)
     → words_at (written s ws) 0 ≡ words_at s 0 → applies command (grown_catalogue levels s) ≡ true
     → grown_catalogue levels (written s ws) ≡ changed command (grown_catalogue levels s) → IsGrowCommit levels (tag_of command) s ws
 grow_commit levels command s ws tagged keeps table does leaves =

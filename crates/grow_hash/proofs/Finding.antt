@@ -25,7 +25,8 @@ module _ (levels : ℕ) (s : State) (lev pl : ℕ) (l : IsGrown levels s) (el : 
 -- there are no more buckets than heads
 pub buckets_low : (levels : ℕ) (s : State) → IsGrown levels s → buckets s ≤ most_buckets levels
 buckets_low levels s l = elim (cases_eq (level s) (most_level levels)) [
-  | inl e ↦ (let z : split_place s ≡ 0 = l.table.whole e in let n : buckets_at (level s) ≤ most_buckets levels = few_buckets levels (level s) l.least l.table.level_in in omega arith)
+  | inl e ↦ (let z : split_place s ≡ 0 = l.table.whole e in
+      let n : buckets_at (level s) ≤ most_buckets levels = few_buckets levels (level s) l.least l.table.level_in in omega arith)
   | inr n ↦ (let x = l.table.level_in in let p : split_place s < buckets_at (level s) = l.table.place_in in
       let m : buckets_at (suc (level s)) ≤ most_buckets levels = more_buckets levels (level s) l.least (omega arith) in
       let t : buckets_at (suc (level s)) ≡ buckets_at (level s) + buckets_at (level s) = twice_buckets (level s) in omega arith)
@@ -45,7 +46,8 @@ linked_bucket levels s t b l same lt =
 pub few_found : (levels : ℕ) (s t : State) → IsGrown levels s → t ≡ s → length t ≤ most_objects
 few_found levels s t l same = subst (λ u. length u ≤ most_objects) (sym same) l.few
 
-pub spot_found : (levels : ℕ) (s t : State) (h k p : ℕ) (words : List ℕ) (node : ℕ) (node_words : List ℕ) → t ≡ s → h ≡ head_of levels s k → IsSpot t h k p words node node_words
+pub spot_found : (levels : ℕ) (s t : State) (h k p : ℕ) (words : List ℕ) (node : ℕ) (node_words : List ℕ) → t ≡ s → h ≡ head_of levels s k
+    → IsSpot t h k p words node node_words
     → IsSpot s (head_of levels s k) k p words node node_words
 spot_found levels s t h k p words node node_words same e i =
     subst (λ u. IsSpot s u k p words node node_words) e (subst (λ u. IsSpot u h k p words node node_words) same i)

@@ -15,12 +15,14 @@ in_list_kept s s' head p e (inl q) = inl q
 in_list_kept s s' head p e (inr i) = inr (i.0, ap (word 0) e ∙ i.1)
 
 -- A split of a bucket writes each object of its list.
-split_writes : (levels place : ℕ) (s s' : State) (ws : Writes) (p : ℕ) → Grows levels (Some (splits place)) s s' ws → IsInList s (head_at place) p → touches ws p ≡ true
+split_writes : (levels place : ℕ) (s s' : State) (ws : Writes) (p : ℕ) → Grows levels (Some (splits place)) s s' ws → IsInList s (head_at place) p
+    → touches ws p ≡ true
 split_writes levels place s s' ws p w (inl e) = subst (λ o. touches ws o ≡ true) (sym e) w.writes_old
 split_writes levels place s s' ws p w (inr i) = w.writes_nodes p i
 
 -- So the bucket of a key stays where a commit doesn't write an object of its list.
-home_stays : (levels : ℕ) (g : Option Growing) (s s' : State) (ws : Writes) (b k p : ℕ) → Grows levels g s s' ws → IsInList s (head_at b) p → touches ws p ≡ false
+home_stays : (levels : ℕ) (g : Option Growing) (s s' : State) (ws : Writes) (b k p : ℕ) → Grows levels g s s' ws → IsInList s (head_at b) p
+    → touches ws p ≡ false
     → bucket levels s k ≡ b → bucket levels s' k ≡ b
 home_stays levels None s s' ws b k p w i out home = absurd w
 home_stays levels (Some (makes command)) s s' ws b k p w i out home = bucket_kept levels s s' k w.table ∙ home
@@ -30,7 +32,8 @@ home_stays levels (Some (splits place)) s s' ws b k p w i out home =
     bucket_apart levels s s' k w.table ne ∙ home
 
 -- The place of an add stays where a commit keeps its predecessor's words.
-add_place_stays : (levels : ℕ) (s : State) (tag : List ℕ) (ws : Writes) (b k p : ℕ) → IsGrowCommit levels tag s ws → b < most_buckets levels → words_at (written s ws) p ≡ words_at s p
+add_place_stays : (levels : ℕ) (s : State) (tag : List ℕ) (ws : Writes) (b k p : ℕ) → IsGrowCommit levels tag s ws → b < most_buckets levels
+    → words_at (written s ws) p ≡ words_at s p
     → IsAddPlace s (head_at b) k p → IsAddPlace (written s ws) (head_at b) k p
 add_place_stays levels s tag ws b k p al lt e a = record {
   within = inside;
@@ -64,7 +67,8 @@ record AddStays (levels : ℕ) (from s : State) (b k p n : ℕ) : Type 0 where
   fresh : words_at s n ≡ words_at from n
 
 -- An add at its place is a fit commit.
-pub add_fit : (levels : ℕ) (from : State) (b k p n : ℕ) → IsGrown levels from → bucket levels from k ≡ b → IsAddPlace from (head_at b) k p → first_grown levels ≤ n → n < length from
+pub add_fit : (levels : ℕ) (from : State) (b k p n : ℕ) → IsGrown levels from → bucket levels from k ≡ b → IsAddPlace from (head_at b) k p
+    → first_grown levels ≤ n → n < length from
     → owner from n ≡ 0 → k < 2 ^ 32 → IsFit (IsGrowCommit levels) from (tag_of (Add grown_name k)) (add_writes from (head_at b) k 0 p n)
 add_fit levels from b k p n l home place lo lt vac fit s drift =
     let i : AddStays levels from s b k p n = drift_keeps_apart (IsGrowCommit levels) held from (λ u. AddStays levels from u b k p n)

@@ -18,7 +18,8 @@ list_high levels s b p l (inl e) = inl e
 list_high levels s b p l (inr i) = inr (node_high levels s (head_at b) l p i)
 
 -- its link is read back once it is written
-pub relinked : (levels : ℕ) (s : State) (b p to : ℕ) → IsGrown levels s → b < most_buckets levels → IsInList s (head_at b) p → word 3 (relink (words_at s p) to) ≡ to
+pub relinked : (levels : ℕ) (s : State) (b p to : ℕ) → IsGrown levels s → b < most_buckets levels → IsInList s (head_at b) p
+    → word 3 (relink (words_at s p) to) ≡ to
 relinked levels s b p to l lt (inl e) =
     ap (λ w. word 3 (relink w to)) (ap (words_at s) e ∙ l.heads b lt)
 relinked levels s b p to l lt (inr i) =
@@ -29,7 +30,8 @@ pub list_in_range : (levels : ℕ) (s : State) (b p : ℕ) → IsGrown levels s 
 list_in_range levels s b p l lt (inl e) = let x = (l.lists b lt).here in omega arith
 list_in_range levels s b p l lt (inr i) = owned_in_range s p (head_at b) i.1
 
-module _ (levels : ℕ) (s : State) (b k v p n : ℕ) (l : IsGrown levels s) (home : bucket levels s k ≡ b) (place : IsAddPlace s (head_at b) k p) (lo : first_grown levels ≤ n) (lt : n < length s)
+module _ (levels : ℕ) (s : State) (b k v p n : ℕ) (l : IsGrown levels s) (home : bucket levels s k ≡ b) (place : IsAddPlace s (head_at b) k p)
+    (lo : first_grown levels ≤ n) (lt : n < length s)
     (vac : owner s n ≡ 0) where
   abbrev after : State
   after = written s (add_writes s (head_at b) k v p n)
@@ -163,7 +165,8 @@ module _ (levels : ℕ) (s : State) (b k v p n : ℕ) (l : IsGrown levels s) (ho
   }
 
 -- An add is a commit of a growing hash set.
-pub add_allowed : (levels : ℕ) (s : State) (b k p n : ℕ) → IsGrown levels s → bucket levels s k ≡ b → IsAddPlace s (head_at b) k p → first_grown levels ≤ n → n < length s → owner s n ≡ 0 → k < 2 ^ 32
+pub add_allowed : (levels : ℕ) (s : State) (b k p n : ℕ) → IsGrown levels s → bucket levels s k ≡ b → IsAddPlace s (head_at b) k p → first_grown levels ≤ n
+    → n < length s → owner s n ≡ 0 → k < 2 ^ 32
     → IsGrowCommit levels (tag_of (Add grown_name k)) s (add_writes s (head_at b) k 0 p n)
 add_allowed levels s b k p n l home place lo lt vac fit =
     grow_commit levels (Add grown_name k) s (add_writes s (head_at b) k 0 p n) refl (add_keeps levels s b k 0 p n l home place lo lt vac fit)

@@ -17,13 +17,15 @@ pub used-from : (w : List ℕ) → is_used w ≡ true → word 0 w ≢ 0
 used-from w e = grind (arith, nat_tests)
 
 -- the nodes, by their places behind the heads
-drop-set_grown : (levels : ℕ) (s : State) (o : ℕ) (w : List ℕ) → first_grown levels ≤ o → drop (first_grown levels) (set s o w) ≡ set (drop (first_grown levels) s) (o - first_grown levels) w
+drop-set_grown : (levels : ℕ) (s : State) (o : ℕ) (w : List ℕ) → first_grown levels ≤ o
+    → drop (first_grown levels) (set s o w) ≡ set (drop (first_grown levels) s) (o - first_grown levels) w
 drop-set_grown levels s o w lo =
     let e : first_grown levels + (o - first_grown levels) ≡ o = omega arith in
     ap (λ i. drop (first_grown levels) (set s i w)) (sym e) ∙ drop-set-add (first_grown levels) s (o - first_grown levels) w
 
 at-drop_grown : (levels : ℕ) (s : State) (o : ℕ) → first_grown levels ≤ o → words_at (drop (first_grown levels) s) (o - first_grown levels) ≡ words_at s o
-at-drop_grown levels s o lo = let e : first_grown levels + (o - first_grown levels) ≡ o = omega arith in get_or-drop (first_grown levels) s (o - first_grown levels) [] ∙ ap (words_at s) e
+at-drop_grown levels s o lo = let e : first_grown levels + (o - first_grown levels) ≡ o = omega arith in
+    get_or-drop (first_grown levels) s (o - first_grown levels) [] ∙ ap (words_at s) e
 
 node_in_range : (levels : ℕ) (s : State) (o : ℕ) → first_grown levels ≤ o → o < length s → o - first_grown levels < length (drop (first_grown levels) s)
 node_in_range levels s o lo lt = omega (arith, length-drop (first_grown levels) s)
@@ -38,7 +40,8 @@ pub grown_map-same : (levels : ℕ) (s : State) (o : ℕ) (w : List ℕ) → fir
 grown_map-same levels s o w lo a b c =
     let e = at-drop_grown levels s o lo in
     ap (map_among is_used) (drop-set_grown levels s o w lo)
-    ∙ map_among-same is_used (drop (first_grown levels) s) (o - first_grown levels) w (a ∙ ap is_used (sym e)) (b ∙ ap (word 2) (sym e)) (c ∙ ap (word 5) (sym e))
+    ∙ map_among-same is_used (drop (first_grown levels) s) (o - first_grown levels) w (a ∙ ap is_used (sym e)) (b ∙ ap (word 2) (sym e))
+    (c ∙ ap (word 5) (sym e))
 
 pub grown_map-relink : (levels : ℕ) (s : State) (o to : ℕ) → grown_map levels (set s o (relink (words_at s o) to)) ≡ grown_map levels s
 grown_map-relink levels s o to = elim (cases_lt o (first_grown levels)) [
@@ -57,7 +60,8 @@ pub grown_map-keeps : (levels : ℕ) (s : State) (k : ℕ) → has_key k (grown_
 grown_map-keeps levels s k h =
     let u = map_among-has is_used (drop (first_grown levels) s) k h in
     let e : words_at (drop (first_grown levels) s) u.0 ≡ words_at s (first_grown levels + u.0) = get_or-drop (first_grown levels) s u.0 [] in
-    (first_grown levels + u.0, record { node = omega arith; owned = used-from (words_at s (first_grown levels + u.0)) (ap is_used (sym e) ∙ u.1); key_is = ap (word 2) (sym e) ∙ u.2 })
+    let used : owner s (first_grown levels + u.0) ≢ 0 = used-from (words_at s (first_grown levels + u.0)) (ap is_used (sym e) ∙ u.1) in
+    (first_grown levels + u.0, record { node = omega arith; owned = used; key_is = ap (word 2) (sym e) ∙ u.2 })
 
 pub keeps-grown_map : (levels : ℕ) (s : State) (k o : ℕ) → Keeps levels s k o → has_key k (grown_map levels s) ≡ true
 keeps-grown_map levels s k o h =
@@ -73,7 +77,8 @@ pub grown_map-more : (levels : ℕ) (s : State) (o : ℕ) (w : List ℕ) → fir
     → grown_map levels (set s o w) ≡ put (word 2 w) (word 5 w) (grown_map levels s)
 grown_map-more levels s o w lo lt a b h =
     ap (map_among is_used) (drop-set_grown levels s o w lo)
-    ∙ map_among-more is_used (drop (first_grown levels) s) (o - first_grown levels) w (node_in_range levels s o lo lt) (ap is_used (at-drop_grown levels s o lo) ∙ used_vacant (words_at s o) a)
+    ∙ map_among-more is_used (drop (first_grown levels) s) (o - first_grown levels) w (node_in_range levels s o lo lt)
+    (ap is_used (at-drop_grown levels s o lo) ∙ used_vacant (words_at s o) a)
     (used_owned w b) h
 
 -- one node less, whose key no other node has
@@ -83,7 +88,8 @@ grown_map-less levels s o w lo lt a b h =
     let e = at-drop_grown levels s o lo in
     let d = drop-set_grown levels s o w lo in
     let k : word 2 (words_at (drop (first_grown levels) s) (o - first_grown levels)) ≡ key s o = ap (word 2) e in
-    ap (map_among is_used) d ∙ map_among-less is_used (drop (first_grown levels) s) (o - first_grown levels) w (node_in_range levels s o lo lt) (ap is_used e ∙ used_owned (words_at s o) a)
+    ap (map_among is_used) d ∙ map_among-less is_used (drop (first_grown levels) s) (o - first_grown levels) w (node_in_range levels s o lo lt)
+    (ap is_used e ∙ used_owned (words_at s o) a)
     (used_vacant w b) (ap (λ j. has_key j (map_among is_used (set (drop (first_grown levels) s) (o - first_grown levels) w))) k
     ∙ ap (λ m. has_key (key s o) (map_among is_used m)) (sym d) ∙ h) ∙ ap (λ j. take_out j (grown_map levels s)) k
 
@@ -93,13 +99,19 @@ unfolding cost
 cost-grown m = omega arith
 
 -- where each key is that of one node, there are no more keys than nodes
-pub grown_fits : (levels : ℕ) (s : State) → ((o u k : ℕ) → Keeps levels s k o → Keeps levels s k u → o ≡ u) → cost (grown_catalogue levels s) ≤ grown_capacity levels s
+pub grown_fits : (levels : ℕ) (s : State) → ((o u k : ℕ) → Keeps levels s k o → Keeps levels s k u → o ≡ u)
+    → cost (grown_catalogue levels s) ≤ grown_capacity levels s
 grown_fits levels s once =
     let keys : length (grown_map levels s) ≡ tally is_used (drop (first_grown levels) s) = length-map_among is_used (drop (first_grown levels) s) (λ i j a b e.
     (let x : words_at (drop (first_grown levels) s) i ≡ words_at s (first_grown levels + i) = get_or-drop (first_grown levels) s i [] in
     let y : words_at (drop (first_grown levels) s) j ≡ words_at s (first_grown levels + j) = get_or-drop (first_grown levels) s j [] in
     let q : first_grown levels + i ≡ first_grown levels + j = once (first_grown levels + i) (first_grown levels + j) (key s (first_grown levels + j))
-    (record { node = omega arith; owned = used-from (words_at s (first_grown levels + i)) (ap is_used (sym x) ∙ a); key_is = ap (word 2) (sym x) ∙ e ∙ ap (word 2) y })
+    (record {
+      node = omega arith;
+      owned = used-from (words_at s (first_grown levels + i)) (ap is_used (sym x) ∙ a);
+      key_is = ap (word 2) (sym x) ∙ e
+          ∙ ap (word 2) y;
+    })
     (record { node = omega arith; owned = used-from (words_at s (first_grown levels + j)) (ap is_used (sym y) ∙ b); key_is = refl }) in omega arith)) in
     let most : tally is_used (drop (first_grown levels) s) ≤ length (drop (first_grown levels) s) = tally-bound is_used (drop (first_grown levels) s) in
     let size : length (drop (first_grown levels) s) ≡ length s - first_grown levels = length-drop (first_grown levels) s in

@@ -1,7 +1,8 @@
 -- What is known of a grown lawful state.
 use Rattle.set_script.specs.Catalogue.{cost}
 use Rattle.std.proofs.Common.{◌≡◌, ◌≢◌, ◌*◌, ◌^◌, ◌<◌, ◌≤◌, ℕ, zero, suc, inl, inr, List, sym, ap, ◌∙◌, subst, arith}
-use Rattle.grow_hash.proofs.Terms.{cases_lt, State, words_at, owner, key, head_words, list_words, word, IsNodeOf, level, split_place, bucket_of, bucket, hash, most_buckets, first_grown}
+use Rattle.grow_hash.proofs.Terms.{cases_lt, State, words_at, owner, key, head_words, list_words, word, IsNodeOf, level, split_place, bucket_of, bucket, hash}
+use Rattle.grow_hash.proofs.Terms.{most_buckets, first_grown}
 use Rattle.grow_hash.proofs.Terms.{table_words, IsTable, IsGrown, head_at, grown_catalogue, grown_capacity}
 use Rattle.grow_hash.proofs.Buckets.{bucket_in, many_heads}
 use Rattle.grow_hash.proofs.GrownMaps.{Keeps, grown_fits}
@@ -23,14 +24,16 @@ pub bucket_low : (levels : ℕ) (s : State) → IsGrown levels s → (k : ℕ) �
 bucket_low levels s l k = bucket_in levels (level s) (split_place s) (hash levels k) l.least l.table.level_in l.table.whole
 
 -- a node that is not vacant is in the list of its key's bucket
-pub node_of_bucket : (levels : ℕ) (s : State) → IsGrown levels s → (o : ℕ) → first_grown levels ≤ o → owner s o ≢ 0 → IsNodeOf s (head_at (bucket levels s (key s o))) o
+pub node_of_bucket : (levels : ℕ) (s : State) → IsGrown levels s → (o : ℕ) → first_grown levels ≤ o → owner s o ≢ 0
+    → IsNodeOf s (head_at (bucket levels s (key s o))) o
 node_of_bucket levels s l o lo some = let many : 1024 ≤ most_buckets levels = many_heads levels l.least in (omega arith, ap (word 0) (l.nodes o lo some))
 
 -- and so the bucket of its key is that of its list
 pub node_bucket : (levels : ℕ) (s : State) (b : ℕ) → IsGrown levels s → (o : ℕ) → IsNodeOf s (head_at b) o → bucket levels s (key s o) ≡ b
 node_bucket levels s b l o i =
     let own : owner s o ≡ suc (head_at b) = i.1 in
-    let q : owner s o ≡ suc (head_at (bucket levels s (key s o))) = (node_of_bucket levels s l o (node_high levels s (head_at b) l o i) (omega arith)).1 in omega arith
+    let q : owner s o ≡ suc (head_at (bucket levels s (key s o))) = (node_of_bucket levels s l o (node_high levels s (head_at b) l o i) (omega arith)).1 in
+    omega arith
 
 pub keeps_node : (levels : ℕ) (s : State) (k o : ℕ) → IsGrown levels s → Keeps levels s k o → IsNodeOf s (head_at (bucket levels s k)) o
 keeps_node levels s k o l h =

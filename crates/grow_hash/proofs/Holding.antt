@@ -8,7 +8,8 @@ use Rattle.grow_hash.proofs.GrownMaps.{grown_map-keeps, keeps-grown_map}
 use Rattle.grow_hash.proofs.GrownStates.{bucket_low, node_bucket, keeps_node, node_keeps}
 
 -- a key of a bucket is one of the set, and the bucket is its own
-pub bucket_has : (levels : ℕ) (s : State) (b k : ℕ) → IsGrown levels s → has_key k (map_at s (head_at b)) ≡ true → (has_key k (grown_map levels s) ≡ true) × (bucket levels s k ≡ b)
+pub bucket_has : (levels : ℕ) (s : State) (b k : ℕ) → IsGrown levels s → has_key k (map_at s (head_at b)) ≡ true
+    → (has_key k (grown_map levels s) ≡ true) × (bucket levels s k ≡ b)
 bucket_has levels s b k l h =
     let u = map_at-holds s (head_at b) k h in
     let i : IsNodeOf s (head_at b) u.0 = (u.1, (is_key_at-from (head_at b) (words_at s u.0) u.2).0) in
@@ -19,7 +20,12 @@ pub has_bucket : (levels : ℕ) (s : State) (k : ℕ) → IsGrown levels s → h
 has_bucket levels s k l h =
     let u = grown_map-keeps levels s k h in
     let i : IsNodeOf s (head_of levels s k) u.0 = keeps_node levels s k u.0 l u.1 in
-    holds-map_at s (head_of levels s k) k (u.0, i.0, node_picked s (head_of levels s k) u.0 (l.lists (bucket levels s k) (bucket_low levels s l k)) i, u.1.key_is)
+    holds-map_at s (head_of levels s k) k (
+      u.0,
+      i.0,
+      node_picked s (head_of levels s k) u.0 (l.lists (bucket levels s k) (bucket_low levels s l k)) i,
+      u.1.key_is,
+    )
 
 -- So a key is in the set where it is in its bucket.
 pub same_has : (levels : ℕ) (s : State) (k : ℕ) → IsGrown levels s → has_key k (map_at s (head_of levels s k)) ≡ has_key k (grown_map levels s)

@@ -32,7 +32,8 @@ module _ (levels : ℕ) (s : State) (k b node : ℕ) (words : List ℕ) (l : IsG
       }
 
   -- or this one
-  pub least_less : (now : ℕ) → node ≢ 0 → MatchOption least (now ≡ word 2 words) (λ other. now ≡ min other (word 2 words)) → LeastOf levels s k (b + 1) (Some now)
+  pub least_less : (now : ℕ) → node ≢ 0 → MatchOption least (now ≡ word 2 words) (λ other. now ≡ min other (word 2 words))
+      → LeastOf levels s k (b + 1) (Some now)
   least_less now n lesser =
       let next : next_key k (map_at s (head_at b)) ≡ Some (word 2 words) =
       sym found ∙ ap (λ (t : Bool). cond t None (Some (word 2 words))) (ne_eqb node 0 n) in
@@ -73,7 +74,8 @@ module _ (levels : ℕ) (s : State) (k b node : ℕ) (words : List ℕ) (l : IsG
           }
 
 -- Over all buckets it is the least of the set.
-pub least_end : (levels : ℕ) (s : State) (k b : ℕ) (least : Option ℕ) → IsGrown levels s → b ≡ buckets s → LeastOf levels s k b least → least ≡ next_key k (grown_map levels s)
+pub least_end : (levels : ℕ) (s : State) (k b : ℕ) (least : Option ℕ) → IsGrown levels s → b ≡ buckets s → LeastOf levels s k b least
+    → least ≡ next_key k (grown_map levels s)
 least_end levels s k b None l e f =
     sym (next_none k (grown_map levels s) (λ i h. elim (cases_lt i k) [
       | inl lt ↦ lt

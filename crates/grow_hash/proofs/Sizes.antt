@@ -39,8 +39,14 @@ module _ (levels : ℕ) (s : State) (l : IsGrown levels s) where
   set_counted = length-map_among is_used (drop (first_grown levels) s) (λ i j a b e.
       (let x : words_at (drop (first_grown levels) s) i ≡ words_at s (first_grown levels + i) = get_or-drop (first_grown levels) s i [] in
       let y : words_at (drop (first_grown levels) s) j ≡ words_at s (first_grown levels + j) = get_or-drop (first_grown levels) s j [] in
-      let q : first_grown levels + i ≡ first_grown levels + j = key_once levels s l (first_grown levels + i) (first_grown levels + j) (key s (first_grown levels + j))
-      (record { node = omega arith; owned = used-from (words_at s (first_grown levels + i)) (ap is_used (sym x) ∙ a); key_is = ap (word 2) (sym x) ∙ e ∙ ap (word 2) y })
+      let q : first_grown levels + i ≡ first_grown levels + j =
+      key_once levels s l (first_grown levels + i) (first_grown levels + j) (key s (first_grown levels + j))
+      (record {
+        node = omega arith;
+        owned = used-from (words_at s (first_grown levels + i)) (ap is_used (sym x) ∙ a);
+        key_is = ap (word 2) (sym x) ∙ e
+            ∙ ap (word 2) y;
+      })
       (record { node = omega arith; owned = used-from (words_at s (first_grown levels + j)) (ap is_used (sym y) ∙ b); key_is = refl }) in omega arith))
 
   all_counted : length (grown_map levels s) ≡ tally is_used (drop 180 s)

@@ -20,22 +20,26 @@ pub bucket_apart : (levels : ℕ) (s s' : State) (k : ℕ) → words_at s' 0 ≡
     → bucket levels s' k ≡ bucket levels s k
 bucket_apart levels s s' k e n = elim (cases_eq (suc (split_place s)) (buckets_at (level s))) [
   | inl q ↦ ap (λ w. bucket_of (word 2 w) (word 3 w) (hash levels k)) (e ∙ next_level (level s) (split_place s) q)
-      ∙ bucket_level (level s) (hash levels k) ∙ ap (λ p. bucket_of (level s) p (hash levels k)) (sym q) ∙ bucket_next (level s) (split_place s) (hash levels k) n
+      ∙ bucket_level (level s) (hash levels k) ∙ ap (λ p. bucket_of (level s) p (hash levels k)) (sym q)
+      ∙ bucket_next (level s) (split_place s) (hash levels k) n
   | inr q ↦ ap (λ w. bucket_of (word 2 w) (word 3 w) (hash levels k)) (e ∙ next_place (level s) (split_place s) q)
       ∙ bucket_next (level s) (split_place s) (hash levels k) n
 ]
 
 -- It parts the keys of its own by twice as many buckets.
-pub bucket_parted : (levels : ℕ) (s s' : State) (k : ℕ) → words_at s' 0 ≡ next_table (level s) (split_place s) → hash levels k % buckets_at (level s) ≡ split_place s
+pub bucket_parted : (levels : ℕ) (s s' : State) (k : ℕ) → words_at s' 0 ≡ next_table (level s) (split_place s)
+    → hash levels k % buckets_at (level s) ≡ split_place s
     → bucket levels s' k ≡ hash levels k % buckets_at (suc (level s))
 bucket_parted levels s s' k e home = elim (cases_eq (suc (split_place s)) (buckets_at (level s))) [
-  | inl q ↦ ap (λ w. bucket_of (word 2 w) (word 3 w) (hash levels k)) (e ∙ next_level (level s) (split_place s) q) ∙ bucket_whole (suc (level s)) 0 (hash levels k) (omega arith)
+  | inl q ↦ ap (λ w. bucket_of (word 2 w) (word 3 w) (hash levels k)) (e ∙ next_level (level s) (split_place s) q)
+      ∙ bucket_whole (suc (level s)) 0 (hash levels k) (omega arith)
   | inr q ↦ ap (λ w. bucket_of (word 2 w) (word 3 w) (hash levels k)) (e ∙ next_place (level s) (split_place s) q)
       ∙ bucket_split (level s) (suc (split_place s)) (hash levels k) (omega arith)
 ]
 
 -- The table stays in range.
-pub table_splits : (levels : ℕ) (s s' : State) → words_at s' 0 ≡ next_table (level s) (split_place s) → level s < most_level levels → IsTable levels s → IsTable levels s'
+pub table_splits : (levels : ℕ) (s s' : State) → words_at s' 0 ≡ next_table (level s) (split_place s) → level s < most_level levels → IsTable levels s
+    → IsTable levels s'
 table_splits levels s s' e below t = elim (cases_eq (suc (split_place s)) (buckets_at (level s))) [
   | inl q ↦ by_words (suc (level s)) 0 (e ∙ next_level (level s) (split_place s) q) (omega arith)
       (let some = some_buckets (suc (level s)) in omega arith) (λ _. refl)
@@ -72,7 +76,8 @@ commit_buckets levels None s s' ws w = absurd w
 commit_buckets levels (Some (makes command)) s s' ws w = ap (λ u. buckets_at (word 2 u) + word 3 u) w.table ∙ omega arith
 commit_buckets levels (Some (splits place)) s s' ws w = bucket_more s s' w.table ∙ omega arith
 
-lawful_on : (levels : ℕ) (start : State) (front es : List Entry) → IsGrown levels (state_after start front) → IsAllowed (IsGrowCommit levels) start (front ++ es)
+lawful_on : (levels : ℕ) (start : State) (front es : List Entry) → IsGrown levels (state_after start front)
+    → IsAllowed (IsGrowCommit levels) start (front ++ es)
     → IsGrown levels (state_after start (front ++ es))
 lawful_on levels start front [] l h = rw append-nil l
 lawful_on levels start front (Rest by ∷ es) l h =
@@ -94,12 +99,15 @@ count_on : (levels : ℕ) (start : State) (front es : List Entry) → IsAllowed 
 count_on levels start front [] h = ap (λ u. buckets (state_after start u)) (append-nil front) ∙ omega arith
 count_on levels start front (Rest by ∷ es) h =
     let same : state_after start (front ++ Rest by ∷ []) ≡ state_after start front = state_after-append start front (Rest by ∷ []) in
-    let more = count_on levels start (front ++ Rest by ∷ []) es (subst (IsAllowed (IsGrowCommit levels) start) (sym (append_assoc front (Rest by ∷ []) es)) h) in
+    let more = count_on levels start (front ++ Rest by ∷ []) es
+    (subst (IsAllowed (IsGrowCommit levels) start) (sym (append_assoc front (Rest by ∷ []) es)) h) in
     ap (λ u. buckets (state_after start u)) (sym (append_assoc front (Rest by ∷ []) es)) ∙ more ∙ ap (λ u. buckets u + count_splits es) same
 count_on levels start front (Change c ∷ es) h =
     let same : state_after start (front ++ Change c ∷ []) ≡ written (state_after start front) c.writes = state_after-append start front (Change c ∷ []) in
-    let more = count_on levels start (front ++ Change c ∷ []) es (subst (IsAllowed (IsGrowCommit levels) start) (sym (append_assoc front (Change c ∷ []) es)) h) in
-    let one = commit_buckets levels (growing_of c.tag) (state_after start front) (written (state_after start front) c.writes) c.writes (h front es c refl).grows in
+    let more = count_on levels start (front ++ Change c ∷ []) es
+    (subst (IsAllowed (IsGrowCommit levels) start) (sym (append_assoc front (Change c ∷ []) es)) h) in
+    let one = commit_buckets levels (growing_of c.tag) (state_after start front) (written (state_after start front) c.writes) c.writes
+    (h front es c refl).grows in
     ap (λ u. buckets (state_after start u)) (sym (append_assoc front (Change c ∷ []) es)) ∙ more ∙ ap (λ u. buckets u + count_splits es) same
     ∙ ap (λ n. n + count_splits es) one ∙ omega arith
 

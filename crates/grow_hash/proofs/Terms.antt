@@ -37,8 +37,10 @@ pub use Rattle.set_script.specs.declared.commands.Reply.TheVariants.{Yes, No, Fu
 pub use Rattle.section_work.specs.Works.{IsPlanned}
 pub use Rattle.mv_history.proofs.Histories.{IsAllowed-front}
 pub use Rattle.section_work.specs.OwnWrites.{objects_of}
-pub use Rattle.grow_hash.specs.Tables.{grow_levels, most_levels, most_level, hash, buckets_at, bucket_of, bucket, level, split_place, buckets, table_words, IsTable, next_table}
-pub use Rattle.grow_hash.specs.Grown.{most_buckets, first_grown, IsGrown, is_used, grown_name, grown_catalogue, grown_capacity, head_at, grown_map, IsGrownOpening}
+pub use Rattle.grow_hash.specs.Tables.{grow_levels, most_levels, most_level, hash, buckets_at, bucket_of, bucket, level, split_place, buckets, table_words}
+pub use Rattle.grow_hash.specs.Tables.{IsTable, next_table}
+pub use Rattle.grow_hash.specs.Grown.{most_buckets, first_grown, IsGrown, is_used, grown_name, grown_catalogue, grown_capacity, head_at, grown_map}
+pub use Rattle.grow_hash.specs.Grown.{IsGrownOpening}
 pub use Rattle.grow_hash.specs.GrowRules.{makes, growing_of, KeepsGrown, Grows, IsGrowCommit, Growing, splits, split_tag, SplitsGrown}
 pub use Rattle.grow_hash.specs.GrowPlans.{head_of, GrowPlan, IsGrowing, IsFree, IsOfGrown}
 pub use Rattle.grow_hash.specs.Splits.{is_splitting, count_splits}

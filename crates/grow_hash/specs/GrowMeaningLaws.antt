@@ -19,7 +19,8 @@ tag_stands levels (Pair first second key) s ws e p = absurd e
 tag_stands levels (Size name) s ws e p = absurd p
 tag_stands levels (Next name key) s ws e p = absurd p
 
-pub makes_grown : (levels : ℕ) (command : Command) (s before : State) (tag : List ℕ) (ws : Writes) (answer : Reply) → IsOfGrown command → PlansGrown levels command s tag ws answer
+pub makes_grown : (levels : ℕ) (command : Command) (s before : State) (tag : List ℕ) (ws : Writes) (answer : Reply) → IsOfGrown command
+    → PlansGrown levels command s tag ws answer
     → IsGrowCommit levels tag before ws → (answer ≡ reply_grown levels command before false) × MakesGrown levels command before (written before ws)
 makes_grown levels command s before tag ws answer names p a =
     let m : MakesGrown levels command before (written before ws) =

@@ -43,7 +43,8 @@ module _ (p : Past) (more : List Entry) where
           tagged = made.tagged;
           answers = made.answers ∙ sym (λ i. reply command (grown_catalogue grow_levels (before i)) (grown_capacity grow_levels p.start) false);
           changing = (λ i. changes command (grown_catalogue grow_levels (before i)) (grown_capacity grow_levels p.start) false) ∙ made.changing;
-          leaves = ap (grown_catalogue grow_levels) now ∙ made.leaves ∙ sym (λ i. next command (grown_catalogue grow_levels (before i)) (grown_capacity grow_levels p.start) false);
+          leaves = ap (grown_catalogue grow_levels) now ∙ made.leaves
+              ∙ sym (λ i. next command (grown_catalogue grow_levels (before i)) (grown_capacity grow_levels p.start) false);
         },
       )
   place_longer seat command (Read time) answer commits placed =

@@ -122,7 +122,8 @@ module _ (p : Past) (scripts : List (List Command)) (groups : List (List Turn)) 
             let found = plain_from p.entries i c there in
             lines_permuted (p.base + suc i) lines ordered same ∙ one_line i c found.0 ∙ ap (λ b. cond b 0 1) found.1;
       } in
-      subst (λ m. Replays scripts (grown_capacity grow_levels p.start) m ordered (grown_catalogue grow_levels (state_after p.start p.entries))) (grown_empty p.start h.opening)
+      subst (λ m. Replays scripts (grown_capacity grow_levels p.start) m ordered (grown_catalogue grow_levels (state_after p.start p.entries)))
+      (grown_empty p.start h.opening)
       (replay p scripts h.allowed h.last 0 ordered left)
 
   legal_run : LegalRun scripts lines p.base (grown_capacity grow_levels p.start) (grown_catalogue grow_levels (state_after p.start p.entries))

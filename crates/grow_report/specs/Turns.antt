@@ -57,7 +57,8 @@ pub record IsGrowCommitOf (p : Past) (seat : ℕ) (command : Command) (time : �
   pub tagged : c.tag ≡ tag_of command
   pub answers : answer ≡ reply command (grown_catalogue grow_levels (state_of_time p (time - 1))) (grown_capacity grow_levels p.start) false
   pub changing : changes command (grown_catalogue grow_levels (state_of_time p (time - 1))) (grown_capacity grow_levels p.start) false ≡ true
-  pub leaves : grown_catalogue grow_levels (state_of_time p time) ≡ next command (grown_catalogue grow_levels (state_of_time p (time - 1))) (grown_capacity grow_levels p.start) false
+  pub leaves : grown_catalogue grow_levels (state_of_time p time) ≡ next command (grown_catalogue grow_levels (state_of_time p (time - 1)))
+      (grown_capacity grow_levels p.start) false
 
 -- This is the command's reply in the state of this printed time, and it has nothing to change there.
 pub record IsGrowReadOf (p : Past) (command : Command) (time : ℕ) (answer : Reply) : Type 0 where

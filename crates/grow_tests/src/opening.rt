@@ -30,7 +30,13 @@ pub(crate) fn numbers(objects: u32, base: u64) -> Config
 pub(crate) fn open_grown(
     alloc: Global,
     config: Config,
-) -> Result<(Domain<GrowRules<GROW_LEVELS>>, Vec<Seat<GrowRules<GROW_LEVELS>>>), Fail>
+) -> Result<
+    (
+        Domain<GrowRules<GROW_LEVELS>>,
+        Vec<Seat<GrowRules<GROW_LEVELS>>>,
+    ),
+    Fail,
+>
     requires some { 1025 < config.objects }
     requires few { config.objects < 65536 }
     ensures { IfOk result (λ r. IsOpened config (replicate config.objects no_words) r.0 r.1.items) }

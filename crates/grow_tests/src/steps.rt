@@ -4,7 +4,9 @@ ghost use Rattle.mv_history.specs.Calls.{Continues};
 ghost use Rattle.grow_hash.specs.GrowPlans.{IsOfGrown};
 ghost use Rattle.grow_hash.specs.SplitCalls.{most_writes};
 
-use grow_hash::{GROW_LEVELS, GrowRules, GrowStep, Split, attempt_grow, read_grown, table_of, try_split};
+use grow_hash::{
+    GROW_LEVELS, GrowRules, GrowStep, Split, attempt_grow, read_grown, table_of, try_split,
+};
 use mv_history::{Section, Store};
 use section_work::Place;
 use set_script::{Catalogue, Command, Name, Reply};
@@ -103,7 +105,12 @@ fn attempt<S: Store<Rules = GrowRules<GROW_LEVELS>>>(
 }
 
 // Adds new keys.
-fn add_all<S: Store<Rules = GrowRules<GROW_LEVELS>>>(rt: &impl Abort, mut store: S, keys: Keys, from: u64) -> S
+fn add_all<S: Store<Rules = GrowRules<GROW_LEVELS>>>(
+    rt: &impl Abort,
+    mut store: S,
+    keys: Keys,
+    from: u64,
+) -> S
     requires most { most_writes ≤ (S.seat_of store).write_max }
     ensures { Continues (S.seat_of store) (S.seat_of result) }
 {
@@ -123,7 +130,11 @@ fn split_of<S: Store<Rules = GrowRules<GROW_LEVELS>>>(store: S) -> (S, Split)
 }
 
 // Tries a split once, and looks at its answer.
-fn split_once<S: Store<Rules = GrowRules<GROW_LEVELS>>>(rt: &impl Abort, store: S, split: Split) -> S
+fn split_once<S: Store<Rules = GrowRules<GROW_LEVELS>>>(
+    rt: &impl Abort,
+    store: S,
+    split: Split,
+) -> S
     requires most { most_writes ≤ (S.seat_of store).write_max }
     ensures { Continues (S.seat_of store) (S.seat_of result) }
 {
@@ -133,7 +144,11 @@ fn split_once<S: Store<Rules = GrowRules<GROW_LEVELS>>>(rt: &impl Abort, store: 
 }
 
 // Splits so many buckets.
-fn split_all<S: Store<Rules = GrowRules<GROW_LEVELS>>>(rt: &impl Abort, mut store: S, count: u32) -> S
+fn split_all<S: Store<Rules = GrowRules<GROW_LEVELS>>>(
+    rt: &impl Abort,
+    mut store: S,
+    count: u32,
+) -> S
     requires most { most_writes ≤ (S.seat_of store).write_max }
     ensures { Continues (S.seat_of store) (S.seat_of result) }
 {
@@ -180,7 +195,12 @@ fn expect_keys(rt: &impl Abort, all: &Catalogue, keys: Keys) {
 }
 
 // Looks that the table has this level and this split place.
-fn expect_table<S: Store<Rules = GrowRules<GROW_LEVELS>>>(rt: &impl Abort, store: S, level: u32, place: u32) -> S
+fn expect_table<S: Store<Rules = GrowRules<GROW_LEVELS>>>(
+    rt: &impl Abort,
+    store: S,
+    level: u32,
+    place: u32,
+) -> S
     ensures { Continues (S.seat_of store) (S.seat_of result) }
 {
     let (after, table) = read_table(store);

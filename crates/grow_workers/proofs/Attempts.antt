@@ -16,7 +16,8 @@ even_then _ _ e = absurd (cc)
 
 module _ (k : Causes) (s : GrowKept) (command : Command) where
   -- An attempt of the command that is done leaves its link, and a seat that may hold what a split locks.
-  pub done_command : (t u : Seat) (place : Place) (answer : Reply) → IsUnder most_writes s.seat t → IsSeat (IsGrownOpening grow_levels) (IsGrowCommit grow_levels) u
+  pub done_command : (t u : Seat) (place : Place) (answer : Reply) → IsUnder most_writes s.seat t
+      → IsSeat (IsGrownOpening grow_levels) (IsGrowCommit grow_levels) u
       → GrowAttempted grow_levels k t u command (Done answer place) → LinkedCommand k s.seat u command place answer × IsUnder most_writes u u
   done_command t u place answer under lawful left =
       let linked : LinkedCommand k s.seat u command place answer = record { from = t; none = under.none; attempted = left; lawful = lawful } in

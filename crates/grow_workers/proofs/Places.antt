@@ -30,11 +30,14 @@ change_yes _ _ e = absurd (cc)
 
 -- what locks something and replies yes changes something
 plan_changes : (command : Command) (from : State) (writes : Writes) (s : State) → GrowPlan grow_levels command from writes
-    → reply command (grown_catalogue grow_levels s) (grown_capacity grow_levels s) false ≡ Yes → changes command (grown_catalogue grow_levels s) (grown_capacity grow_levels s) false ≡ true
+    → reply command (grown_catalogue grow_levels s) (grown_capacity grow_levels s) false ≡ Yes
+    → changes command (grown_catalogue grow_levels s) (grown_capacity grow_levels s) false ≡ true
 plan_changes (commands.Add name key) from writes s plan said =
-    change_yes (applies (commands.Add name key) (grown_catalogue grow_levels s)) (overflows (commands.Add name key) (grown_catalogue grow_levels s) (grown_capacity grow_levels s)) said
+    change_yes (applies (commands.Add name key) (grown_catalogue grow_levels s))
+    (overflows (commands.Add name key) (grown_catalogue grow_levels s) (grown_capacity grow_levels s)) said
 plan_changes (commands.Del name key) from writes s plan said =
-    change_yes (applies (commands.Del name key) (grown_catalogue grow_levels s)) (overflows (commands.Del name key) (grown_catalogue grow_levels s) (grown_capacity grow_levels s)) said
+    change_yes (applies (commands.Del name key) (grown_catalogue grow_levels s))
+    (overflows (commands.Del name key) (grown_catalogue grow_levels s) (grown_capacity grow_levels s)) said
 plan_changes _ from writes s plan said = absurd plan
 
 -- the command took place there, with this reply

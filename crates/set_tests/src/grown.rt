@@ -92,7 +92,11 @@ fn expect_step(rt: &impl Abort, answer: GrowStep, reply: Reply, place: Place) {
 }
 
 // Attempts the commands, one after another.
-fn play<const LEVELS: u32, R: GrowingRules<LEVELS>, S: Store<Rules = R>>(rt: &impl Abort, mut store: S, rows: &[Row]) -> S {
+fn play<const LEVELS: u32, R: GrowingRules<LEVELS>, S: Store<Rules = R>>(
+    rt: &impl Abort,
+    mut store: S,
+    rows: &[Row],
+) -> S {
     for (ask, reply, place, most) in rows {
         let (after, answer, reads) = count_reads(rt, store, *ask);
         expect_step(rt, answer, *reply, *place);
@@ -103,7 +107,10 @@ fn play<const LEVELS: u32, R: GrowingRules<LEVELS>, S: Store<Rules = R>>(rt: &im
 }
 
 // A store of so many objects of zeros.
-fn open<const LEVELS: u32>(alloc: Global, count: u32) -> Result<PlainStore<GrowRules<LEVELS>>, AllocError>
+fn open<const LEVELS: u32>(
+    alloc: Global,
+    count: u32,
+) -> Result<PlainStore<GrowRules<LEVELS>>, AllocError>
     requires least { grow_levels ≤ LEVELS }
     requires most { LEVELS ≤ most_levels }
     requires some { first_grown LEVELS < count }

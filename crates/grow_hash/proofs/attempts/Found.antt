@@ -85,7 +85,8 @@ module _ (levels : ℕ) (s : State) (k : ℕ) (l : IsGrown levels s) (spot : Spo
           plan = plan;
           distinct = ap are_distinct f.1 ∙ two_distinct spot.previous node here;
           within = subst (λ (u : Writes). AreWithin u (length s)) (sym f.1)
-              (two_within spot.previous node (length s) (list_in_range levels s (bucket levels s k) spot.previous l (bucket_low levels s l k) f.0.within) free.1);
+              (two_within spot.previous node (length s) (list_in_range levels s (bucket levels s k) spot.previous l (bucket_low levels s l k) f.0.within)
+              free.1);
           locks = ap length f.1;
           fit = plan_fit levels s (Add grown_name k) ws plan (refl, fit) l;
         },
@@ -93,7 +94,8 @@ module _ (levels : ℕ) (s : State) (k : ℕ) (l : IsGrown levels s) (spot : Spo
 
   pub del_open : has ≡ true → k < 2 ^ 32 → (ws : Writes) → AreDelWrites spot ws → IsGrowFound levels (Del grown_name k) s (Open ws)
   del_open e fit ws are =
-      let f = del_found s s (head_of levels s k) k spot.previous spot.words spot.node spot.node_words has refl ends is e ws (are s (head_of levels s k) k ends) in
+      let f = del_found s s (head_of levels s k) k spot.previous spot.words spot.node spot.node_words has refl ends is e ws
+      (are s (head_of levels s k) k ends) in
       let linked = l.lists (bucket levels s k) (bucket_low levels s l k) in
       let here : spot.previous ≢ spot.node = del_apart s (head_of levels s k) k spot.previous spot.node linked f.0 in
       let node = del_node s (head_of levels s k) k spot.previous spot.node linked f.0 in
@@ -119,7 +121,8 @@ changing_parts false o e = absurd (cc)
 pub change_late : (levels : ℕ) (command : Command) (s : State) (ws : Writes) → changes_grown levels command s false ≡ true → GrowPlan levels command s ws
     → Worn ≡ reply_grown levels command s true
 change_late levels (Add name key) s ws e p =
-    let h = changing_parts (applies (Add name key) (grown_catalogue levels s)) (overflows (Add name key) (grown_catalogue levels s) (grown_capacity levels s)) e in
+    let h = changing_parts (applies (Add name key) (grown_catalogue levels s)) (overflows (Add name key) (grown_catalogue levels s) (grown_capacity levels s))
+    e in
     worn_reply (applies (Add name key) (grown_catalogue levels s)) (overflows (Add name key) (grown_catalogue levels s) (grown_capacity levels s)) h.0 h.1
 change_late levels (Del name key) s ws e p =
     let h = changing_parts (applies (Del name key) (grown_catalogue levels s)) false e in
@@ -132,7 +135,8 @@ change_late levels (Pair first second key) s ws e p = absurd p
 change_late levels (Size name) s ws e p = absurd p
 change_late levels (Next name key) s ws e p = absurd p
 
-pub found_late : (levels : ℕ) (command : Command) (s : State) (f : Finding) → IsGrowFound levels command s f → reply_at_last f ≡ reply_grown levels command s true
+pub found_late : (levels : ℕ) (command : Command) (s : State) (f : Finding) → IsGrowFound levels command s f
+    → reply_at_last f ≡ reply_grown levels command s true
 found_late levels command s (Settled answer) i = i.0 true
 found_late levels command s (Open writes) i = change_late levels command s writes i.0 i.1.plan
 
@@ -145,7 +149,8 @@ unchanging_late levels command s = late (applies command (grown_catalogue levels
     late false o = refl
 
 -- what changes nothing where a time is left changes nothing at all
-pub unchanging_any : (levels : ℕ) (command : Command) (s : State) (last : Bool) → changes_grown levels command s false ≡ false → changes_grown levels command s last ≡ false
+pub unchanging_any : (levels : ℕ) (command : Command) (s : State) (last : Bool) → changes_grown levels command s false ≡ false
+    → changes_grown levels command s last ≡ false
 unchanging_any levels command s false e = e
 unchanging_any levels command s true e = unchanging_late levels command s
 

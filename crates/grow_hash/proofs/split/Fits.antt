@@ -28,7 +28,8 @@ module _ (levels : ℕ) (s t : State) (table : words_at t 0 ≡ words_at s 0) wh
       ap (λ c. (n, list_words (head_at c) (key t n) (value t n) (first_to levels t c ns)) ∷ parted_nodes levels t ns) (same_bucket n here)
       ∙ ap (λ w. (n, list_words (head_at (split_bucket levels s n)) (word 2 w) (word 5 w) (first_to levels t (split_bucket levels s n) ns))
       ∷ parted_nodes levels t ns) here
-      ∙ ap (λ u. (n, list_words (head_at (split_bucket levels s n)) (key s n) (value s n) u) ∷ parted_nodes levels t ns) (same_first (split_bucket levels s n) ns rest)
+      ∙ ap (λ u. (n, list_words (head_at (split_bucket levels s n)) (key s n) (value s n) u) ∷ parted_nodes levels t ns)
+      (same_first (split_bucket levels s n) ns rest)
       ∙ ap (λ (ws : Writes). (n, list_words (head_at (split_bucket levels s n)) (key s n) (value s n) (first_to levels s (split_bucket levels s n) ns))
       ∷ ws) (same_parted ns rest)
 
@@ -51,7 +52,8 @@ module _ (levels : ℕ) (s t : State) (table : words_at t 0 ≡ words_at s 0) wh
       ∷ (head_at (new_bucket s), head_words (first_to levels s (new_bucket s) ns)) ∷ ws) (same_parted ns f)
 
 -- What a split locks and writes is a fit commit.
-pub split_fit : (levels : ℕ) (from : State) (ws : Writes) → SplitPlan levels from ws → IsGrown levels from → IsFit (IsGrowCommit levels) from (split_tag (split_place from)) ws
+pub split_fit : (levels : ℕ) (from : State) (ws : Writes) → SplitPlan levels from ws → IsGrown levels from
+    → IsFit (IsGrowCommit levels) from (split_tag (split_place from)) ws
 split_fit levels from ws p l =
     subst (λ u. IsFit (IsGrowCommit levels) from (split_tag (split_place from)) u) (sym p.writes_are) fit
   where
@@ -63,7 +65,8 @@ split_fit levels from ws p l =
 
     fit : IsFit (IsGrowCommit levels) from (split_tag (split_place from)) (split_writes levels from p.nodes)
     fit s drift =
-        let lawful : IsGrown levels s = drift_keeps_apart (IsGrowCommit levels) held from (IsGrown levels) (λ u tag vs m _ al apart kept. al.keeps.lawful_after) l s drift in
+        let lawful : IsGrown levels s = drift_keeps_apart (IsGrowCommit levels) held from (IsGrown levels)
+        (λ u tag vs m _ al apart kept. al.keeps.lawful_after) l s drift in
         let same : (o : ℕ) → touches (split_writes levels from p.nodes) o ≡ true → words_at s o ≡ words_at from o =
         λ o t. words-drifts (IsGrowCommit levels) held from s o drift t in
         let table : words_at s 0 ≡ words_at from 0 = same 0 (touches-in (split_writes levels from p.nodes) 0 (inl refl)) in
@@ -73,7 +76,8 @@ split_fit levels from ws p l =
         let path : IsPath s (head_at (split_place from)) p.nodes =
         path_kept from s (head_at (split_place from)) p.nodes (ap (word 3) head) (λ n i. ap (word 3) (same n (in_nodes n i))) p.path in
         let allowed : IsGrowCommit levels (split_tag (split_place s)) s (split_writes levels s p.nodes) =
-        split_allowed levels s p.nodes lawful (subst (λ w. word 2 w < most_level levels) (sym table) p.below) (subst (λ c. IsPath s (head_at c) p.nodes) (sym place) path) in
+        split_allowed levels s p.nodes lawful (subst (λ w. word 2 w < most_level levels) (sym table) p.below)
+        (subst (λ c. IsPath s (head_at c) p.nodes) (sym place) path) in
         subst (λ u. IsGrowCommit levels (split_tag (split_place from)) s u) (same_split levels from s table p.nodes (λ n i. same n (in_nodes n i)))
         (subst (λ c. IsGrowCommit levels (split_tag c) s (split_writes levels s p.nodes)) place allowed)
 
@@ -83,5 +87,6 @@ plan_grown levels from ws p l =
     (allowed_at_once (IsGrowCommit levels) from (split_tag (split_place from)) ws (split_fit levels from ws p l)).keeps.lawful_after
 
 -- and the same catalogue.
-pub plan_leaves : (levels : ℕ) (from : State) (ws : Writes) → SplitPlan levels from ws → IsGrown levels from → grown_catalogue levels (written from ws) ≡ grown_catalogue levels from
+pub plan_leaves : (levels : ℕ) (from : State) (ws : Writes) → SplitPlan levels from ws → IsGrown levels from
+    → grown_catalogue levels (written from ws) ≡ grown_catalogue levels from
 plan_leaves levels from ws p l = (allowed_at_once (IsGrowCommit levels) from (split_tag (split_place from)) ws (split_fit levels from ws p l)).grows.leaves

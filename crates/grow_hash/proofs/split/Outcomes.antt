@@ -22,7 +22,8 @@ closed_settles levels s last (Long keys) h = h
 closed_settles levels s last Worn h = absurd h
 
 -- what was planned for the split is planned for it as a work
-pub planned_as : (levels : ℕ) (s : State) (place count : ℕ) (writes : Writes) → IsGrown levels s → count ≤ 64 → IsPlannedSplit levels s place (take count writes)
+pub planned_as : (levels : ℕ) (s : State) (place count : ℕ) (writes : Writes) → IsGrown levels s → count ≤ 64
+    → IsPlannedSplit levels s place (take count writes)
     → IsPlanned (IsGrowCommit levels) (split_meaning levels) s (split_tag place) (take count writes) Splits
 planned_as levels s place count writes l few p = record {
   plan = record { splittable = p.splittable; tagged = ap split_tag p.place_is; plan = p.plan };

@@ -12,7 +12,8 @@ pub first_later : (levels : ℕ) (s : State) (b n : ℕ) (ns : List ℕ) → spl
 first_later levels s b n ns ne = ap (λ (t : Bool). cond t n (first_to levels s b ns)) (ne_eqb (split_bucket levels s n) b ne)
 
 -- the first node of the bucket is one of them
-pub first_in : (levels : ℕ) (s : State) (b : ℕ) (ns : List ℕ) → first_to levels s b ns ≢ 0 → IsIn (first_to levels s b ns) ns × (split_bucket levels s (first_to levels s b ns) ≡ b)
+pub first_in : (levels : ℕ) (s : State) (b : ℕ) (ns : List ℕ) → first_to levels s b ns ≢ 0
+    → IsIn (first_to levels s b ns) ns × (split_bucket levels s (first_to levels s b ns) ≡ b)
 first_in levels s b [] nz = absurd (nz refl)
 first_in levels s b (n ∷ ns) nz = elim (cases_eq (split_bucket levels s n) b) [
   | inl e ↦ (inl (first_here levels s b n ns e), ap (split_bucket levels s) (first_here levels s b n ns e) ∙ e)
@@ -43,7 +44,8 @@ first_least levels s head b (n ∷ ns) r m i e = elim (cases_eq (split_bucket le
 abbrev pub AreParted : ℕ → State → State → List ℕ → Type 0
 AreParted levels s s' [] = ⊤
 AreParted levels s s' (n ∷ ns) =
-    (words_at s' n ≡ list_words (head_at (split_bucket levels s n)) (key s n) (value s n) (first_to levels s (split_bucket levels s n) ns)) × AreParted levels s s' ns
+    (words_at s' n ≡ list_words (head_at (split_bucket levels s n)) (key s n) (value s n) (first_to levels s (split_bucket levels s n) ns))
+    × AreParted levels s s' ns
 
 -- the words of each of them, but the link
 pub parted_words : (levels : ℕ) (s s' : State) (ns : List ℕ) → AreParted levels s s' ns → (n : ℕ) → IsIn n ns

@@ -74,7 +74,8 @@ module _ (levels : ℕ) (s : State) (at place : ℕ) (nodes : Writes) (keys i : 
   goes =
       let home : bucket levels s (key s here.0) ≡ place = node_bucket levels s place r.lawful here.0 node in
       subst (λ u. (split_bucket levels s here.0 ≡ place) ⊎ (split_bucket levels s here.0 ≡ place + buckets_at u)) r.level_is
-      (subst (λ p. (hash levels (key s here.0) % buckets_at (suc (level s)) ≡ p) ⊎ (hash levels (key s here.0) % buckets_at (suc (level s)) ≡ p + buckets_at (level s))) r.place_is
+      (subst (λ p. (hash levels (key s here.0) % buckets_at (suc (level s)) ≡ p)
+      ⊎ (hash levels (key s here.0) % buckets_at (suc (level s)) ≡ p + buckets_at (level s))) r.place_is
       (split_to (level s) (split_place s) (hash levels (key s here.0)) r.lawful.table.place_in (home ∙ sym r.place_is)))
 
   -- the words of the node, wherever they were read
@@ -103,7 +104,8 @@ module _ (levels : ℕ) (s : State) (at place : ℕ) (nodes : Writes) (keys i : 
     firsts = elim goes [
       | inl e ↦ (let b : (to == place) ≡ true = eq-eqb to place (to_bucket ∙ e) in
           let m : (split_bucket levels s here.0 == place) ≡ true = eq-eqb (split_bucket levels s here.0) place e in
-          let n : (split_bucket levels s here.0 == place + buckets_at at) ≡ false = ne_eqb (split_bucket levels s here.0) (place + buckets_at at) (λ q. apart (sym e
+          let n : (split_bucket levels s here.0 == place + buckets_at at) ≡ false =
+          ne_eqb (split_bucket levels s here.0) (place + buckets_at at) (λ q. apart (sym e
           ∙ q)) in (
             next_is ∙ ap (λ (t : Bool). cond t stay go) b ∙ h.stay_is ∙ ap (λ u. first_to levels s u rest) (sym e),
             stay_is ∙ ap (λ (t : Bool). cond t here.0 stay) b ∙ sym (ap (λ (t : Bool). cond t here.0 (first_to levels s place rest)) m),

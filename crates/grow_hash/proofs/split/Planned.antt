@@ -53,7 +53,8 @@ module _ (levels : ℕ) (s : State) (ws : Writes) (l : IsGrown levels s) (p : Sp
             | inr k ↦ (let x : first_grown levels ≤ head_at old = high (head_at old) k in omega arith)
           ]),
           (
-            is_in-none (head_at (new_bucket s)) p.nodes (λ k. (let x : first_grown levels ≤ head_at (new_bucket s) = high (head_at (new_bucket s)) k in omega arith)),
+            is_in-none (head_at (new_bucket s)) p.nodes (λ k.
+                (let x : first_grown levels ≤ head_at (new_bucket s) = high (head_at (new_bucket s)) k in omega arith)),
             rising_distinct s (head_at old) p.nodes rising,
           ),
         ),

@@ -14,7 +14,8 @@ use Rattle.grow_hash.proofs.split.PartedLists.{AreParted, parted_words, list_par
 use Rattle.grow_hash.proofs.split.PartedStates.{parted_objects, parted_out, parted_in, parted_map}
 use Rattle.grow_hash.proofs.Terms.{most_buckets, most_level, first_grown, hash}
 
-module _ (levels : ℕ) (s : State) (ns : List ℕ) (l : IsGrown levels s) (below : level s < most_level levels) (path : IsPath s (head_at (split_place s)) ns) where
+module _ (levels : ℕ) (s : State) (ns : List ℕ) (l : IsGrown levels s) (below : level s < most_level levels)
+    (path : IsPath s (head_at (split_place s)) ns) where
   abbrev after : State
   after = written s (split_writes levels s ns)
 
@@ -29,7 +30,9 @@ module _ (levels : ℕ) (s : State) (ns : List ℕ) (l : IsGrown levels s) (belo
 
   new_low : new < most_buckets levels
   new_low =
-      let x = in_level in let y : buckets_at (suc (level s)) ≤ most_buckets levels = more_buckets levels (level s) l.least below in let z = twice_buckets (level s) in omega arith
+      let x = in_level in
+      let y : buckets_at (suc (level s)) ≤ most_buckets levels = more_buckets levels (level s) l.least below in
+      let z = twice_buckets (level s) in omega arith
 
   linked : IsLinked s (head_at old)
   linked = l.lists old (let x = new_low in omega arith)
@@ -52,7 +55,8 @@ module _ (levels : ℕ) (s : State) (ns : List ℕ) (l : IsGrown levels s) (belo
 
   -- the state with the table and both heads written
   abbrev middle : State
-  middle = set (set (set s 0 (next_table (level s) old)) (head_at old) (head_words (first_to levels s old ns))) (head_at new) (head_words (first_to levels s new ns))
+  middle = set (set (set s 0 (next_table (level s) old)) (head_at old) (head_words (first_to levels s old ns))) (head_at new)
+      (head_words (first_to levels s new ns))
 
   middle_length : length middle ≡ length s
   middle_length = omega (arith, length-set {A = List ℕ})
@@ -143,7 +147,8 @@ module _ (levels : ℕ) (s : State) (ns : List ℕ) (l : IsGrown levels s) (belo
     | inl e ↦ in_node n (j.0, e)
     | inr ne ↦ (let own : owner s n ≡ suc (head_at new) = ap (word 0) (sym (kept_node n (now_high n (head_at new) j.1) ne)) ∙ j.1 in
         let home : bucket levels s (key s n) ≡ new = node_bucket levels s new l n (j.0, own) in
-        let most : bucket levels s (key s n) < buckets_at (level s) + split_place s = bucket_present (level s) (split_place s) (hash levels (key s n)) in absurd (omega arith))
+        let most : bucket levels s (key s n) < buckets_at (level s) + split_place s = bucket_present (level s) (split_place s) (hash levels (key s n)) in
+        absurd (omega arith))
   ]
 
   other_list : (g : ℕ) → g < most_buckets levels → g ≢ old → g ≢ new → IsLinked after (head_at g)
@@ -180,7 +185,8 @@ module _ (levels : ℕ) (s : State) (ns : List ℕ) (l : IsGrown levels s) (belo
         let i : IsIn o ns = in_node o (omega arith, e) in
         let w = parted_words levels s after ns parted o i in
         node_is levels after (words_at after o) (split_bucket levels s o) (key s o) (value s o) w.0 w.1
-        (bucket_parted levels s after (key s o) table_now (split_mod (level s) old (hash levels (key s o)) in_level (node_bucket levels s old l o (node_in o i)))))
+        (bucket_parted levels s after (key s o) table_now (split_mod (level s) old (hash levels (key s o)) in_level
+        (node_bucket levels s old l o (node_in o i)))))
     | inr ne ↦ (let same : words_at after o ≡ words_at s o = kept_node o lo ne in
         let own : owner s o ≢ 0 = λ z. some (ap (word 0) same ∙ z) in
         let apart : bucket levels s (key s o) ≢ split_place s = λ z. ne ((node_of_bucket levels s l o lo own).1 ∙ ap (λ c. suc (head_at c)) z) in
@@ -221,7 +227,9 @@ module _ (levels : ℕ) (s : State) (ns : List ℕ) (l : IsGrown levels s) (belo
 
   split_keys : (o : ℕ) → owner s o ≢ 0 → key after o ≡ key s o
   split_keys o some = elim (cases_eq (owner s o) (suc (head_at old))) [
-    | inl e ↦ (let i : IsNodeOf s (head_at old) o = (let lo : first_grown levels ≤ o = owned_high o some in let many : 1024 ≤ most_buckets levels = many_heads levels l.least in omega arith, e) in
+    | inl e ↦ (let lo : first_grown levels ≤ o = owned_high o some in
+        let many : 1024 ≤ most_buckets levels = many_heads levels l.least in
+        let i : IsNodeOf s (head_at old) o = (omega arith, e) in
         ap (word 2) (parted_words levels s after ns parted o (in_node o i)).1)
     | inr ne ↦ ap (word 2) (kept_node o (owned_high o some) ne)
   ]

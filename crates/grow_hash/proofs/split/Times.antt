@@ -7,7 +7,8 @@ use Rattle.grow_hash.proofs.Terms.{Change, State, written, state_at, IsAllowed, 
 use Rattle.grow_hash.proofs.Terms.{IsGrownOpening, grown_catalogue, SplitsGrown, split_tag, IsGrowCommit, count_splits}
 use Rattle.grow_hash.proofs.Splitting.{buckets_after, bucket_more}
 
-seen_allowed : (levels : ℕ) (s : Seat) → IsSeat (IsGrownOpening levels) (IsGrowCommit levels) s → (t : ℕ) → IsAllowed (IsGrowCommit levels) s.start (take t s.seen)
+seen_allowed : (levels : ℕ) (s : Seat) → IsSeat (IsGrownOpening levels) (IsGrowCommit levels) s → (t : ℕ)
+    → IsAllowed (IsGrowCommit levels) s.start (take t s.seen)
 seen_allowed levels s h t =
     IsAllowed-front (IsGrowCommit levels) s.start (take t s.seen) (drop t s.seen)
     (subst (λ e. IsAllowed (IsGrowCommit levels) s.start e) (sym (take-append-drop t s.seen)) h.allowed)

@@ -8,7 +8,8 @@ pub moved-requires : goal.moved-requires
 moved-requires c =
     let same = c.buckets_at-buckets.ensures in
     let some : 16 ≤ buckets_at c.args.level = some_buckets c.args.level in
-    let most : buckets_at (suc c.args.level) ≤ 1048576 = more_buckets most_levels c.args.level (omega arith) (omega (arith, c.requires.level, c.requires.most)) in
+    let most : buckets_at (suc c.args.level) ≤ 1048576 = more_buckets most_levels c.args.level (omega arith)
+    (omega (arith, c.requires.level, c.requires.most)) in
     let twice = twice_buckets c.args.level in
     let lt : c.hash-number.result % (2 * c.buckets_at-buckets.result) < 2 * c.buckets_at-buckets.result = mod-lt c.hash-number.result (omega arith) in
     record { bucket = omega arith }

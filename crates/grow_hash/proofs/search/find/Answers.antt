@@ -13,18 +13,21 @@ overflow_add-head g c =
       arith,
       few_heads _ c.requires.lawful.least c.requires.lawful.most,
       bucket_low g.row.LEVELS _ c.requires.lawful c.args.key,
-      head_read g.row.LEVELS _ _ _ c.requires.lawful c.table_of-level.ensures.level c.table_of-level.ensures.place _ _ _ c.hash-number.ensures c.bucket_of-head.ensures,
+      head_read g.row.LEVELS _ _ _ c.requires.lawful c.table_of-level.ensures.level c.table_of-level.ensures.place _ _ _ c.hash-number.ensures
+          c.bucket_of-head.ensures,
     )
 
 pub find_linked-spot-requires-clause-linked : goal.find_linked-spot-requires-clause-linked
 find_linked-spot-requires-clause-linked g c =
     linked_found g.row.LEVELS _ _ _ _ c.requires.lawful (g.met.V.View.same_state _ _ c.table_of-level.ensures.as_before)
-    (head_read g.row.LEVELS _ _ _ c.requires.lawful c.table_of-level.ensures.level c.table_of-level.ensures.place _ _ _ c.hash-number.ensures c.bucket_of-head.ensures)
+    (head_read g.row.LEVELS _ _ _ c.requires.lawful c.table_of-level.ensures.level c.table_of-level.ensures.place _ _ _ c.hash-number.ensures
+    c.bucket_of-head.ensures)
 
 pub returns-clause-spot : goal.returns-clause-spot
 returns-clause-spot g c =
     spot_found g.row.LEVELS _ _ _ _ _ _ _ _ (g.met.V.View.same_state _ _ c.table_of-level.ensures.as_before)
-    (head_read g.row.LEVELS _ _ _ c.requires.lawful c.table_of-level.ensures.level c.table_of-level.ensures.place _ _ _ c.hash-number.ensures c.bucket_of-head.ensures)
+    (head_read g.row.LEVELS _ _ _ c.requires.lawful c.table_of-level.ensures.level c.table_of-level.ensures.place _ _ _ c.hash-number.ensures
+    c.bucket_of-head.ensures)
     c.find_linked-spot.ensures.spot
 
 pub find_linked-spot-requires-clause-few : goal.find_linked-spot-requires-clause-few
@@ -32,7 +35,8 @@ find_linked-spot-requires-clause-few g c = few_found g.row.LEVELS _ _ c.requires
 
 pub returns-clause-head : goal.returns-clause-head
 returns-clause-head g c =
-    head_read g.row.LEVELS _ _ _ c.requires.lawful c.table_of-level.ensures.level c.table_of-level.ensures.place _ _ _ c.hash-number.ensures c.bucket_of-head.ensures
+    head_read g.row.LEVELS _ _ _ c.requires.lawful c.table_of-level.ensures.level c.table_of-level.ensures.place _ _ _ c.hash-number.ensures
+    c.bucket_of-head.ensures
 
 pub returns-clause-as_before : goal.returns-clause-as_before
 returns-clause-as_before g c = g.met.V.View.as_long_before _ _ _ c.table_of-level.ensures.as_before c.find_linked-spot.ensures.as_before

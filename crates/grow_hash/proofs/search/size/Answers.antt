@@ -18,7 +18,8 @@ pub overflow_add-count : goal.overflow_add-count
 overflow_add-count g c =
     let all = buckets_read g.row.LEVELS _ _ _ c.requires.lawful c.table_of-level.ensures.level c.table_of-level.ensures.place _ c.buckets-bucket-end.ensures in
     let low = buckets_low g.row.LEVELS _ c.requires.lawful in
-    let more = first_step g.row.LEVELS _ c.requires.lawful _ _ _ _ (omega (arith, c.loop-bucket-test.true)) (g.met.V.View.same_state _ _ c.loop-bucket.invariant.before)
+    let more = first_step g.row.LEVELS _ c.requires.lawful _ _ _ _ (omega (arith, c.loop-bucket-test.true))
+    (g.met.V.View.same_state _ _ c.loop-bucket.invariant.before)
     c.loop-bucket.invariant.count c.size_linked-count.ensures.size in
     record { fits = (let few = first_fits g.row.LEVELS _ c.requires.lawful _ _ more in omega arith) }
 
@@ -28,7 +29,8 @@ loop-bucket-preserved g c =
     let low = buckets_low g.row.LEVELS _ c.requires.lawful in
     record {
       before = g.met.V.View.as_long_before _ _ _ c.loop-bucket.invariant.before c.size_linked-count.ensures.as_before;
-      count = first_step g.row.LEVELS _ c.requires.lawful _ _ _ _ (omega (arith, c.loop-bucket-test.true)) (g.met.V.View.same_state _ _ c.loop-bucket.invariant.before)
+      count = first_step g.row.LEVELS _ c.requires.lawful _ _ _ _ (omega (arith, c.loop-bucket-test.true))
+          (g.met.V.View.same_state _ _ c.loop-bucket.invariant.before)
           c.loop-bucket.invariant.count c.size_linked-count.ensures.size;
       within = omega (arith, c.loop-bucket-test.true);
     }

@@ -7,7 +7,8 @@ use Rattle.set_script.specs.Objects.{most_objects}
 pub read_bucket-bucket-requires-clause-linked : goal.read_bucket-bucket-requires-clause-linked
 read_bucket-bucket-requires-clause-linked g c =
     let t = c.table_of-level in
-    bucket_linked g.row.LEVELS _ _ t.result.0 t.result.1 _ c.requires.lawful t.ensures.level t.ensures.place (g.met.V.View.same_state _ _ t.ensures.as_before) refl
+    bucket_linked g.row.LEVELS _ _ t.result.0 t.result.1 _ c.requires.lawful t.ensures.level t.ensures.place (g.met.V.View.same_state _ _ t.ensures.as_before)
+    refl
 
 pub returns-clause-planned : goal.returns-clause-planned
 returns-clause-planned g c =

@@ -33,7 +33,8 @@ pub read_grown-requires : goal.read_grown-requires
 read_grown-requires g c =
     let run = rw c.in_ok-closing.ensures at c.run_grow_domain.ensures.ran in
     record {
-      lawful = subst (IsGrown grow_levels) (sym (still_state c.in_ok-closing.closing.last c.count_splits-splits.new.view.last c.count_splits-splits.ensures.as_before))
+      lawful = subst (IsGrown grow_levels) (sym (still_state c.in_ok-closing.closing.last c.count_splits-splits.new.view.last
+          c.count_splits-splits.ensures.as_before))
           run.lawful;
     }
 

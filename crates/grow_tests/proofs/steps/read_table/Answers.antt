@@ -9,7 +9,8 @@ use Rattle.grow_hash.specs.Tables.{grow_levels}
 
 pub table_of-table-requires : goal.table_of-table-requires
 table_of-table-requires g c = record {
-  lawful = subst (IsGrown grow_levels) (sym (g.met.S.Open.Section.reads _)) (grown_read grow_levels _ (g.met.S.Open.Section.lawful _) c.enter-section.ensures.enters.own);
+  lawful = subst (IsGrown grow_levels) (sym (g.met.S.Open.Section.reads _))
+      (grown_read grow_levels _ (g.met.S.Open.Section.lawful _) c.enter-section.ensures.enters.own);
 }
 
 pub returns : goal.returns

@@ -41,3 +41,11 @@ take_back-requires g c = record {
   left = left_for c.in_ok-handles.left c.in_ok-handles.handles.items c.in-Ok.handles.items
       (all_went_on _ _ _ _ c.in-Ok.ensures.pool) c.in_ok-handles.ensures.left;
 }
+
+-- the seats that come back are those of the handles
+pub returns-in-Ok : goal.returns-in-Ok
+returns-in-Ok g c = record {
+  ran = rw (c.take_back.ensures.seats, ← c.in_ok-handles.ensures.handles) c.in-Ok.ensures.pool;
+  linked = rw (c.take_back.ensures.seats, ← c.in_ok-handles.ensures.handles) c.in-Ok.ensures.linked;
+  err = tt;
+}

@@ -1,5 +1,6 @@
-use Rattle.std.proofs.Common.{map, sym, subst}
-use Rattle.mvrlu.specs.Meant.{seat_of}
+use Rattle.std.proofs.Common.{map, length, sym, ap, ◌∙◌, subst}
+use Rattle.std.proofs.lemmas.List.{length-map}
+use Rattle.mvrlu.specs.Meant.{seat_of, handled}
 use Rattle.script_workers.specs.Numbers.{AreNumbered}
 use Rattle.domain_loan.specs.New.{AreNewFrom}
 use Rattle.domain_loan.proofs.Seats.{new_own, new_may_hold, left_for}
@@ -10,6 +11,11 @@ use Rattle.script_domain.proofs.running.run_seats.Goals as goal
 -- the seats are of the domain, and their handles are numbered in order and may hold what a command locks
 pub lend_all-requires : goal.lend_all-requires
 lend_all-requires g c = record { own = new_own c.args.domain.now c.args.seats.items c.requires.new }
+
+pub run_scripts-requires-clause-as_many : goal.run_scripts-requires-clause-as_many
+run_scripts-requires-clause-as_many g c κs within =
+    c.requires.as_many ∙ sym (length-map c.args.seats.items seat_of) ∙ sym (ap length c.in_ok-handles.ensures.handles)
+    ∙ length-map c.in_ok-handles.handles.items handled
 
 pub run_scripts-requires-clause-numbers : goal.run_scripts-requires-clause-numbers
 run_scripts-requires-clause-numbers g c κs within =
@@ -26,4 +32,12 @@ pub take_back-requires : goal.take_back-requires
 take_back-requires g c = record {
   left = left_for c.in_ok-handles.left c.in_ok-handles.handles.items c.in-Ok.handles.items (all_continue _ _ _ _ c.in-Ok.ensures.ran)
       c.in_ok-handles.ensures.left;
+}
+
+-- the seats that come back are those of the handles
+pub returns-in-Ok : goal.returns-in-Ok
+returns-in-Ok g c = record {
+  ran = rw (c.take_back.ensures.seats, ← c.in_ok-handles.ensures.handles) c.in-Ok.ensures.ran;
+  linked = rw (c.take_back.ensures.seats, ← c.in_ok-handles.ensures.handles) c.in-Ok.ensures.linked;
+  err = tt;
 }

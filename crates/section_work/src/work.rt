@@ -27,7 +27,8 @@ pub trait Work {
     /// What it is to write.
     type Plan: Drop;
 
-    /// What is remembered from one section to the next, as hints: nothing of it shows in an answer.
+    /// What is remembered from one section to the next, as hints: nothing of it shows in an answer. The writes of a plan may stand
+    /// in it until they are committed or given up.
     type Memo;
 
     // What it asks of itself.

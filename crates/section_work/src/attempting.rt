@@ -77,7 +77,8 @@ pub fn attempt_work<W: Work, S: Store<Rules = W::Rules>>(
 
 // The reply at the last time, where a change comes too late.
 fn late<W: Work>(work: &W, found: Decision<W::Reply, W::Plan>) -> W::Reply
-    ensures { (memo : W.Memo) (s : State) → IsFound W.Rules.allowed (W.means work.now) (W.tag_of work.now) (W.writes_of memo) s found → (W.means work.now).settles s true result }
+    ensures { (memo : W.Memo) (s : State) → IsFound W.Rules.allowed (W.means work.now) (W.tag_of work.now) (W.writes_of memo) s found
+        → (W.means work.now).settles s true result }
 {
     match found {
         Decision::Settled(reply) => reply,
@@ -93,7 +94,8 @@ fn commit<W: Work, S: Store<Rules = W::Rules>>(
     plan: W::Plan,
     reply: W::Reply,
 ) -> (S, Attempt<W::Reply>)
-    requires planned { IsPlanned W.Rules.allowed (W.means work.now) (state_of (S.Open.section section)) (W.tag_of work.now plan) (W.writes_of memo.old plan) reply }
+    requires planned { IsPlanned W.Rules.allowed (W.means work.now) (state_of (S.Open.section section)) (W.tag_of work.now plan)
+        (W.writes_of memo.old plan) reply }
     requires space { HasSpace (W.means work.now).most (S.Open.section section) }
     requires accepts { W.accepts work.now }
     requires knows { W.knows memo.old (S.Open.section section).seat }

@@ -82,7 +82,8 @@ returns-in-Settled g c =
           }));
       noted = (_, noted_by _ _ _ _ _ _ _ _ p.continues e law.at after here c.decide-section.ensures.notes, inl refl);
       attempted = read_at _ _ _ _ _ _ _ _ _ _ _ p.continues p.mine e c.enter-section.ensures.took law.at same left here c.at-time.ensures refl
-          (found_settled g.W.Rules.Protocol.allowed (g.W.Work.means c.args.work.now) (g.W.Work.tag_of c.args.work.now) (g.W.Work.writes_of c.decide-section.new.memo)
+          (found_settled g.W.Rules.Protocol.allowed (g.W.Work.means c.args.work.now) (g.W.Work.tag_of c.args.work.now)
+          (g.W.Work.writes_of c.decide-section.new.memo)
           (g.S.Open.View.state c.enter-section.result) c.decide-section.result.1
           c.in-Settled.reply c.in-Settled.is c.decide-section.ensures.found _);
     }
@@ -94,7 +95,8 @@ commit-requires g c =
     let law = g.met.S.Open.Section.lawful c.enter-section.result in
     let here = g.met.S.Open.Section.reads c.enter-section.result in
     let same = g.met.S.Open.Section.others_stay _ _ c.decide-section.ensures.as_before in
-    let found = found_change g.W.Rules.Protocol.allowed (g.W.Work.means c.args.work.now) (g.W.Work.tag_of c.args.work.now) (g.W.Work.writes_of c.decide-section.new.memo)
+    let found = found_change g.W.Rules.Protocol.allowed (g.W.Work.means c.args.work.now) (g.W.Work.tag_of c.args.work.now)
+    (g.W.Work.writes_of c.decide-section.new.memo)
     (g.S.Open.View.state c.enter-section.result) c.decide-section.result.1
     c.in-Change.plan c.in-Change.reply c.in-Change.is c.decide-section.ensures.found in
     record {
@@ -114,7 +116,8 @@ returns-in-Enough g c =
     let here = g.met.S.Open.Section.reads c.enter-section.result in
     let goes = g.met.S.Open.Section.goes_on _ _ c.decide-section.ensures.as_before in
     let looks = looks_in p e goes in
-    let found = found_change g.W.Rules.Protocol.allowed (g.W.Work.means c.args.work.now) (g.W.Work.tag_of c.args.work.now) (g.W.Work.writes_of c.decide-section.new.memo)
+    let found = found_change g.W.Rules.Protocol.allowed (g.W.Work.means c.args.work.now) (g.W.Work.tag_of c.args.work.now)
+    (g.W.Work.writes_of c.decide-section.new.memo)
     (g.S.Open.View.state c.enter-section.result) c.decide-section.result.1
     c.in-Change.plan c.in-Change.reply c.in-Change.is c.decide-section.ensures.found in
     let after = Continues-Continues goes.continues c.commit.ensures.continues in
@@ -145,7 +148,8 @@ returns-in-Short g c =
     let here = g.met.S.Open.Section.reads c.enter-section.result in
     let goes = g.met.S.Open.Section.goes_on _ _ c.decide-section.ensures.as_before in
     let looks = looks_in p e goes in
-    let found = found_change g.W.Rules.Protocol.allowed (g.W.Work.means c.args.work.now) (g.W.Work.tag_of c.args.work.now) (g.W.Work.writes_of c.decide-section.new.memo)
+    let found = found_change g.W.Rules.Protocol.allowed (g.W.Work.means c.args.work.now) (g.W.Work.tag_of c.args.work.now)
+    (g.W.Work.writes_of c.decide-section.new.memo)
     (g.S.Open.View.state c.enter-section.result) c.decide-section.result.1
     c.in-Change.plan c.in-Change.reply c.in-Change.is c.decide-section.ensures.found in
     let left = subst (λ (s : Seat). Leaves (g.S.Open.Section.section c.decide-section.result.0) s) (g.met.S.Store.same_seat _)

@@ -41,18 +41,18 @@ impl<const LEVELS: u32> Protocol for GrowRules<LEVELS> {
     ghost one_allowed = { IsGrowCommit-prop LEVELS };
 }
 
-/// Rules that are those of a growing hash set of up to `2^LEVELS` buckets, as [`GrowRules`] are: the bound of code that is generic
-/// over the levels.
+/// Rules under which a growing hash set of up to `2^LEVELS` buckets stands, as [`GrowRules`] are: they begin in no other state than
+/// those do, and allow exactly their commits. It is the bound of code that is generic over the levels.
 pub trait GrowingRules<const LEVELS: u32>: Protocol {
     ghost use Rattle.std.specs.Prelude.{ℕ, List};
     ghost use Rattle.mv_history.specs.State.{State, Writes};
     ghost use Rattle.grow_hash.specs.Grown.{IsGrownOpening};
     ghost use Rattle.grow_hash.specs.GrowRules.{IsGrowCommit};
 
-    // It begins as the set does.
+    // They begin in no state in which the set can't.
     ghost starts: { (s : State) → Self.start s → IsGrownOpening LEVELS s };
 
-    // It allows the commits of the set,
+    // They allow the commits of the set,
     ghost allows: { (tag : List ℕ) (before : State) (writes : Writes) → IsGrowCommit LEVELS tag before writes → Self.allowed tag before writes };
 
     // and no other.

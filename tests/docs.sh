@@ -3,9 +3,11 @@
 # on, each subcommand, and in docs/CONTRACTS.md and docs/RULE.md each file, each call that stands in it, and each must-fail edit; that
 # docs/QUICKSTART.md and README.md have the text of the counter's crates, README.md's code in C that of an example, and
 # docs/GUIDE.md that of some crate; that the files in which docs/PROVING.md finds a lemma have it; that docs/DECISIONS.md lists the
-# crates without an edit; and that the table of the crates and their picture are those of crates.txt (bench/map).
+# crates without an edit; and that the table of the crates and their picture are those of crates.txt (bench/map), and the plots
+# those of the tables of docs/PERFORMANCE.md (bench/plots).
 cd "$(dirname "$0")/.." || exit 1
 bench/map --check || exit
+bench/plots --check || exit
 python3 - <<'PYTHON'
 import pathlib, re, sys
 

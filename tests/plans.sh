@@ -1,5 +1,5 @@
 #!/bin/bash
-# The schedules of crates/runtime_tests as plans, which tests/plans/write makes of its tables: whatever the program's replay of a
+# The schedules of crates/runtime_tests and of tests/plans/stops as plans, which tests/plans/write makes of these tables: whatever the program's replay of a
 # plan prints but steps is what the table says, the answers of the calls that end, and the last line too where the table says what
 # CLOCK is then. tests/plans.sh PROGRAM tries another program than the one that rt ci left.
 set -u

@@ -1,4 +1,7 @@
-"""Reads the tables of schedules of crates/runtime_tests: the constants of its files in Rust, as they stand there."""
+"""Reads the tables of schedules of crates/runtime_tests: the constants of its files in Rust, as they stand there.
+
+A table may go on in stops/TABLE.rows, with schedules that stop a seat within a call, in the same form: `FirstOf` names the call, and
+how many steps of it are made, at least and at most. No call of Rust stops so, and so these rows are run as plans alone."""
 import operator
 import re
 from collections import namedtuple
@@ -7,6 +10,7 @@ from pathlib import Path
 
 CRATES = Path(__file__).resolve().parents[2] / "crates"
 TABLES = CRATES / "runtime_tests/src"
+STOPS = Path(__file__).resolve().parent / "stops"
 
 # What a name stands for, with its arguments, as in `Busy(0)`, or with its fields. Arrays and tuples are both tuples of Python.
 Term = namedtuple("Term", "name arguments fields", defaults=((), {}))
@@ -23,8 +27,10 @@ OPERATORS = {"<<": operator.lshift}, {"+": operator.add, "-": operator.sub}, {"*
 
 @cache
 def constants(path):
-    """The constants of a file, by name: whether others may use it, and its text."""
-    return {name: (bool(public), text) for public, name, text in CONSTANT.findall(path.read_text())}
+    """The constants of a file, by name: whether others may use it, and its text. Those of its stops are among them."""
+    files = [path, STOPS / f"{path.stem}.rows"]
+    found = [constant for file in files if file.exists() for constant in CONSTANT.findall(file.read_text())]
+    return {name: (bool(public), text) for public, name, text in found}
 
 
 @cache

@@ -3,8 +3,7 @@ pub mod Moved
 pub mod Marked
 pub mod NamedOnes
 pub mod Stages
-pub mod Building
-pub mod TopLooks
+pub mod Same
 pub mod Opened
 pub mod ReadSections
 pub mod Rested

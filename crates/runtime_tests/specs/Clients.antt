@@ -24,7 +24,7 @@ use Rattle.commit_abort.specs.Finishes.{WonNaming, IsJustNamed}
 use Rattle.log_reclaim.specs.Backs.{IsWriting}
 use Rattle.runtime_tests.specs.declared.clients.Client.{Client}
 use Rattle.runtime_tests.specs.declared.clients.Stage.{Stage}
-use Rattle.runtime_tests.specs.declared.clients.Stage.TheVariants.{Outside, Lowered, Marked, Taken, Inside, Named, Stopped, Locking, Loaded, Helped}
+use Rattle.runtime_tests.specs.declared.clients.Stage.TheVariants.{Outside, Lowered, Marked, Taken, Inside, Named, Locking, Loaded, Helped}
 use Rattle.runtime_tests.specs.declared.clients.Stage.TheVariants.{WritingBack}
 use Rattle.runtime_tests.specs.declared.clients.UnderWay.{UnderWay}
 use Rattle.runtime_tests.specs.declared.clients.UnderWay.TheVariants.{Nothing, Walking, Ended, WriteBack}
@@ -102,7 +102,7 @@ pub record IsWritingBack (c : Config) (v : View) (l : Noted) : Type 0 where
   pub opened : IsOpen v
   pub between : IsBetween c v l
 
--- what holds at each stage; a client that stopped may stand anywhere
+-- what holds at each stage
 abbrev pub IsAt : Config → View → Noted → Stage → Type 0
 IsAt c v l Outside = IsOutside c v l
 IsAt c v l (Lowered low) = HasLowered c v l low
@@ -110,7 +110,6 @@ IsAt c v l Marked = HasMarked c v l
 IsAt c v l (Taken word) = HasTaken c v l word
 IsAt c v l (Inside word) = IsInside c v l word
 IsAt c v l (Named time) = HasJustNamed c v l time
-IsAt c v l Stopped = Unit {0}
 IsAt c v l (Locking lock) = HasStarted c v l lock
 IsAt c v l (Loaded word) = HasClock c v l word
 IsAt c v l (Helped word) = HasHelpedClock c v l word

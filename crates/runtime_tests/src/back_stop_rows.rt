@@ -1,26 +1,20 @@
-// A seat stops within a write-back. Then another one enters, reads, locks, writes and commits the object,
+// A seat stops after the parts of a write-back. Then another one enters, reads, locks, writes and commits the object,
 // and tidies its log, which names the seat that holds it.
 use crate::moves::Answer::{
-    Aborted, BackEnded, Done, Entered, Held, Left, Started, Stopped, Stored, Tidied, Words, Written,
+    BackEnded, Done, Entered, Held, Left, Started, Stored, Tidied, Words, Written,
 };
 use crate::moves::Move::{
-    Abort, BackFinish, BackStart, BackWord, Commit, Enter, FirstOf, Leave, Lock, Read, Tidy, Write,
+    BackFinish, BackStart, BackWord, Commit, Enter, Leave, Lock, Read, Tidy, Write,
 };
-use crate::{Answer, Call, SMALL, Schedule, Turn, play_schedules};
+use crate::{SMALL, Schedule, Turn, play_schedules};
 use log_reclaim::BackEnd::{Above, Cut};
-use mv_history::Holder::{End, Mark};
-use mv_layout::{Config, LAST};
+use mv_history::Holder::Mark;
+use mv_layout::Config;
 use std::test::Fail;
 
 const TWO_SEATS: Config = Config {
     seats: 2,
     objects: 2,
-    ..SMALL
-};
-
-const LATE: Config = Config {
-    seats: 2,
-    base: LAST - 1,
     ..SMALL
 };
 
@@ -30,15 +24,6 @@ const BEGUN: [Turn; 5] = [
     (0, Lock(0), Held),
     (0, Write(0, [1; 6]), Written),
     (0, Commit, Done(1)),
-    (0, BackStart(0), Started),
-];
-
-// The same at the last time.
-const BEGUN_AT_LAST: [Turn; 5] = [
-    (0, Enter, Entered(LAST - 1)),
-    (0, Lock(0), Held),
-    (0, Write(0, [1; 6]), Written),
-    (0, Commit, Done(LAST)),
     (0, BackStart(0), Started),
 ];
 
@@ -101,30 +86,15 @@ const FREE_LATER: [Turn; 8] = [
     (1, Leave, Left),
 ];
 
-// The object has the words that were committed, and no time is left for another commit.
-const NO_TIME_LEFT: [Turn; 5] = [
-    (1, Enter, Entered(LAST)),
-    (1, Read(0), Words([1; 6])),
-    (1, Lock(0), Held),
-    (1, Commit, Answer::End),
-    (1, Abort, Aborted),
-];
-
 // The section of the write-back may not read the new version.
 const MARKED: Turn = (1, Tidy, Tidied(0, 1, Some(Mark { seat: 0, low: 1 })));
-
-// Nor may that of time 2, but the version below is free: no section is older than the write over it.
-const OLDER_FREED: Turn = (1, Tidy, Tidied(1, 1, Some(Mark { seat: 0, low: 2 })));
-
-// What was aborted is dead only from a time after the last one, whoever is in a section.
-const KEPT: Turn = (1, Tidy, Tidied(0, 1, Some(End)));
 
 // Nobody needs what the other seat committed.
 const FREED: Turn = (1, Tidy, Tidied(1, 0, None));
 
 const BOTH_FREED: Turn = (1, Tidy, Tidied(2, 0, None));
 
-static SCHEDULES: [Schedule; 14] = [
+static SCHEDULES: [Schedule; 10] = [
     Schedule {
         name: "after the store of no word",
         domain: TWO_SEATS,
@@ -159,51 +129,6 @@ static SCHEDULES: [Schedule; 14] = [
         name: "after the store of six words",
         domain: TWO_SEATS,
         turns: &[&BEGUN, &STORED, &FREE, &[MARKED]],
-    },
-    Schedule {
-        name: "within its end, where the exchange of HEAD is won",
-        domain: TWO_SEATS,
-        turns: &[
-            &BEGUN,
-            &STORED,
-            &[(0, FirstOf(Call::BackFinish, 0, 2), Stopped)],
-            &FREE,
-            &[MARKED],
-        ],
-    },
-    Schedule {
-        name: "within its end, where the exchange of HEAD is lost",
-        domain: TWO_SEATS,
-        turns: &[
-            &BEGUN,
-            &STORED,
-            &OVERTAKEN,
-            &[(0, FirstOf(Call::BackFinish, 1, 1), Stopped)],
-            &TAKEN,
-            &[MARKED],
-        ],
-    },
-    Schedule {
-        name: "within its end, where the exchange is won over another seat's version",
-        domain: TWO_SEATS,
-        turns: &[
-            &BEGUN_OVER_ANOTHERS,
-            &STORED,
-            &[(0, FirstOf(Call::BackFinish, 0, 2), Stopped)],
-            &FREE_LATER,
-            &[OLDER_FREED],
-        ],
-    },
-    Schedule {
-        name: "within its end at the last time",
-        domain: LATE,
-        turns: &[
-            &BEGUN_AT_LAST,
-            &STORED,
-            &[(0, FirstOf(Call::BackFinish, 0, 2), Stopped)],
-            &NO_TIME_LEFT,
-            &[KEPT],
-        ],
     },
     Schedule {
         name: "after its end, where the exchange of HEAD is won",

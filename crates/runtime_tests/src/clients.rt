@@ -21,8 +21,6 @@ pub enum Stage {
     Inside(Option<u64>),
     /// Its section has named a commit of this time, by its last step.
     Named(u64),
-    /// It stopped within a call, and does nothing more.
-    Stopped,
     /// It is in an open section, in which it has begun this lock.
     Locking(StartedLock),
     /// It is outside a section, and has loaded this word of CLOCK, and has yet to help it.

@@ -72,7 +72,7 @@ fn close(
 /// answers the words that are left; `None` is that a turn was answered otherwise than was wanted, or that
 /// the numbers are no domain. Where memory is refused before the domain is there, no turn was made.
 pub fn closed_after(alloc: Global, schedule: &Schedule) -> Result<Option<LastWords>, AllocError> {
-    let Ok((shared, mut clients)) = play_once(alloc, schedule, 0)? else {
+    let Ok((shared, mut clients)) = play_once(alloc, schedule)? else {
         return Ok(None);
     };
     let Some(Client { pass, .. }) = clients.pop() else {

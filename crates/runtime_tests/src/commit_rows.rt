@@ -1,12 +1,9 @@
 // Commits of two and three seats: lost exchanges of CLOCK, helps, and commits that stopped.
 use crate::moves::Answer::{
-    Aborted, Clock, Counts, Done, End, Entered, Finished, Held, Lost, Named, Stale, Stopped, Words,
-    Written,
+    Aborted, Clock, Counts, Done, End, Entered, Finished, Held, Lost, Named, Words, Written,
 };
-use crate::moves::Move::{
-    Abort, Commit, Enter, Finish, FirstOf, Lock, Name, Now, Read, Table, Write,
-};
-use crate::{Call, SMALL, Schedule, play_schedules};
+use crate::moves::Move::{Abort, Commit, Enter, Finish, Lock, Name, Now, Read, Table, Write};
+use crate::{SMALL, Schedule, play_schedules};
 use mv_history::LogTable;
 use mv_layout::{Config, LAST};
 use std::test::Fail;
@@ -17,7 +14,7 @@ const THREE_OBJECTS: Config = Config {
     ..SMALL
 };
 
-static SCHEDULES: [Schedule; 11] = [
+static SCHEDULES: [Schedule; 10] = [
     Schedule {
         name: "a name is lost, and at the end the clock names the last commit",
         domain: Config {
@@ -185,25 +182,6 @@ static SCHEDULES: [Schedule; 11] = [
             (0, Finish, Finished),
             (0, Enter, Entered(1)),
             (0, Read(0), Words([1; 6])),
-        ]],
-    },
-    Schedule {
-        name: "a seat that stopped after the exchange of its stamp holds nobody up",
-        domain: THREE_OBJECTS,
-        turns: &[&[
-            (2, Enter, Entered(0)),
-            (0, Enter, Entered(0)),
-            (0, Lock(0), Held),
-            (0, Write(0, [1; 6]), Written),
-            (0, Now, Clock(0, 0, None)),
-            (0, Name, Named(1)),
-            (0, FirstOf(Call::Finish, 1, 1), Stopped),
-            (2, Lock(0), Stale(1)),
-            (1, Enter, Entered(1)),
-            (1, Lock(0), Held),
-            (1, Write(0, [2; 6]), Written),
-            (1, Commit, Done(2)),
-            (2, Read(0), Words([0; 6])),
         ]],
     },
     Schedule {

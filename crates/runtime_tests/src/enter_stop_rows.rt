@@ -1,11 +1,9 @@
-// A seat stops after each single step of an `enter`. Then another one enters, reads, locks and commits,
+// A seat stops after each part of an `enter` but its help. Then another one enters, reads, locks and commits,
 // and tidies its log, which names the seat that holds it.
-use crate::moves::Answer::{Clock, Entered, Held, Named, Stopped, Stored, Tidied, Time, Written};
-use crate::moves::Move::{
-    Enter, FirstOf, LoadLow, LoadTime, Lock, Name, Now, StoreMark, Tidy, Write,
-};
+use crate::moves::Answer::{Clock, Entered, Held, Named, Stored, Tidied, Time, Written};
+use crate::moves::Move::{Enter, LoadLow, LoadTime, Lock, Name, Now, StoreMark, Tidy, Write};
 use crate::stop_rows::{COMMITTED, FREE, FREE_LATE, FREED, MARKED, MARKED_LATE};
-use crate::{Call, SMALL, Schedule, Turn, play_schedules};
+use crate::{SMALL, Schedule, Turn, play_schedules};
 use mv_history::Holder::{End, Mark};
 use mv_layout::{Config, LAST};
 use std::test::Fail;
@@ -59,7 +57,7 @@ const MARKED_BY_ANOTHER: Turn = (1, Tidy, Tidied(0, 1, Some(Mark { seat: 2, low:
 // After the last time nothing becomes dead any more.
 const KEPT: Turn = (1, Tidy, Tidied(0, 1, Some(End)));
 
-static SCHEDULES: [Schedule; 10] = [
+static SCHEDULES: [Schedule; 9] = [
     Schedule {
         name: "after the load of the low time, which holds nothing",
         domain: THREE_SEATS,
@@ -96,21 +94,6 @@ static SCHEDULES: [Schedule; 10] = [
         turns: &[
             &NAMED,
             &[LOW_LATER, MARK_LATER, TIME_LATER],
-            &COMMITTED,
-            &[MARKED_BY_ANOTHER],
-        ],
-    },
-    Schedule {
-        name: "within the help of that commit",
-        domain: THREE_SEATS,
-        turns: &[
-            &NAMED,
-            &[
-                LOW_LATER,
-                MARK_LATER,
-                TIME_LATER,
-                (0, FirstOf(Call::Help, 1, 3), Stopped),
-            ],
             &COMMITTED,
             &[MARKED_BY_ANOTHER],
         ],

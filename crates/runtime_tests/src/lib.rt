@@ -3,18 +3,16 @@
 //! **The model.** A schedule is a value: its name, the numbers of a domain, and its turns, part by part,
 //! each turn with the number of a seat, its move, and the answer that is wanted. An interpreter plays it
 //! in a new domain, with one client for each seat, which has the pass, the log and the stage of that seat.
-//! Moves call the crates below as a section would. `FirstOf` makes the first parts of a call alone, after
-//! which its client stops for good; within a lock it makes the first of its steps. A schedule with such a
-//! move is played once for each number of steps. A lock, an `enter`, a walk, a write-back and a rest may
+//! Moves call the crates below as a section would. A lock, an `enter`, a walk, a write-back and a rest may
 //! also be made by their parts, each of which is a move, so that other seats have their turns in between,
-//! or the seat makes no further move. A walk or a write-back that is under way is kept by its client, and
+//! or the seat makes no further move. Schedules in which a seat stops within such a part stand in
+//! `tests/plans/stops`, and are run as plans alone. A walk or a write-back that is under way is kept by its client, and
 //! is let go with any other move of that client; the section of a write-back stays open until it is left.
 //!
 //! **The contract.** `AreReady`, that each client stands where its stage says, and the walk or
 //! write-back that it keeps where its view says, holds in a new domain and after every move: so any
-//! schedule may be played, and each call in it is made where its contract allows. A client that stopped
-//! may stand anywhere, since it is called no more. A move that isn't one of the client's stage is
-//! `Skipped`. What the calls answer is compared at run time: `played` answers the first turn that was
+//! schedule may be played, and each call in it is made where its contract allows. A move that isn't one
+//! of the client's stage is `Skipped`. What the calls answer is compared at run time: `played` answers the first turn that was
 //! answered otherwise.
 //!
 //! **The tests.** Each file of them is a table of schedules and one loop over it. `lock_rows` has locks
@@ -22,10 +20,10 @@
 //! stopped, and `read_rows` what sections read under them, by whole reads and by the looks of a walk.
 //! `mark_rows` has marks and watermarks, `reclaim_rows` rounds and tidies, and what holds a log,
 //! `back_rows` write-backs by their parts, and `rest_rows` rests, with a help of a word whose commit is
-//! gone by then and whose slot is built anew. `enter_stop_rows` and `stop_rows` stop a seat after single
-//! steps of a call and have another one enter, read, lock, commit and tidy, `version_stop_rows` does so
-//! where the objects have versions, and `back_stop_rows` within a write-back. `lost_lock_rows` has locks
-//! whose exchange of HEAD is lost or won after others moved, and stops after a lost one, and `lock_with_rows`
+//! gone by then and whose slot is built anew. `enter_stop_rows` and `stop_rows` stop a seat after parts of
+//! a call and have another one enter, read, lock, commit and tidy, `version_stop_rows` does so where the
+//! objects have versions, and `back_stop_rows` within a write-back. `lost_lock_rows` has locks whose
+//! exchange of HEAD is lost or won after others moved, and stops after a whole one, and `lock_with_rows`
 //! has locks with words of the caller's. `join_rows` joins
 //! the passes of a domain, and has what CLOCK is then; `close_rows` closes it, and has its last words.
 //! `reads` counts steps, which are known in proofs alone, in the contracts of its functions: sections of a
@@ -78,8 +76,6 @@ mod lock_moves;
 #[cfg(test)]
 mod lock_rows;
 #[cfg(test)]
-mod lock_stops;
-#[cfg(test)]
 mod lock_with_rows;
 #[cfg(test)]
 mod lost_lock_rows;
@@ -110,8 +106,6 @@ mod sections;
 #[cfg(test)]
 mod stop_rows;
 #[cfg(test)]
-mod stops;
-#[cfg(test)]
 mod version_stop_rows;
 #[cfg(test)]
 mod walks;
@@ -120,6 +114,6 @@ pub use clients::{Client, Stage};
 #[cfg(test)]
 pub use closing::{LastWords, closed_after};
 #[cfg(test)]
-pub use moves::{Answer, Call, Move};
+pub use moves::{Answer, Move};
 #[cfg(test)]
 pub use playing::{Otherwise, SMALL, Schedule, Turn, play_schedules, played};

@@ -1,14 +1,13 @@
 // Others move between the two parts of a lock: its exchange of HEAD is lost, or is won. Its seat goes on,
-// or stops after the exchange.
+// or stops after the lock.
 use crate::moves::Answer::{
-    Aborted, Busy, Clock, Done, Entered, Finished, Held, Left, LockStarted, Named, Stale, Stopped,
-    Tidied, Words, Written,
+    Aborted, Busy, Clock, Done, Entered, Finished, Held, Left, LockStarted, Named, Stale, Tidied,
+    Words, Written,
 };
 use crate::moves::Move::{
-    Abort, Commit, Enter, Finish, FirstOf, Leave, Lock, LockEnd, LockStart, Name, Now, Read, Tidy,
-    Write,
+    Abort, Commit, Enter, Finish, Leave, Lock, LockEnd, LockStart, Name, Now, Read, Tidy, Write,
 };
-use crate::{Call, SMALL, Schedule, Turn, play_schedules};
+use crate::{SMALL, Schedule, Turn, play_schedules};
 use mv_history::Holder::Mark;
 use mv_layout::Config;
 use std::test::Fail;
@@ -80,14 +79,6 @@ const AGAIN: [Turn; 4] = [
     (1, Commit, Done(2)),
 ];
 
-// It reads the object in the master, where it is free, and commits it.
-const AT_THE_MASTER: [Turn; 4] = [
-    (1, Enter, Entered(2)),
-    (1, Read(0), Words([1; 6])),
-    (1, Lock(0), Held),
-    (1, Commit, Done(3)),
-];
-
 // It reads the object in the master, and commits another one, since seat 0 holds it.
 const BESIDES: [Turn; 5] = [
     (1, Enter, Entered(2)),
@@ -102,9 +93,7 @@ const MARKED: Turn = (1, Tidy, Tidied(0, 2, Some(Mark { seat: 0, low: 0 })));
 
 const MARKED_LATER: Turn = (1, Tidy, Tidied(0, 2, Some(Mark { seat: 0, low: 1 })));
 
-// After a lost exchange FIRST and STAMP are loaded of the version that it found; or PREV is cleared where
-// it found 0, and the exchange is tried again, which is the last step.
-static SCHEDULES: [Schedule; 15] = [
+static SCHEDULES: [Schedule; 12] = [
     Schedule {
         name: "the other seat holds the object, and the slot of what was built serves for another lock",
         domain: DOMAIN,
@@ -293,36 +282,6 @@ static SCHEDULES: [Schedule; 15] = [
             (1, Read(0), Words([2; 6])),
             (1, Lock(0), Held),
         ]],
-    },
-    Schedule {
-        name: "stops after an exchange lost to a lock",
-        domain: TWO_SEATS,
-        turns: &[
-            &TO_A_LOCK,
-            &[(0, FirstOf(Call::LockEnd, 1, 2), Stopped)],
-            &GOES_ON,
-            &[MARKED],
-        ],
-    },
-    Schedule {
-        name: "stops after an exchange lost to a commit",
-        domain: TWO_SEATS,
-        turns: &[
-            &TO_ITS_COMMIT,
-            &[(0, FirstOf(Call::LockEnd, 1, 2), Stopped)],
-            &AGAIN,
-            &[MARKED],
-        ],
-    },
-    Schedule {
-        name: "stops after an exchange lost to a cut",
-        domain: TWO_SEATS,
-        turns: &[
-            &TO_A_CUT,
-            &[(0, FirstOf(Call::LockEnd, 1, 2), Stopped)],
-            &AT_THE_MASTER,
-            &[MARKED_LATER],
-        ],
     },
     Schedule {
         name: "stops after a whole lock, lost to a lock",

@@ -6,18 +6,16 @@ ghost use Rattle.runtime_tests.specs.Clients.{IsReady};
 use crate::clients::{Client, Stage};
 use crate::commits::{aborting, committing, finishing, naming};
 use crate::lock_moves::{ending, starting};
-use crate::lock_stops::{first_of_lock, first_of_lock_end};
 use crate::marking::{entering_by_parts, knowing, scanning};
 use crate::reclaiming::{giving_up, rounding, tidying};
 use crate::resting::{helping, resting, taking_clock};
 use crate::sections::{entering, leaving, loading, locking, locking_with, reading, writing};
-use crate::stops::{first_of_abort, first_of_finish, first_of_help, first_of_now};
 use log_reclaim::{BackEnd, NoBack};
 use mv_core::{Shared, Steps};
 use mv_history::{AnyRules, Holder, LockAnswer, LogTable, Words};
 use mv_layout::{NO_SLOT, clock_seat, clock_slot, clock_time};
 use reader_marks::Watermark;
-use seat_log::{held, table};
+use seat_log::table;
 use std::sync::ledger::Ledger;
 use version_chain::Found;
 
@@ -39,9 +37,6 @@ pub enum Move {
     Finish,
     Commit,
     Abort,
-    /// The first steps of a call, at least and at most so many of them; then the client stops. The
-    /// schedule is played once for each number of steps.
-    FirstOf(Call, u32, u32),
     /// All of a lock before its exchange of HEAD.
     LockStart(u32),
     /// The rest of the lock that was begun last.
@@ -81,26 +76,6 @@ pub enum Move {
     Join,
 }
 
-/// A call of which the first steps alone are made.
-#[derive(Clone, Copy)]
-pub enum Call {
-    /// The help by which an `enter` ends.
-    Help,
-    /// All of a lock before its exchange of HEAD.
-    Lock(u32),
-    /// The rest of the lock that was begun last.
-    LockEnd,
-    /// What a commit does before its exchange of CLOCK.
-    Now,
-    /// The exchange of the stamp, and then the stores of SUPER, one for each version.
-    Finish,
-    /// The exchange of HEAD of each object that is held, in the order of locking, and then the load
-    /// of the time of death.
-    Abort,
-    /// The exchange of HEAD, and then, where it was won, the load of CLOCK.
-    BackFinish,
-}
-
 /// What a move is answered.
 #[derive(Clone, Copy, Debug, PartialEq, Eq)]
 pub enum Answer {
@@ -124,8 +99,6 @@ pub enum Answer {
     Again(u32, u64),
     End,
     Aborted,
-    /// The client stopped.
-    Stopped,
     /// The move isn't one of this stage, and nothing was done.
     Skipped,
     /// A version was built for a lock, and HEAD wasn't exchanged yet.
@@ -165,58 +138,6 @@ pub(crate) fn clock(word: u64) -> Answer {
         slot => Some(slot),
     };
     Answer::Clock(clock_time(word), clock_seat(word), slot)
-}
-
-// Makes the first steps of a call that takes part in a lock or an abort, and stops.
-fn stopping_lock<L: Ledger>(
-    shared: &Shared<AnyRules>,
-    client: &mut Client,
-    call: Call,
-    count: u32,
-    steps: &mut Steps<L>,
-) -> Answer
-    requires ready { IsReady shared.now client.old }
-    ensures ready { IsReady shared.now client.new }
-{
-    let pass = &mut client.pass;
-    match (call, client.stage) {
-        (Call::Lock(object), Stage::Inside(None)) if object < shared.config().objects => {
-            first_of_lock(shared, pass, &client.log, object, count, steps)
-        }
-        (Call::LockEnd, Stage::Locking(started)) => {
-            first_of_lock_end(shared, pass, &mut client.log, started, count, steps)
-        }
-        (Call::Abort, Stage::Inside(None)) if held(&client.log) != 0 => {
-            first_of_abort(shared, pass, &client.log, count, steps)
-        }
-        _ => return Answer::Skipped,
-    }
-    client.stage = Stage::Stopped;
-    Answer::Stopped
-}
-
-// Makes the first steps of a call, and stops.
-fn stopping<L: Ledger>(
-    shared: &Shared<AnyRules>,
-    client: &mut Client,
-    call: Call,
-    count: u32,
-    steps: &mut Steps<L>,
-) -> Answer
-    requires ready { IsReady shared.now client.old }
-    ensures ready { IsReady shared.now client.new }
-{
-    let pass = &mut client.pass;
-    match (call, client.stage) {
-        (Call::Help, Stage::Taken(word)) => first_of_help(shared, pass, word, count, steps),
-        (Call::Now, Stage::Inside(_)) => first_of_now(shared, pass, count, steps),
-        (Call::Finish, Stage::Named(time)) => {
-            first_of_finish(shared, pass, &client.log, time, count, steps)
-        }
-        _ => return stopping_lock(shared, client, call, count, steps),
-    }
-    client.stage = Stage::Stopped;
-    Answer::Stopped
 }
 
 // Makes a part of a call, or what is made outside a section.
@@ -290,7 +211,6 @@ pub(crate) fn make<L: Ledger>(
         Move::LockWith(object, words) => locking_with(shared, client, object, words, steps),
         Move::Write(object, words) => writing(shared, client, object, words, steps),
         Move::Abort => aborting(shared, client, steps),
-        Move::FirstOf(call, count, _) => stopping(shared, client, call, count, steps),
         _ => make_entry(shared, client, next, steps),
     }
 }

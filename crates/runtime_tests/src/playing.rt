@@ -5,9 +5,9 @@ ghost use Rattle.runtime_tests.specs.Clients.{IsPlayable, AreReady};
 use crate::clients::{Client, UnderWay};
 use crate::comparing::assert_same;
 use crate::joining::joining;
-use crate::moves::{Answer, Call, Move, make};
+use crate::moves::{Answer, Move, make};
 use crate::opening::open;
-use crate::reclaiming::{back_finishing, back_starting, back_stopping, back_storing};
+use crate::reclaiming::{back_finishing, back_starting, back_storing};
 use crate::walks::{reading_found, walk_starting, walk_stepping};
 use mv_core::{Shared, Steps};
 use mv_history::AnyRules;
@@ -39,8 +39,6 @@ pub struct Otherwise {
     pub part: usize,
     /// The number of the turn in that part.
     pub turn: usize,
-    /// How many steps more than the fewest a call made that was stopped.
-    pub more: u32,
     /// What it was answered.
     pub answer: Answer,
 }
@@ -76,36 +74,12 @@ fn make_next<L: Ledger>(
         Move::BackStart(index) => back_starting(shared, client, index, steps),
         Move::BackWord => back_storing(shared, client, steps),
         Move::BackFinish => back_finishing(shared, client, steps),
-        Move::FirstOf(Call::BackFinish, count, _) => back_stopping(shared, client, count, steps),
         _ => {
             let answer = make(shared, client, next, steps);
             client.under_way = UnderWay::Nothing;
             answer
         }
     }
-}
-
-// The move as it is made where a call that is stopped makes so many steps more than the fewest.
-fn with_more(next: Move, more: u32) -> Move {
-    match next {
-        Move::FirstOf(call, least, most) => {
-            Move::FirstOf(call, least.saturating_add(more).min(most), most)
-        }
-        _ => next,
-    }
-}
-
-// How many steps more than the fewest the calls make that are stopped, at most.
-fn most_more(turns: &[&[Turn]]) -> u32 {
-    let mut more = 0;
-    for part in turns {
-        for (_, next, _) in *part {
-            if let Move::FirstOf(_, least, most) = *next {
-                more = more.max(most.saturating_sub(least));
-            }
-        }
-    }
-    more
 }
 
 // Makes the move of a seat, where there is a client for it.
@@ -133,7 +107,6 @@ fn play<L: Ledger>(
     shared: &Shared<AnyRules>,
     clients: &mut Vec<Client>,
     turns: &[Turn],
-    more: u32,
     steps: &mut Steps<L>,
 ) -> Option<(usize, Answer)>
     requires ready { AreReady shared.now clients.old.items }
@@ -141,7 +114,7 @@ fn play<L: Ledger>(
 {
     for at in 0..turns.len() {
         let (seat, next, wanted) = turns[at];
-        let answer = make_turn(shared, clients, seat, with_more(next, more), steps);
+        let answer = make_turn(shared, clients, seat, next, steps);
         if answer != wanted {
             return Some((at, answer));
         }
@@ -154,20 +127,14 @@ fn play_parts<L: Ledger>(
     shared: &Shared<AnyRules>,
     clients: &mut Vec<Client>,
     parts: &[&[Turn]],
-    more: u32,
     steps: &mut Steps<L>,
 ) -> Option<Otherwise>
     requires ready { AreReady shared.now clients.old.items }
     ensures ready { AreReady shared.now clients.new.items }
 {
     for part in 0..parts.len() {
-        if let Some((turn, answer)) = play(shared, clients, parts[part], more, steps) {
-            return Some(Otherwise {
-                part,
-                turn,
-                more,
-                answer,
-            });
+        if let Some((turn, answer)) = play(shared, clients, parts[part], steps) {
+            return Some(Otherwise { part, turn, answer });
         }
     }
     None
@@ -179,7 +146,6 @@ fn play_new<L: Ledger>(
     alloc: Global,
     config: &Config,
     parts: &[&[Turn]],
-    more: u32,
     blank: Blank,
 ) -> Result<Result<(Shared<AnyRules>, Vec<Client>), Otherwise>, AllocError>
     requires name { blank.name ≡ L.name }
@@ -190,13 +156,12 @@ fn play_new<L: Ledger>(
         return Ok(Err(Otherwise {
             part: 0,
             turn: 0,
-            more,
             answer: Answer::Skipped,
         }));
     };
     let mut steps = Steps::<L>::open(blank);
     let (shared, mut clients) = open(alloc, config)?;
-    match play_parts(&shared, &mut clients, parts, more, &mut steps) {
+    match play_parts(&shared, &mut clients, parts, &mut steps) {
         Some(otherwise) => Ok(Err(otherwise)),
         None => Ok(Ok((shared, clients))),
     }
@@ -206,25 +171,18 @@ fn play_new<L: Ledger>(
 pub(crate) fn play_once(
     alloc: Global,
     schedule: &Schedule,
-    more: u32,
 ) -> Result<Result<(Shared<AnyRules>, Vec<Client>), Otherwise>, AllocError>
     ensures ready { IfOk result (λ r. IfOk r (λ left. AreReady left.0 left.1.items)) }
 {
     let Schedule { domain, turns, .. } = *schedule;
-    play_new::<Brand>(alloc, &domain, turns, more, Blank::new(1))
+    play_new::<Brand>(alloc, &domain, turns, Blank::new(1))
 }
 
-/// Plays a schedule in a new domain; where it stops calls after single steps, once for each number of
-/// steps. It answers the first turn that was answered otherwise, and makes no turn after it; `None` is
-/// that every turn was answered as wanted. Numbers that are no domain are answered as the first turn,
+/// Plays a schedule in a new domain. It answers the first turn that was answered otherwise, and makes no
+/// turn after it; `None` is that every turn was answered as wanted. Numbers that are no domain are answered as the first turn,
 /// `Skipped`. Where memory is refused for a domain, no turn was made in it.
 pub fn played(alloc: Global, schedule: &Schedule) -> Result<Option<Otherwise>, AllocError> {
-    for more in 0..=most_more(schedule.turns) {
-        if let Err(otherwise) = play_once(alloc, schedule, more)? {
-            return Ok(Some(otherwise));
-        }
-    }
-    Ok(None)
+    Ok(play_once(alloc, schedule)?.err())
 }
 
 /// Plays schedules. Every turn of each is to be answered as wanted.

@@ -1,15 +1,10 @@
 // Rounds and tidies, and a write-back by its parts: it stays under way between two moves of its client.
-ghost use Rattle.std.specs.Prelude.{◌≡◌};
-ghost use Rattle.mv_core.specs.Passes.{view, IsOf, IsSame, config_of};
-ghost use Rattle.log_reclaim.specs.Backs.{IsWriting};
 ghost use Rattle.runtime_tests.specs.Clients.{IsReady, IsPlayable};
 
 use crate::clients::{Client, Stage, UnderWay};
 use crate::moves::Answer;
-use log_reclaim::{
-    Back, BackEnd, Tidy, back_cut, back_death, back_finish, back_start, back_word, round, tidy,
-};
-use mv_core::{Pass, Shared, Steps};
+use log_reclaim::{Tidy, back_finish, back_start, back_word, round, tidy};
+use mv_core::{Shared, Steps};
 use mv_history::AnyRules;
 use reader_marks::{leave, scan};
 use seat_log::{live, note};
@@ -131,51 +126,6 @@ pub(crate) fn back_finishing<L: Ledger>(
     let end = back_finish(shared, &mut client.pass, &mut client.log, back, steps);
     client.stage = Stage::Outside;
     Answer::BackEnded(end)
-}
-
-// The first parts of `back_finish`, after which the client stops: the exchange of HEAD, and where it was
-// won the load of CLOCK. The store of MARK, which is the last step, isn't among them.
-fn first_of_back_finish<L: Ledger>(
-    shared: &Shared<AnyRules>,
-    pass: &mut Pass<AnyRules>,
-    back: &Back,
-    count: u32,
-    steps: &mut Steps<L>,
-)
-    requires of { IsOf shared.now pass.old }
-    requires writing { IsWriting (config_of shared.now) (view pass.old) back.now }
-    requires stored { back.now.stored ≡ 6 }
-    ensures same { IsSame pass.old pass.new }
-{
-    if count == 0 {
-        return;
-    }
-    let end = back_cut(shared, pass, back, steps);
-    if count > 1 && end == BackEnd::Cut {
-        let _ = back_death(shared, pass, steps);
-    }
-}
-
-// Makes the first steps of the end of the write-back, and stops.
-pub(crate) fn back_stopping<L: Ledger>(
-    shared: &Shared<AnyRules>,
-    client: &mut Client,
-    count: u32,
-    steps: &mut Steps<L>,
-) -> Answer
-    requires ready { IsPlayable shared.now client.old }
-    ensures ready { IsPlayable shared.now client.new }
-{
-    let under_way = replace(&mut client.under_way, UnderWay::Nothing);
-    let UnderWay::WriteBack(back, 6) = under_way else {
-        return Answer::Skipped;
-    };
-    let Stage::WritingBack = client.stage else {
-        return Answer::Skipped;
-    };
-    first_of_back_finish(shared, &mut client.pass, &back, count, steps);
-    client.stage = Stage::Stopped;
-    Answer::Stopped
 }
 
 // Leaves the section of a write-back that is given up.

@@ -1,33 +1,17 @@
-// A seat stops after each single step of a lock, of a commit and of an abort. Then another one enters,
+// A seat stops after a lock, after each part of a commit and after an abort. Then another one enters,
 // reads, locks and commits, and tidies its log, which names the seat that holds it.
 use crate::moves::Answer::{
-    Aborted, Busy, Clock, Done, Entered, Finished, Held, Lost, Named, Stopped, Tidied, Words,
-    Written,
+    Aborted, Busy, Clock, Done, Entered, Finished, Held, Lost, Named, Tidied, Words, Written,
 };
-use crate::moves::Move::{
-    Abort, Commit, Enter, Finish, FirstOf, Lock, Name, Now, Read, Tidy, Write,
-};
-use crate::{Call, SMALL, Schedule, Turn, play_schedules};
+use crate::moves::Move::{Abort, Commit, Enter, Finish, Lock, Name, Now, Read, Tidy, Write};
+use crate::{SMALL, Schedule, Turn, play_schedules};
 use mv_history::Holder::Mark;
 use mv_layout::{Config, LAST};
 use std::test::Fail;
 
-// Seat 2 is for a commit that was named before.
-const THREE_SEATS: Config = Config {
-    seats: 3,
-    objects: 2,
-    ..SMALL
-};
-
 const TWO_SEATS: Config = Config {
     seats: 2,
     objects: 2,
-    ..SMALL
-};
-
-const LATE: Config = Config {
-    seats: 2,
-    base: LAST - 1,
     ..SMALL
 };
 
@@ -38,13 +22,6 @@ const HOLDING: [Turn; 3] = [
     (0, Write(0, [1, 2, 3, 4, 5, 6]), Written),
 ];
 
-// The same with object 1 held too.
-const HOLDING_TWO: [Turn; 3] = [
-    (0, Enter, Entered(0)),
-    (0, Lock(0), Held),
-    (0, Lock(1), Held),
-];
-
 // Seat 0 has committed object 1, and is in a section again.
 const INSIDE: [Turn; 4] = [
     (0, Enter, Entered(0)),
@@ -53,34 +30,12 @@ const INSIDE: [Turn; 4] = [
     (0, Enter, Entered(1)),
 ];
 
-// Seat 0 holds object 1, and seat 2 has named a commit of object 0 and stopped.
-const NAMED_BESIDES: [Turn; 7] = [
-    (0, Enter, Entered(0)),
-    (0, Lock(1), Held),
-    (2, Enter, Entered(0)),
-    (2, Lock(0), Held),
-    (2, Write(0, [1, 2, 3, 4, 5, 6]), Written),
-    (2, Now, Clock(0, 0, None)),
-    (2, Name, Named(1)),
-];
-
-// Seat 0 holds object 0 at the time before the last.
-const HOLDING_LATE: [Turn; 2] = [(0, Enter, Entered(LAST - 1)), (0, Lock(0), Held)];
-
 // Object 0 is free, and nothing was committed.
 pub(crate) const FREE: [Turn; 4] = [
     (1, Enter, Entered(0)),
     (1, Read(0), Words([0; 6])),
     (1, Lock(0), Held),
     (1, Commit, Done(1)),
-];
-
-// Object 0 is free at time 1, and has its opening words.
-const FREE_LATER: [Turn; 4] = [
-    (1, Enter, Entered(1)),
-    (1, Read(0), Words([0; 6])),
-    (1, Lock(0), Held),
-    (1, Commit, Done(2)),
 ];
 
 // Object 0 is free, and its last commit has the last time.
@@ -109,38 +64,10 @@ const TAKEN_LATER: [Turn; 5] = [
     (1, Commit, Done(2)),
 ];
 
-// Object 0 is free again, and object 1 is not.
-const FIRST_GIVEN_BACK: [Turn; 5] = [
-    (1, Enter, Entered(0)),
-    (1, Read(0), Words([0; 6])),
-    (1, Lock(0), Held),
-    (1, Lock(1), Busy(0)),
-    (1, Commit, Done(1)),
-];
-
-// Both objects are free again.
-const BOTH_GIVEN_BACK: [Turn; 6] = [
-    (1, Enter, Entered(0)),
-    (1, Read(0), Words([0; 6])),
-    (1, Lock(0), Held),
-    (1, Read(1), Words([0; 6])),
-    (1, Lock(1), Held),
-    (1, Commit, Done(1)),
-];
-
 // The commit of object 0 counts.
 pub(crate) const COMMITTED: [Turn; 4] = [
     (1, Enter, Entered(1)),
     (1, Read(0), Words([1, 2, 3, 4, 5, 6])),
-    (1, Lock(0), Held),
-    (1, Commit, Done(2)),
-];
-
-// The commit of object 0 counts, and object 1 is held.
-const COMMITTED_BESIDES: [Turn; 5] = [
-    (1, Enter, Entered(1)),
-    (1, Read(0), Words([1, 2, 3, 4, 5, 6])),
-    (1, Lock(1), Busy(0)),
     (1, Lock(0), Held),
     (1, Commit, Done(2)),
 ];
@@ -169,67 +96,7 @@ pub(crate) const MARKED_LATE: Turn = (
 
 const TWO_MARKED: Turn = (1, Tidy, Tidied(0, 2, Some(Mark { seat: 0, low: 0 })));
 
-static SCHEDULES: [Schedule; 14] = [
-    Schedule {
-        name: "within a lock",
-        domain: THREE_SEATS,
-        turns: &[
-            &INSIDE,
-            &[(0, FirstOf(Call::Lock(0), 1, 17), Stopped)],
-            &FREE_LATER,
-            &[MARKED_LATER],
-        ],
-    },
-    Schedule {
-        name: "within the help by which a commit begins",
-        domain: THREE_SEATS,
-        turns: &[
-            &NAMED_BESIDES,
-            &[(0, FirstOf(Call::Now, 1, 4), Stopped)],
-            &COMMITTED_BESIDES,
-            &[MARKED],
-        ],
-    },
-    Schedule {
-        name: "within an abort of one object",
-        domain: THREE_SEATS,
-        turns: &[
-            &HOLDING,
-            &[(0, FirstOf(Call::Abort, 1, 2), Stopped)],
-            &FREE,
-            &[MARKED],
-        ],
-    },
-    Schedule {
-        name: "within an abort of two objects, after the first",
-        domain: THREE_SEATS,
-        turns: &[
-            &HOLDING_TWO,
-            &[(0, FirstOf(Call::Abort, 1, 1), Stopped)],
-            &FIRST_GIVEN_BACK,
-            &[MARKED],
-        ],
-    },
-    Schedule {
-        name: "within an abort of two objects, after both",
-        domain: THREE_SEATS,
-        turns: &[
-            &HOLDING_TWO,
-            &[(0, FirstOf(Call::Abort, 2, 3), Stopped)],
-            &BOTH_GIVEN_BACK,
-            &[TWO_MARKED],
-        ],
-    },
-    Schedule {
-        name: "within an abort before the last time",
-        domain: LATE,
-        turns: &[
-            &HOLDING_LATE,
-            &[(0, FirstOf(Call::Abort, 1, 2), Stopped)],
-            &FREE_LATE,
-            &[MARKED_LATE],
-        ],
-    },
+static SCHEDULES: [Schedule; 7] = [
     Schedule {
         name: "after a lock",
         domain: TWO_SEATS,
@@ -268,20 +135,6 @@ static SCHEDULES: [Schedule; 14] = [
         turns: &[
             &HOLDING,
             &[(0, Now, Clock(0, 0, None)), (0, Name, Named(1))],
-            &COMMITTED,
-            &[MARKED],
-        ],
-    },
-    Schedule {
-        name: "after the exchange of the stamp",
-        domain: TWO_SEATS,
-        turns: &[
-            &HOLDING,
-            &[
-                (0, Now, Clock(0, 0, None)),
-                (0, Name, Named(1)),
-                (0, FirstOf(Call::Finish, 1, 1), Stopped),
-            ],
             &COMMITTED,
             &[MARKED],
         ],

@@ -1,13 +1,14 @@
-// A seat stops within and after calls on objects that have versions. Then others enter, read, lock and
-// commit, and the one whose versions they were tidies its log, which names the seat that holds it.
+// A seat stops after calls, and after parts of them, on objects that have versions. Then others enter,
+// read, lock and commit, and the one whose versions they were tidies its log, which names the seat that
+// holds it.
 use crate::moves::Answer::{
-    Busy, Clock, Done, Entered, Finished, Held, Left, LockStarted, Named, Stale, Stopped, Tidied,
-    Words, Written,
+    Busy, Clock, Done, Entered, Finished, Held, Left, LockStarted, Named, Stale, Tidied, Words,
+    Written,
 };
 use crate::moves::Move::{
-    Commit, Enter, Finish, FirstOf, Leave, Lock, LockStart, Name, Now, Read, Tidy, Write,
+    Commit, Enter, Finish, Leave, Lock, LockStart, Name, Now, Read, Tidy, Write,
 };
-use crate::{Call, SMALL, Schedule, Turn, play_schedules};
+use crate::{SMALL, Schedule, Turn, play_schedules};
 use mv_history::Holder::{Above, Mark};
 use mv_layout::Config;
 use std::test::Fail;
@@ -17,15 +18,6 @@ const DOMAIN: Config = Config {
     objects: 3,
     ..SMALL
 };
-
-// Seat 0 has committed object 0, and is in a section again.
-const OVER_ITS_OWN: [Turn; 5] = [
-    (0, Enter, Entered(0)),
-    (0, Lock(0), Held),
-    (0, Write(0, [1; 6]), Written),
-    (0, Commit, Done(1)),
-    (0, Enter, Entered(1)),
-];
 
 // Seat 1 has committed object 0, and seat 0 is in a section.
 const OVER_ANOTHERS: [Turn; 5] = [
@@ -65,18 +57,6 @@ const FREE: [Turn; 8] = [
     (1, Commit, Done(2)),
     (1, Enter, Entered(2)),
     (1, Read(0), Words([2; 6])),
-    (1, Leave, Left),
-];
-
-// So it is, and object 1 is held.
-const FREE_BESIDES: [Turn; 8] = [
-    (1, Enter, Entered(1)),
-    (1, Read(0), Words([1; 6])),
-    (1, Lock(1), Busy(0)),
-    (1, Lock(0), Held),
-    (1, Commit, Done(2)),
-    (1, Enter, Entered(2)),
-    (1, Read(1), Words([0; 6])),
     (1, Leave, Left),
 ];
 
@@ -133,118 +113,19 @@ const STAMPED: [Turn; 11] = [
     (2, Leave, Left),
 ];
 
-// Object 0 was given back, and object 1 was not.
-const FIRST_GIVEN_BACK: [Turn; 8] = [
-    (1, Enter, Entered(1)),
-    (1, Read(0), Words([1; 6])),
-    (1, Read(1), Words([2; 6])),
-    (1, Lock(0), Held),
-    (1, Lock(1), Busy(0)),
-    (1, Commit, Done(2)),
-    (2, Read(0), Words([1; 6])),
-    (2, Lock(0), Stale(2)),
-];
-
-// Both were given back.
-const BOTH_GIVEN_BACK: [Turn; 10] = [
-    (1, Enter, Entered(1)),
-    (1, Read(0), Words([1; 6])),
-    (1, Read(1), Words([2; 6])),
-    (1, Lock(0), Held),
-    (2, Lock(1), Held),
-    (1, Commit, Done(2)),
-    (2, Commit, Done(3)),
-    (1, Enter, Entered(3)),
-    (1, Read(1), Words([2; 6])),
-    (1, Leave, Left),
-];
-
 // Nobody needs the versions of seat 1.
 const FREED: Turn = (1, Tidy, Tidied(4, 0, None));
-
-// So many versions of seat 1 are kept. The first was written again, or is under a commit that isn't
-// finished, and the section of seat 0 may read it.
-const ONE_MARKED: Turn = (1, Tidy, Tidied(0, 1, Some(Mark { seat: 0, low: 1 })));
 
 const TWO_MARKED: Turn = (1, Tidy, Tidied(0, 2, Some(Mark { seat: 0, low: 1 })));
 
 const THREE_MARKED: Turn = (1, Tidy, Tidied(0, 3, Some(Mark { seat: 0, low: 1 })));
-
-const FOUR_MARKED: Turn = (1, Tidy, Tidied(0, 4, Some(Mark { seat: 0, low: 1 })));
 
 // So many versions of seat 1 are kept. Seat 0 holds the object of the first.
 const TWO_UNDER_A_LOCK: Turn = (1, Tidy, Tidied(0, 2, Some(Above { object: 0, seat: 0 })));
 
 const THREE_UNDER_A_LOCK: Turn = (1, Tidy, Tidied(0, 3, Some(Above { object: 0, seat: 0 })));
 
-// A lock builds ten words for the first version of a write set, and nine for a later one. After the
-// exchange of the stamp a finish stores SUPER of each version: after three of them only the store of
-// MARK is left.
-static SCHEDULES: [Schedule; 11] = [
-    Schedule {
-        name: "within a lock over an own version",
-        domain: DOMAIN,
-        turns: &[
-            &OVER_ITS_OWN,
-            &[(0, FirstOf(Call::Lock(0), 1, 19), Stopped)],
-            &FREE,
-            &[ONE_MARKED],
-        ],
-    },
-    Schedule {
-        name: "within a lock over another seat's version",
-        domain: DOMAIN,
-        turns: &[
-            &OVER_ANOTHERS,
-            &[(0, FirstOf(Call::Lock(0), 1, 19), Stopped)],
-            &FREE,
-            &[TWO_MARKED],
-        ],
-    },
-    Schedule {
-        name: "within a second lock",
-        domain: DOMAIN,
-        turns: &[
-            &OVER_ANOTHERS,
-            &[
-                (0, Lock(1), Held),
-                (0, FirstOf(Call::Lock(0), 1, 18), Stopped),
-            ],
-            &FREE_BESIDES,
-            &[TWO_MARKED],
-        ],
-    },
-    Schedule {
-        name: "within a finish",
-        domain: DOMAIN,
-        turns: &[
-            &HOLDING_TWO,
-            &NAMED,
-            &[(0, FirstOf(Call::Finish, 1, 3), Stopped)],
-            &STAMPED,
-            &[FOUR_MARKED],
-        ],
-    },
-    Schedule {
-        name: "within an abort of two objects, after the first",
-        domain: DOMAIN,
-        turns: &[
-            &HOLDING_TWO,
-            &[(0, FirstOf(Call::Abort, 1, 1), Stopped)],
-            &FIRST_GIVEN_BACK,
-            &[THREE_MARKED],
-        ],
-    },
-    Schedule {
-        name: "within an abort of two objects, after both",
-        domain: DOMAIN,
-        turns: &[
-            &HOLDING_TWO,
-            &[(0, FirstOf(Call::Abort, 2, 3), Stopped)],
-            &BOTH_GIVEN_BACK,
-            &[THREE_MARKED],
-        ],
-    },
+static SCHEDULES: [Schedule; 5] = [
     Schedule {
         name: "after a lock before its exchange of HEAD",
         domain: DOMAIN,

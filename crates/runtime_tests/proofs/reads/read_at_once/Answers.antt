@@ -1,7 +1,7 @@
 use Rattle.mv_history.specs.declared.StepKind.TheVariants.{LoadMaster}
 use Rattle.mv_core.specs.Passes.{view, config_of}
 use Rattle.version_chain.specs.Walks.{section_in}
-use Rattle.runtime_tests.proofs.Building.{same_twice}
+use Rattle.runtime_tests.proofs.Same.{same_twice}
 use Rattle.runtime_tests.proofs.ReadSections.{keeps_on, keeps_walk, keeps_read, reads_master}
 use Rattle.runtime_tests.proofs.reads.read_at_once.Goals as goal
 

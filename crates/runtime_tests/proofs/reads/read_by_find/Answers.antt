@@ -1,6 +1,6 @@
 use Rattle.mv_history.specs.declared.StepKind.TheVariants.{LoadMaster}
 use Rattle.mv_core.specs.Passes.{view}
-use Rattle.runtime_tests.proofs.Building.{same_twice}
+use Rattle.runtime_tests.proofs.Same.{same_twice}
 use Rattle.runtime_tests.proofs.ReadSections.{keeps_read}
 use Rattle.runtime_tests.proofs.reads.read_by_find.Goals as goal
 

@@ -1,7 +1,7 @@
 use Rattle.mv_core.specs.Passes.{view, config_of}
 use Rattle.seat_log.proofs.OwnSlots.{of_still}
 use Rattle.runtime_tests.proofs.Begun.{may_walk}
-use Rattle.runtime_tests.proofs.Building.{same_twice}
+use Rattle.runtime_tests.proofs.Same.{same_twice}
 use Rattle.runtime_tests.proofs.ReadSections.{open_after, may_enter_again}
 use Rattle.runtime_tests.proofs.reads.section.Goals as goal
 

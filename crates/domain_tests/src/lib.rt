@@ -1,7 +1,7 @@
 //! Worked cases of a domain, over the public calls of `mvrlu` alone: opening one, with each fault of its
 //! numbers; sections of its seats, what holds their logs, and their meeting, by schedules; and that its
 //! seats, handles and sections may go to threads; and over those of `object_seats` and `set_seats`. The
-//! accounts of `accounts` run here too, over a plain store.
+//! accounts of `accounts` run here too, over a plain store, and the updates and records of `mv_client`.
 //!
 //! **The model.** A schedule is a value: its name, the numbers of a domain, its turns, each with the number
 //! of a seat, its move, and the answer that is wanted, and the closing that is wanted. An interpreter plays
@@ -14,6 +14,10 @@
 
 #[cfg(test)]
 mod accounts_alone;
+#[cfg(test)]
+mod client_records;
+#[cfg(test)]
+mod client_updates;
 mod clients;
 #[cfg(test)]
 mod comparing;

@@ -43,11 +43,7 @@
 mod beginning;
 mod fields;
 mod holding;
-#[cfg(test)]
-mod record_tests;
 mod records;
-#[cfg(test)]
-mod tests;
 mod updating;
 
 pub use beginning::{begin, read};

@@ -20,13 +20,17 @@ const SEATS: u32 = 4;
 // How many numbers the first word is brought down to: each is something to do.
 const ACTIONS: u32 = 8;
 
-// The four words of a command, in the order in which they are drawn.
+/// The four words of a command, in the order in which they are drawn.
 #[derive(Drop)]
-pub(crate) struct Words {
-    pub(crate) action: u32,
-    pub(crate) name: u32,
-    pub(crate) other: u32,
-    pub(crate) key: u32,
+pub struct Words {
+    /// What it does.
+    pub action: u32,
+    /// Its set.
+    pub name: u32,
+    /// The second set of a move.
+    pub other: u32,
+    /// Its key.
+    pub key: u32,
 }
 
 // Draws the next command of a seat's script, with the next four words of its generator.
@@ -45,8 +49,8 @@ pub(crate) fn draw(rng: &mut Lcg64Xsh32, seat: u32) -> Command
 }
 
 impl Words {
-    // The command of these words in a seat's script.
-    pub(crate) fn command(&self, seat: u32) -> Command
+    /// The command of these words in a seat's script; the seat is 0 to 3.
+    pub fn command(&self, seat: u32) -> Command
         requires { seat < 4 }
         ensures { result ≡ command_of seat self.now.action self.now.name self.now.other self.now.key }
     {

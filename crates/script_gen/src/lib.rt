@@ -10,7 +10,8 @@
 //! their text, one command a line. Reading that text back by the grammar of scripts gives the
 //! same commands, and it is far within the limits of a script. The keys of a script are below 256,
 //! and are its seat modulo 4: two seats of one number have no key in common. Only four seats have keys
-//! of their own, so both calls ask for a seat below 4. The error of both is want of memory.
+//! of their own, so both calls ask for a seat below 4. The error of both is want of memory. What four words
+//! draw is [`Words::command`], and the text of one command is that of [`write_line`].
 //!
 //! **Place.** It stands on `set_script`, whose commands and grammar it speaks of, and on `rand_pcg`,
 //! whose specification gives the words. The program prints such a script, and runs the four of a
@@ -20,7 +21,7 @@
 mod draw;
 mod line;
 mod script;
-#[cfg(test)]
-mod tests;
 
+pub use draw::Words;
+pub use line::write_line;
 pub use script::{COMMANDS, commands, text};

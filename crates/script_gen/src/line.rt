@@ -7,8 +7,8 @@ use set_script::{Command, Name};
 use std::alloc::AllocError;
 use std::fmt::Write;
 
-// Writes a command's line, ended by LF: its words, with one space between them.
-pub(crate) fn write_line(text: &mut String, command: Command) -> Result<(), AllocError>
+/// Writes a command's line, ended by LF: its words, with one space between them. The error is want of memory.
+pub fn write_line(text: &mut String, command: Command) -> Result<(), AllocError>
     ensures { OnOk result (string_bytes text.new ≡ string_bytes text.old ++ (line_text command ++ codes "\n")) }
 {
     write_command(text, command)?;

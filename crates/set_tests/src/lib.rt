@@ -1,6 +1,6 @@
 //! Worked cases of the thirty sets, over the public calls of their crates and the plain store: scripts as
-//! they are read, lists, tables and trees, one command, one block, and what each costs in reads; what a command
-//! on a growing hash set costs; and of the plain store itself.
+//! they are read and generated, lists, tables and trees, one command, one block, and what each costs in
+//! reads; what a command on a growing hash set costs; and of the plain store itself.
 //!
 //! **The model.** A case is a row of a table: what is done, and the answer, place or number of reads that is
 //! wanted. `Counted` is a view, a section and a store that counts the reads which go through it.
@@ -27,6 +27,8 @@ mod costs;
 mod counted;
 #[cfg(test)]
 mod depths;
+#[cfg(test)]
+mod generated;
 #[cfg(test)]
 mod grown;
 #[cfg(test)]

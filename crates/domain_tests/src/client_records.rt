@@ -2,7 +2,7 @@
 ghost use Rattle.std.specs.Prelude.{◌≡◌, ◌<◌, ◌≤◌, IfOk, length};
 ghost use Rattle.plain_store.specs.Meaning.{seat_of};
 
-use crate::{Field, Record, begin, put_record, read_record};
+use mv_client::{Field, Record, begin, put_record, read_record};
 use mv_history::{AnyRules, Section, Store, View, Words};
 use plain_store::PlainStore;
 use std::alloc::{AllocError, Global};

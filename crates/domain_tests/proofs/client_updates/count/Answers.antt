@@ -1,5 +1,5 @@
 use Rattle.mv_client.proofs.Filled.{filled_put, filled_refused}
-use Rattle.mv_client.proofs.tests.count.Goals as goal
+use Rattle.domain_tests.proofs.client_updates.count.Goals as goal
 
 pub returns-in_err-put : goal.returns-in_err-put
 returns-in_err-put g c = record {

@@ -1,7 +1,5 @@
-// Scripts whose words were computed apart from this crate, by the C code of the generator's paper, and what a command is for given words.
-use crate::draw::Words;
-use crate::line::write_line;
-use crate::{COMMANDS, commands, text};
+// Generated scripts, whose words were computed apart, by the C code of the generator's paper, and what a command is for given words.
+use script_gen::{COMMANDS, Words, commands, text, write_line};
 use set_script::{Command, Name};
 use std::process::Abort;
 use std::test::*;

@@ -5,7 +5,7 @@ ghost use Rattle.mv_history.specs.Calls.{Continues};
 ghost use Rattle.section_work.specs.Attempts.{HasSpace};
 ghost use Rattle.mv_client.specs.Updates.{Filled};
 
-use crate::{Outcome, begin, lock_all, put, read, update, update_at_most, update_until};
+use mv_client::{Outcome, begin, lock_all, put, read, update, update_at_most, update_until};
 use mv_history::{AnyRules, Section, Store, Tag, View, Words};
 use plain_store::PlainStore;
 use section_work::{Cause, Decision, Place, Refusal};

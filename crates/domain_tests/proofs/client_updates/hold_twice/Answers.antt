@@ -1,5 +1,5 @@
 use Rattle.std.proofs.Common.{length, ap, inl, inr, arith}
-use Rattle.mv_client.proofs.tests.hold_twice.Goals as goal
+use Rattle.domain_tests.proofs.client_updates.hold_twice.Goals as goal
 
 pub lock_all-requires-clause-within : goal.lock_all-requires-clause-within
 lock_all-requires-clause-within g c o i =

@@ -22,7 +22,7 @@ const ACTIONS: u32 = 8;
 
 /// The four words of a command, in the order in which they are drawn.
 #[derive(Drop)]
-pub struct Words {
+pub struct DrawnWords {
     /// What it does.
     pub action: u32,
     /// Its set.
@@ -39,7 +39,7 @@ pub(crate) fn draw(rng: &mut Lcg64Xsh32, seat: u32) -> Command
     ensures { (k : ℕ) → commands_of seat (first_words pcg32 (suc (suc (suc (suc k)))) rng.old)
         ≡ result ∷ commands_of seat (first_words pcg32 k rng.new) }
 {
-    let words = Words {
+    let words = DrawnWords {
         action: rng.next_word(),
         name: rng.next_word(),
         other: rng.next_word(),
@@ -48,7 +48,7 @@ pub(crate) fn draw(rng: &mut Lcg64Xsh32, seat: u32) -> Command
     words.command(seat)
 }
 
-impl Words {
+impl DrawnWords {
     /// The command of these words in a seat's script; the seat is 0 to 3.
     pub fn command(&self, seat: u32) -> Command
         requires { seat < 4 }

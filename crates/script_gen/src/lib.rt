@@ -11,7 +11,7 @@
 //! same commands, and it is far within the limits of a script. The keys of a script are below 256,
 //! and are its seat modulo 4: two seats of one number have no key in common. Only four seats have keys
 //! of their own, so both calls ask for a seat below 4. The error of both is want of memory. What four words
-//! draw is [`Words::command`], and the text of one command is that of [`write_line`].
+//! draw is [`DrawnWords::command`], and the text of one command is that of [`write_line`].
 //!
 //! **Place.** It stands on `set_script`, whose commands and grammar it speaks of, and on `rand_pcg`,
 //! whose specification gives the words. The program prints such a script, and runs the four of a
@@ -22,6 +22,6 @@ mod draw;
 mod line;
 mod script;
 
-pub use draw::Words;
+pub use draw::DrawnWords;
 pub use line::write_line;
 pub use script::{COMMANDS, commands, text};

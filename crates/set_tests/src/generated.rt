@@ -1,5 +1,5 @@
 // Generated scripts, whose words were computed apart, by the C code of the generator's paper, and what a command is for given words.
-use script_gen::{COMMANDS, Words, commands, text, write_line};
+use script_gen::{COMMANDS, DrawnWords, commands, text, write_line};
 use set_script::{Command, Name};
 use std::process::Abort;
 use std::test::*;
@@ -196,7 +196,7 @@ fn the_commands_of_words(rt: HostRuntime) {
     ];
     for ([action, first, other, key], seat, command) in &rows {
         assert!(rt; *seat < 4);
-        let words = Words {
+        let words = DrawnWords {
             action: *action,
             name: *first,
             other: *other,

@@ -10,20 +10,20 @@ use Rattle.mv_layout.specs.declared.Config.{Config}
 use Rattle.mv_layout.specs.declared.Place.TheVariants.{Clock, Mark}
 use Rattle.mv_layout.specs.Places.{place_of}
 use Rattle.mv_layout.specs.Words.{clock_time_of}
-use Rattle.mv_core.specs.declared.ring.Status.TheVariants.{Held, Aborted}
-use Rattle.mv_core.specs.declared.view.View.{View}
-use Rattle.mv_core.specs.declared.view.Phase.TheVariants.{Outside}
-use Rattle.mv_core.specs.declared.view.Section.{Section}
-use Rattle.mv_core.specs.declared.view.Mode.{Mode}
-use Rattle.mv_core.specs.declared.view.Mode.TheVariants.{Open, Aborting, Named}
-use Rattle.mv_core.specs.declared.view.Walk.TheVariants.{Nowhere}
-use Rattle.mv_core.specs.Rings.{slot_at, HoldsNothing}
-use Rattle.mv_core.specs.Views.{no_clocks, IsUnnamed}
-use Rattle.mv_core.specs.HistoryFacts.{BeginsWith}
-use Rattle.mv_core.specs.EnterSteps.{IsWhole, IsFinished, MayClearMark, mark_cleared}
-use Rattle.mv_core.specs.LockSteps.{death_loaded}
-use Rattle.mv_core.proofs.kinds.locking.lock_head.LockedLog.{none_held}
-use Rattle.mv_core.proofs.logs.Links.{live_once}
+use Rattle.seat_log.specs.mv_core.declared.ring.Status.TheVariants.{Held, Aborted}
+use Rattle.seat_log.specs.mv_core.declared.view.View.{View}
+use Rattle.seat_log.specs.mv_core.declared.view.Phase.TheVariants.{Outside}
+use Rattle.seat_log.specs.mv_core.declared.view.Section.{Section}
+use Rattle.seat_log.specs.mv_core.declared.view.Mode.{Mode}
+use Rattle.seat_log.specs.mv_core.declared.view.Mode.TheVariants.{Open, Aborting, Named}
+use Rattle.seat_log.specs.mv_core.declared.view.Walk.TheVariants.{Nowhere}
+use Rattle.seat_log.specs.mv_core.Rings.{slot_at, HoldsNothing}
+use Rattle.seat_log.specs.mv_core.Views.{no_clocks, IsUnnamed}
+use Rattle.seat_log.specs.mv_core.HistoryFacts.{BeginsWith}
+use Rattle.seat_log.specs.mv_core.EnterSteps.{IsWhole, IsFinished, MayClearMark, mark_cleared}
+use Rattle.seat_log.specs.mv_core.LockSteps.{death_loaded}
+use Rattle.seat_log.proofs.mv_core_lemmas.kinds.locking.lock_head.LockedLog.{none_held}
+use Rattle.seat_log.proofs.mv_core_lemmas.logs.Links.{live_once}
 use Rattle.seat_log.specs.declared.version.Note.{Note}
 use Rattle.seat_log.specs.Notes.{Noted, aborted_noted}
 use Rattle.seat_log.specs.Stands.{is_free_kind, is_cut_kind, is_lock_kind, is_unlock_kind, is_free, is_won_cut, is_won_lock, is_unlock, aborts_in, Stands}

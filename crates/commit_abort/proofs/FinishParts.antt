@@ -2,12 +2,12 @@
 use Rattle.std.proofs.Common.{◌≡◌, ℕ, ◌+◌, ◌≤◌, Some, true, length, sym, ◌∙◌, subst, arith}
 use Rattle.mv_layout.specs.declared.Config.{Config}
 use Rattle.mv_layout.specs.Words.{clock_time_of}
-use Rattle.mv_core.specs.declared.view.View.{View}
-use Rattle.mv_core.specs.declared.view.Phase.TheVariants.{Inside}
-use Rattle.mv_core.specs.declared.view.Mode.TheVariants.{Named}
-use Rattle.mv_core.specs.Rings.{set_first}
-use Rattle.mv_core.specs.EnterSteps.{MayClearMark, mark_cleared}
-use Rattle.reader_marks.specs.Sections.{section_in}
+use Rattle.seat_log.specs.mv_core.declared.view.View.{View}
+use Rattle.seat_log.specs.mv_core.declared.view.Phase.TheVariants.{Inside}
+use Rattle.seat_log.specs.mv_core.declared.view.Mode.TheVariants.{Named}
+use Rattle.seat_log.specs.mv_core.Rings.{set_first}
+use Rattle.seat_log.specs.mv_core.EnterSteps.{MayClearMark, mark_cleared}
+use Rattle.seat_log.specs.reader_marks.Sections.{section_in}
 use Rattle.seat_log.specs.declared.version.Note.{Note}
 use Rattle.seat_log.specs.Notes.{Noted, held_from, IsNoteAt, committed_noted}
 use Rattle.seat_log.specs.Stands.{Stands}

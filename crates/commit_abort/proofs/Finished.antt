@@ -10,24 +10,24 @@ use Rattle.mv_layout.specs.declared.Config.{Config}
 use Rattle.mv_layout.specs.declared.Place.TheVariants.{Mark}
 use Rattle.mv_layout.specs.Places.{place_of}
 use Rattle.mv_layout.specs.Words.{clock_time_of}
-use Rattle.mv_core.specs.declared.ring.Slot.{Slot}
-use Rattle.mv_core.specs.declared.ring.Slot.TheVariants.{Live}
-use Rattle.mv_core.specs.declared.ring.Status.TheVariants.{Held, Committed}
-use Rattle.mv_core.specs.declared.ring.CommitNote.{CommitNote}
-use Rattle.mv_core.specs.declared.view.View.{View}
-use Rattle.mv_core.specs.declared.view.Phase.TheVariants.{Outside, Inside}
-use Rattle.mv_core.specs.declared.view.Section.{Section}
-use Rattle.mv_core.specs.declared.view.Mode.TheVariants.{Named}
-use Rattle.mv_core.specs.declared.view.Walk.TheVariants.{Nowhere}
-use Rattle.mv_core.specs.Views.{no_clocks}
-use Rattle.mv_core.specs.Rings.{slot_at, index_of, held_count, set_first}
-use Rattle.mv_core.specs.NameSteps.{commit_of, committed_slot, commit_named}
-use Rattle.mv_core.specs.EnterSteps.{MayClearMark, mark_cleared}
-use Rattle.mv_core.proofs.logs.Links.{live_once}
-use Rattle.mv_core.proofs.kinds.naming.entry.CommittedLogs.{new_note, committed_was}
-use Rattle.mv_core.proofs.logs.HeldSet.{writes_length}
-use Rattle.mv_core.proofs.logs.Slots.{slot_mapped}
-use Rattle.reader_marks.specs.Sections.{inside_of, section_in}
+use Rattle.seat_log.specs.mv_core.declared.ring.Slot.{Slot}
+use Rattle.seat_log.specs.mv_core.declared.ring.Slot.TheVariants.{Live}
+use Rattle.seat_log.specs.mv_core.declared.ring.Status.TheVariants.{Held, Committed}
+use Rattle.seat_log.specs.mv_core.declared.ring.CommitNote.{CommitNote}
+use Rattle.seat_log.specs.mv_core.declared.view.View.{View}
+use Rattle.seat_log.specs.mv_core.declared.view.Phase.TheVariants.{Outside, Inside}
+use Rattle.seat_log.specs.mv_core.declared.view.Section.{Section}
+use Rattle.seat_log.specs.mv_core.declared.view.Mode.TheVariants.{Named}
+use Rattle.seat_log.specs.mv_core.declared.view.Walk.TheVariants.{Nowhere}
+use Rattle.seat_log.specs.mv_core.Views.{no_clocks}
+use Rattle.seat_log.specs.mv_core.Rings.{slot_at, index_of, held_count, set_first}
+use Rattle.seat_log.specs.mv_core.NameSteps.{commit_of, committed_slot, commit_named}
+use Rattle.seat_log.specs.mv_core.EnterSteps.{MayClearMark, mark_cleared}
+use Rattle.seat_log.proofs.mv_core_lemmas.logs.Links.{live_once}
+use Rattle.seat_log.proofs.mv_core_lemmas.kinds.naming.entry.CommittedLogs.{new_note, committed_was}
+use Rattle.seat_log.proofs.mv_core_lemmas.logs.HeldSet.{writes_length}
+use Rattle.seat_log.proofs.mv_core_lemmas.logs.Slots.{slot_mapped}
+use Rattle.seat_log.specs.reader_marks.Sections.{inside_of, section_in}
 use Rattle.seat_log.specs.declared.version.Note.{Note}
 use Rattle.seat_log.specs.Notes.{Noted, held_from, IsNoteAt, committed_noted}
 use Rattle.seat_log.specs.Stands.{version_of, Stands}

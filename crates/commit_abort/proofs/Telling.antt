@@ -11,18 +11,18 @@ use Rattle.mv_layout.specs.declared.Config.{Config}
 use Rattle.mv_layout.specs.declared.Place.TheVariants.{Super}
 use Rattle.mv_layout.specs.Places.{place_of}
 use Rattle.mv_layout.specs.Words.{link_seat_of}
-use Rattle.mv_core.specs.declared.ring.Slot.TheVariants.{Live}
-use Rattle.mv_core.specs.declared.ring.Status.TheVariants.{Committed}
-use Rattle.mv_core.specs.declared.ring.CommitNote.{CommitNote}
-use Rattle.mv_core.specs.declared.view.View.{View}
-use Rattle.mv_core.specs.declared.view.Phase.TheVariants.{Inside}
-use Rattle.mv_core.specs.declared.view.Section.{Section}
-use Rattle.mv_core.specs.declared.view.Mode.TheVariants.{Named}
-use Rattle.mv_core.specs.Rings.{slot_at, index_of}
-use Rattle.mv_core.specs.WalkSteps.{IsLinkOf, slot_named}
-use Rattle.mv_core.specs.NameSteps.{MayStoreSuper, super_stored}
-use Rattle.mv_core.proofs.logs.Links.{live_once, note_once}
-use Rattle.mv_core.proofs.logs.Slots.{slot_here, slot_else, live_within}
+use Rattle.seat_log.specs.mv_core.declared.ring.Slot.TheVariants.{Live}
+use Rattle.seat_log.specs.mv_core.declared.ring.Status.TheVariants.{Committed}
+use Rattle.seat_log.specs.mv_core.declared.ring.CommitNote.{CommitNote}
+use Rattle.seat_log.specs.mv_core.declared.view.View.{View}
+use Rattle.seat_log.specs.mv_core.declared.view.Phase.TheVariants.{Inside}
+use Rattle.seat_log.specs.mv_core.declared.view.Section.{Section}
+use Rattle.seat_log.specs.mv_core.declared.view.Mode.TheVariants.{Named}
+use Rattle.seat_log.specs.mv_core.Rings.{slot_at, index_of}
+use Rattle.seat_log.specs.mv_core.WalkSteps.{IsLinkOf, slot_named}
+use Rattle.seat_log.specs.mv_core.NameSteps.{MayStoreSuper, super_stored}
+use Rattle.seat_log.proofs.mv_core_lemmas.logs.Links.{live_once, note_once}
+use Rattle.seat_log.proofs.mv_core_lemmas.logs.Slots.{slot_here, slot_else, live_within}
 use Rattle.seat_log.specs.declared.version.Note.{Note}
 use Rattle.seat_log.specs.Notes.{Noted, held_from, IsNoteAt}
 use Rattle.seat_log.specs.Stands.{version_of}

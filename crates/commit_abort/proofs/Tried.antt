@@ -17,23 +17,23 @@ use Rattle.mv_layout.specs.declared.Config.{Config}
 use Rattle.mv_layout.specs.declared.Place.TheVariants.{Clock}
 use Rattle.mv_layout.specs.Places.{place_of}
 use Rattle.mv_layout.specs.Words.{clock_time_of}
-use Rattle.mv_core.specs.declared.ring.Ring.{Ring}
-use Rattle.mv_core.specs.declared.view.View.{View}
-use Rattle.mv_core.specs.declared.view.Past.{Past}
-use Rattle.mv_core.specs.declared.view.Phase.TheVariants.{Inside}
-use Rattle.mv_core.specs.declared.view.Section.{Section}
-use Rattle.mv_core.specs.declared.view.Mode.TheVariants.{Open}
-use Rattle.mv_core.specs.Rings.{held_count, own_of}
-use Rattle.mv_core.specs.Views.{time_in}
-use Rattle.mv_core.specs.HistoryFacts.{BeginsWith}
-use Rattle.mv_core.specs.SectionFacts.{IsPastHelp}
-use Rattle.mv_core.specs.EnterSteps.{MayLoadCheck, IsWhole, if_none, checked_helped, check_loaded}
-use Rattle.mv_core.specs.Known.{Known}
-use Rattle.mv_core.specs.NameSteps.{LogTold, commit_of, MayNameCommit, commit_named}
-use Rattle.mv_core.proofs.history.Fronts.{begins_by, begins_long}
-use Rattle.commit_clock.specs.Helps.{HasLoaded, IsHelpStep, Helps}
-use Rattle.commit_clock.proofs.HelpedPhase.{still_open}
-use Rattle.commit_clock.proofs.HelpKinds.{help_kind}
+use Rattle.seat_log.specs.mv_core.declared.ring.Ring.{Ring}
+use Rattle.seat_log.specs.mv_core.declared.view.View.{View}
+use Rattle.seat_log.specs.mv_core.declared.view.Past.{Past}
+use Rattle.seat_log.specs.mv_core.declared.view.Phase.TheVariants.{Inside}
+use Rattle.seat_log.specs.mv_core.declared.view.Section.{Section}
+use Rattle.seat_log.specs.mv_core.declared.view.Mode.TheVariants.{Open}
+use Rattle.seat_log.specs.mv_core.Rings.{held_count, own_of}
+use Rattle.seat_log.specs.mv_core.Views.{time_in}
+use Rattle.seat_log.specs.mv_core.HistoryFacts.{BeginsWith}
+use Rattle.seat_log.specs.mv_core.SectionFacts.{IsPastHelp}
+use Rattle.seat_log.specs.mv_core.EnterSteps.{MayLoadCheck, IsWhole, if_none, checked_helped, check_loaded}
+use Rattle.seat_log.specs.mv_core.Known.{Known}
+use Rattle.seat_log.specs.mv_core.NameSteps.{LogTold, commit_of, MayNameCommit, commit_named}
+use Rattle.seat_log.proofs.mv_core_lemmas.history.Fronts.{begins_by, begins_long}
+use Rattle.seat_log.specs.commit_clock.Helps.{HasLoaded, IsHelpStep, Helps}
+use Rattle.seat_log.proofs.commit_clock_lemmas.HelpedPhase.{still_open}
+use Rattle.seat_log.proofs.commit_clock_lemmas.HelpKinds.{help_kind}
 use Rattle.seat_log.specs.Notes.{Noted}
 use Rattle.seat_log.specs.Stands.{Stands}
 use Rattle.seat_log.proofs.PlainSteps.{LeavesLog, one_leaves, stands_left}

@@ -15,24 +15,24 @@ use Rattle.mv_layout.specs.declared.Config.{Config}
 use Rattle.mv_layout.specs.declared.Place.TheVariants.{Clock}
 use Rattle.mv_layout.specs.Places.{place_of}
 use Rattle.mv_layout.specs.Words.{clock_time_of, clock_seat_of}
-use Rattle.mv_core.specs.declared.view.View.{View}
-use Rattle.mv_core.specs.declared.view.Past.{Past}
-use Rattle.mv_core.specs.declared.view.Phase.TheVariants.{Outside, Inside}
-use Rattle.mv_core.specs.declared.view.Section.{Section}
-use Rattle.mv_core.specs.declared.view.Mode.TheVariants.{Open}
-use Rattle.mv_core.specs.declared.view.Walk.TheVariants.{Nowhere}
-use Rattle.mv_core.specs.Rings.{held_count}
-use Rattle.mv_core.specs.Times.{IsEntry}
-use Rattle.mv_core.specs.Views.{no_clocks}
-use Rattle.mv_core.specs.HistoryFacts.{BeginsWith}
-use Rattle.mv_core.specs.SectionFacts.{IsPastHelp}
-use Rattle.mv_core.specs.EnterSteps.{IsWhole, if_none, check_loaded}
-use Rattle.mv_core.specs.Known.{Known}
-use Rattle.mv_core.specs.NameSteps.{commit_word, commit_named, commit_lost}
-use Rattle.mv_core.proofs.history.Fronts.{begins_by, begins_long}
-use Rattle.mv_core.proofs.history.OwnEntries.{other_maker}
-use Rattle.commit_clock.specs.Helps.{Helps}
-use Rattle.commit_clock.specs.Names.{IsLost}
+use Rattle.seat_log.specs.mv_core.declared.view.View.{View}
+use Rattle.seat_log.specs.mv_core.declared.view.Past.{Past}
+use Rattle.seat_log.specs.mv_core.declared.view.Phase.TheVariants.{Outside, Inside}
+use Rattle.seat_log.specs.mv_core.declared.view.Section.{Section}
+use Rattle.seat_log.specs.mv_core.declared.view.Mode.TheVariants.{Open}
+use Rattle.seat_log.specs.mv_core.declared.view.Walk.TheVariants.{Nowhere}
+use Rattle.seat_log.specs.mv_core.Rings.{held_count}
+use Rattle.seat_log.specs.mv_core.Times.{IsEntry}
+use Rattle.seat_log.specs.mv_core.Views.{no_clocks}
+use Rattle.seat_log.specs.mv_core.HistoryFacts.{BeginsWith}
+use Rattle.seat_log.specs.mv_core.SectionFacts.{IsPastHelp}
+use Rattle.seat_log.specs.mv_core.EnterSteps.{IsWhole, if_none, check_loaded}
+use Rattle.seat_log.specs.mv_core.Known.{Known}
+use Rattle.seat_log.specs.mv_core.NameSteps.{commit_word, commit_named, commit_lost}
+use Rattle.seat_log.proofs.mv_core_lemmas.history.Fronts.{begins_by, begins_long}
+use Rattle.seat_log.proofs.mv_core_lemmas.history.OwnEntries.{other_maker}
+use Rattle.seat_log.specs.commit_clock.Helps.{Helps}
+use Rattle.seat_log.specs.commit_clock.Names.{IsLost}
 use Rattle.seat_log.specs.Notes.{Noted}
 use Rattle.seat_log.specs.Stands.{Stands}
 use Rattle.seat_log.proofs.PlainSteps.{one_leaves, stands_left}

@@ -13,17 +13,17 @@ use Rattle.mv_history.specs.declared.StepKind.TheVariants.{UnlockHead}
 use Rattle.mv_layout.specs.declared.Config.{Config}
 use Rattle.mv_layout.specs.declared.Place.TheVariants.{Head}
 use Rattle.mv_layout.specs.Places.{place_of}
-use Rattle.mv_core.specs.declared.ring.Slot.TheVariants.{Live}
-use Rattle.mv_core.specs.declared.ring.Status.TheVariants.{Held, Aborted}
-use Rattle.mv_core.specs.declared.view.View.{View}
-use Rattle.mv_core.specs.declared.view.Section.{Section}
-use Rattle.mv_core.specs.declared.view.Mode.TheVariants.{Aborting}
-use Rattle.mv_core.specs.Rings.{slot_at, index_of}
-use Rattle.mv_core.specs.Views.{IsUnnamed}
-use Rattle.mv_core.specs.Known.{Known}
-use Rattle.mv_core.specs.LockSteps.{MayUnlock, head_unlocked}
-use Rattle.mv_core.proofs.logs.Slots.{slot_here, slot_else, live_within}
-use Rattle.reader_marks.specs.Sections.{inside_of}
+use Rattle.seat_log.specs.mv_core.declared.ring.Slot.TheVariants.{Live}
+use Rattle.seat_log.specs.mv_core.declared.ring.Status.TheVariants.{Held, Aborted}
+use Rattle.seat_log.specs.mv_core.declared.view.View.{View}
+use Rattle.seat_log.specs.mv_core.declared.view.Section.{Section}
+use Rattle.seat_log.specs.mv_core.declared.view.Mode.TheVariants.{Aborting}
+use Rattle.seat_log.specs.mv_core.Rings.{slot_at, index_of}
+use Rattle.seat_log.specs.mv_core.Views.{IsUnnamed}
+use Rattle.seat_log.specs.mv_core.Known.{Known}
+use Rattle.seat_log.specs.mv_core.LockSteps.{MayUnlock, head_unlocked}
+use Rattle.seat_log.proofs.mv_core_lemmas.logs.Slots.{slot_here, slot_else, live_within}
+use Rattle.seat_log.specs.reader_marks.Sections.{inside_of}
 use Rattle.seat_log.specs.declared.version.Note.{Note}
 use Rattle.seat_log.specs.Notes.{Noted, held_from, IsNoteAt}
 use Rattle.seat_log.specs.Stands.{version_of, Stands}

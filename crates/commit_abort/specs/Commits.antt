@@ -10,18 +10,18 @@ use Rattle.mv_history.specs.Drift.{IsFit}
 use Rattle.mv_history.specs.Trail.{commit_exchanges, IsOneWon}
 use Rattle.mv_layout.specs.declared.Config.{Config}
 use Rattle.mv_layout.specs.Words.{clock_time_of, clock_seat_of}
-use Rattle.mv_core.specs.declared.view.View.{View}
-use Rattle.mv_core.specs.declared.view.Phase.TheVariants.{Outside, Inside}
-use Rattle.mv_core.specs.declared.view.Section.{Section}
-use Rattle.mv_core.specs.declared.view.Mode.TheVariants.{Open}
-use Rattle.mv_core.specs.declared.view.Walk.TheVariants.{Nowhere}
-use Rattle.mv_core.specs.Rings.{held_count, own_of}
-use Rattle.mv_core.specs.Times.{IsEntry}
-use Rattle.mv_core.specs.Views.{no_clocks, time_in}
-use Rattle.mv_core.specs.HistoryFacts.{BeginsWith}
-use Rattle.mv_core.specs.SectionFacts.{IsPastHelp}
-use Rattle.mv_core.specs.EnterSteps.{IsWhole}
-use Rattle.mv_core.specs.NameSteps.{commit_of}
+use Rattle.seat_log.specs.mv_core.declared.view.View.{View}
+use Rattle.seat_log.specs.mv_core.declared.view.Phase.TheVariants.{Outside, Inside}
+use Rattle.seat_log.specs.mv_core.declared.view.Section.{Section}
+use Rattle.seat_log.specs.mv_core.declared.view.Mode.TheVariants.{Open}
+use Rattle.seat_log.specs.mv_core.declared.view.Walk.TheVariants.{Nowhere}
+use Rattle.seat_log.specs.mv_core.Rings.{held_count, own_of}
+use Rattle.seat_log.specs.mv_core.Times.{IsEntry}
+use Rattle.seat_log.specs.mv_core.Views.{no_clocks, time_in}
+use Rattle.seat_log.specs.mv_core.HistoryFacts.{BeginsWith}
+use Rattle.seat_log.specs.mv_core.SectionFacts.{IsPastHelp}
+use Rattle.seat_log.specs.mv_core.EnterSteps.{IsWhole}
+use Rattle.seat_log.specs.mv_core.NameSteps.{commit_of}
 use Rattle.seat_log.specs.Notes.{Noted, committed_noted}
 use Rattle.commit_abort.specs.declared.committing.Ended.{Ended}
 use Rattle.commit_abort.specs.declared.committing.Ended.TheVariants.{Done, Again, End}

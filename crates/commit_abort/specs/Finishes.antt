@@ -7,22 +7,22 @@ use Rattle.mv_history.specs.declared.StepKind.{StepKind}
 use Rattle.mv_history.specs.declared.StepKind.TheVariants.{SwapStamp, StoreSuper, ClearMark}
 use Rattle.mv_layout.specs.declared.Config.{Config}
 use Rattle.mv_layout.specs.Words.{clock_time_of}
-use Rattle.mv_core.specs.declared.ring.Slot.{Slot}
-use Rattle.mv_core.specs.declared.ring.Slot.TheVariants.{Live}
-use Rattle.mv_core.specs.declared.ring.Version.{Version}
-use Rattle.mv_core.specs.declared.ring.Status.TheVariants.{Committed}
-use Rattle.mv_core.specs.declared.ring.CommitNote.{CommitNote}
-use Rattle.mv_core.specs.declared.view.View.{View}
-use Rattle.mv_core.specs.declared.view.Phase.TheVariants.{Outside, Inside}
-use Rattle.mv_core.specs.declared.view.Mode.{Mode}
-use Rattle.mv_core.specs.declared.view.Section.{Section}
-use Rattle.mv_core.specs.declared.view.Mode.TheVariants.{Named}
-use Rattle.mv_core.specs.declared.view.Walk.TheVariants.{Nowhere}
-use Rattle.mv_core.specs.Rings.{slot_at, index_of, HoldsNothing, held_count, set_first}
-use Rattle.mv_core.specs.Views.{no_clocks}
-use Rattle.mv_core.specs.WalkSteps.{IsPackedOf, IsLinkOf}
-use Rattle.mv_core.specs.NameSteps.{LogTold, commit_named, MayStoreSuper, super_stored}
-use Rattle.reader_marks.specs.Sections.{section_in}
+use Rattle.seat_log.specs.mv_core.declared.ring.Slot.{Slot}
+use Rattle.seat_log.specs.mv_core.declared.ring.Slot.TheVariants.{Live}
+use Rattle.seat_log.specs.mv_core.declared.ring.Version.{Version}
+use Rattle.seat_log.specs.mv_core.declared.ring.Status.TheVariants.{Committed}
+use Rattle.seat_log.specs.mv_core.declared.ring.CommitNote.{CommitNote}
+use Rattle.seat_log.specs.mv_core.declared.view.View.{View}
+use Rattle.seat_log.specs.mv_core.declared.view.Phase.TheVariants.{Outside, Inside}
+use Rattle.seat_log.specs.mv_core.declared.view.Mode.{Mode}
+use Rattle.seat_log.specs.mv_core.declared.view.Section.{Section}
+use Rattle.seat_log.specs.mv_core.declared.view.Mode.TheVariants.{Named}
+use Rattle.seat_log.specs.mv_core.declared.view.Walk.TheVariants.{Nowhere}
+use Rattle.seat_log.specs.mv_core.Rings.{slot_at, index_of, HoldsNothing, held_count, set_first}
+use Rattle.seat_log.specs.mv_core.Views.{no_clocks}
+use Rattle.seat_log.specs.mv_core.WalkSteps.{IsPackedOf, IsLinkOf}
+use Rattle.seat_log.specs.mv_core.NameSteps.{LogTold, commit_named, MayStoreSuper, super_stored}
+use Rattle.seat_log.specs.reader_marks.Sections.{section_in}
 use Rattle.seat_log.specs.declared.version.Note.{Note}
 use Rattle.seat_log.specs.Notes.{Noted, held_from, IsNoteAt}
 use Rattle.seat_log.specs.Stands.{version_of, Stands}

@@ -1,17 +1,17 @@
 // Giving up what a section holds.
 ghost use Rattle.std.specs.Prelude.{◌≡◌, ℕ, ◌+◌, ◌≤◌, ◌<◌, length, None};
-ghost use Rattle.mv_core.specs.declared.view.View.{View};
-ghost use Rattle.mv_core.specs.declared.view.Section.{Section};
-ghost use Rattle.mv_core.specs.EnterSteps.{mark_cleared};
-ghost use Rattle.mv_core.specs.Passes.{view, IsOf, IsSame, config_of};
+ghost use Rattle.seat_log.specs.mv_core.declared.view.View.{View};
+ghost use Rattle.seat_log.specs.mv_core.declared.view.Section.{Section};
+ghost use Rattle.seat_log.specs.mv_core.EnterSteps.{mark_cleared};
+ghost use Rattle.seat_log.specs.mv_core.Passes.{view, IsOf, IsSame, config_of};
 ghost use Rattle.seat_log.specs.declared.version.Note.{Note};
 ghost use Rattle.seat_log.specs.Notes.{IsNoteAt, held_from, aborted_noted};
 ghost use Rattle.seat_log.specs.Stands.{Stands};
 ghost use Rattle.commit_abort.specs.Aborts.{IsOpen, HeldSlot, MayGiveBack, GivesBack, IsAborting, held_number, LoadsDeath, HasGivenUp, Aborts, abort_cost};
 
-use mv_core::{Pass, Shared, Steps};
 use mv_history::Protocol;
 use mv_layout::clock_time;
+use seat_log::mv_core::{Pass, Shared, Steps};
 use seat_log::{Log, held, live, note, note_abort};
 use std::sync::ledger::Ledger;
 

@@ -1,16 +1,16 @@
 // Committing what a section holds.
 ghost use Rattle.std.specs.Prelude.{◌≡◌, ◌+◌, ◌≤◌, None};
-ghost use Rattle.mv_core.specs.declared.view.Section.{Section};
-ghost use Rattle.mv_core.specs.Passes.{view, IsOf, IsSame, config_of};
+ghost use Rattle.seat_log.specs.mv_core.declared.view.Section.{Section};
+ghost use Rattle.seat_log.specs.mv_core.Passes.{view, IsOf, IsSame, config_of};
 ghost use Rattle.seat_log.specs.Stands.{Stands};
 ghost use Rattle.commit_abort.specs.Commits.{MayCommit, EndsSo, LogEndsSo};
 
 use crate::finishing::finish;
-use commit_clock::{Named, help, name, now};
-use mv_core::{Pass, Shared, Steps};
 use mv_history::{Protocol, Rival, Tag};
 use mv_layout::{LAST, clock_time};
 use seat_log::Log;
+use seat_log::commit_clock::{Named, help, name, now};
+use seat_log::mv_core::{Pass, Shared, Steps};
 use std::sync::ledger::Ledger;
 
 /// How a commit ends.

@@ -1,18 +1,18 @@
 // Finishing a commit that was named.
 ghost use Rattle.std.specs.Prelude.{◌≡◌, ◌+◌, ◌≤◌, ◌<◌, length};
 ghost use Rattle.mv_layout.specs.Words.{clock_time_of};
-ghost use Rattle.mv_core.specs.declared.view.View.{View};
-ghost use Rattle.mv_core.specs.declared.view.Section.{Section};
-ghost use Rattle.mv_core.specs.EnterSteps.{mark_cleared};
-ghost use Rattle.mv_core.specs.Passes.{view, IsOf, IsSame, config_of};
+ghost use Rattle.seat_log.specs.mv_core.declared.view.View.{View};
+ghost use Rattle.seat_log.specs.mv_core.declared.view.Section.{Section};
+ghost use Rattle.seat_log.specs.mv_core.EnterSteps.{mark_cleared};
+ghost use Rattle.seat_log.specs.mv_core.Passes.{view, IsOf, IsSame, config_of};
 ghost use Rattle.seat_log.specs.declared.version.Note.{Note};
 ghost use Rattle.seat_log.specs.Notes.{IsNoteAt, held_from, committed_noted};
 ghost use Rattle.seat_log.specs.Stands.{Stands};
 ghost use Rattle.commit_abort.specs.Finishes.{WonNaming, IsJustNamed, HasNamed, StampsIt, CommittedSlot, MayTell};
 ghost use Rattle.commit_abort.specs.Finishes.{TellsOne, IsFinishing, above_held, Finishes};
 
-use mv_core::{Pass, Shared, Steps};
 use mv_history::Protocol;
+use seat_log::mv_core::{Pass, Shared, Steps};
 use seat_log::{Log, held, live, note, note_commit};
 use std::sync::ledger::Ledger;
 

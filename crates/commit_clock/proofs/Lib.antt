@@ -5,3 +5,5 @@ pub mod HelpKinds
 pub mod Hearing
 pub mod Answered
 pub mod Ending
+-- Passed on to the crates above: the lemmas of mv_core.
+pub use Rattle.mv_core.proofs as mv_core_lemmas

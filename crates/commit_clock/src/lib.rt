@@ -37,6 +37,7 @@
 //! stop after each, or let others move in between.
 //!
 //! The crate stands on `mv_core` for its steps and `mv_layout` for the packing of clock words.
+//! Crates above name `mv_core` through this crate.
 #![tactic(auto)]
 
 mod helping;
@@ -45,4 +46,5 @@ mod naming;
 pub use helping::{
     CheckedHelp, StartedHelp, help, help_check, help_clock, help_end, help_start, now,
 };
+pub use mv_core;
 pub use naming::{Named, name, rest};

@@ -8,11 +8,11 @@ use Rattle.mv_history.specs.declared.StepKind.TheVariants.{StoreFree}
 use Rattle.mv_layout.specs.declared.Config.{Config}
 use Rattle.mv_layout.specs.declared.Place.TheVariants.{Stamp}
 use Rattle.mv_layout.specs.Places.{place_of}
-use Rattle.mv_core.specs.declared.view.View.{View}
-use Rattle.mv_core.specs.declared.view.Walk.TheVariants.{Nowhere}
-use Rattle.mv_core.specs.EnterSteps.{MayLoadLow}
-use Rattle.mv_core.specs.Rings.{index_of}
-use Rattle.mv_core.specs.ReclaimSteps.{free_stored}
+use Rattle.seat_log.specs.mv_core.declared.view.View.{View}
+use Rattle.seat_log.specs.mv_core.declared.view.Walk.TheVariants.{Nowhere}
+use Rattle.seat_log.specs.mv_core.EnterSteps.{MayLoadLow}
+use Rattle.seat_log.specs.mv_core.Rings.{index_of}
+use Rattle.seat_log.specs.mv_core.ReclaimSteps.{free_stored}
 use Rattle.seat_log.specs.declared.version.Note.{Note}
 use Rattle.seat_log.specs.Notes.{Noted, IsLog}
 use Rattle.seat_log.specs.Frees.{OldestIsDead, FreesSet, freed_noted, slots_freed}

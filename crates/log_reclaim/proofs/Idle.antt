@@ -4,10 +4,10 @@ use Rattle.std.proofs.Props.{props}
 use Rattle.std.proofs.Math.Logic.{∥∥₁_elim}
 use mathlib.Core.Sum.{⊎_set}
 use Rattle.mv_history.specs.State.{State, Writes}
-use Rattle.mv_core.specs.declared.view.View.{View}
-use Rattle.mv_core.specs.declared.view.Phase.TheVariants.{Outside}
-use Rattle.mv_core.specs.declared.view.Walk.TheVariants.{Nowhere}
-use Rattle.mv_core.specs.Known.{Known}
+use Rattle.seat_log.specs.mv_core.declared.view.View.{View}
+use Rattle.seat_log.specs.mv_core.declared.view.Phase.TheVariants.{Outside}
+use Rattle.seat_log.specs.mv_core.declared.view.Walk.TheVariants.{Nowhere}
+use Rattle.seat_log.specs.mv_core.Known.{Known}
 
 still_once : (v : View) → IsProp ((v.walk ≡ Nowhere) × (v.back ≡ None))
 still_once v = hlevel (props, ⊎_set)

@@ -3,8 +3,8 @@ use Rattle.std.proofs.Common.{◌≡◌, ℕ, ◌+◌, List, [], ◌++◌, All, 
 use Rattle.std.proofs.lemmas.List.Elements.{All-nil, All-append, Contains-append_left, Contains-append_right}
 use Rattle.mv_history.specs.declared.Step.{Step}
 use Rattle.mv_layout.specs.declared.Config.{Config}
-use Rattle.reader_marks.specs.declared.scanning.Watermark.{Watermark}
-use Rattle.reader_marks.specs.Scans.{scan_steps, mark_step}
+use Rattle.seat_log.specs.reader_marks.declared.scanning.Watermark.{Watermark}
+use Rattle.seat_log.specs.reader_marks.Scans.{scan_steps, mark_step}
 use Rattle.log_reclaim.specs.Parts.{BeginsNoScan, HasScanned, HasScan}
 use Rattle.log_reclaim.specs.Holders.{ReadsMark, IsAfterScan, FindsLast}
 

@@ -7,16 +7,16 @@ use Rattle.std.proofs.lemmas.Bool.{cases_lt}
 use Rattle.mv_history.specs.declared.Entry.{Entry}
 use Rattle.mv_history.specs.State.{State, Writes}
 use Rattle.mv_layout.specs.declared.Config.{Config}
-use Rattle.mv_core.specs.declared.ring.Slot.TheVariants.{Live}
-use Rattle.mv_core.specs.declared.ring.Status.{Status}
-use Rattle.mv_core.specs.declared.ring.Status.TheVariants.{Held, Aborted, Committed}
-use Rattle.mv_core.specs.declared.ring.CommitNote.{CommitNote}
-use Rattle.mv_core.specs.declared.view.View.{View}
-use Rattle.mv_core.specs.Known.{Known}
-use Rattle.mv_core.specs.Rings.{slot_at, index_of}
-use Rattle.mv_core.specs.Times.{latest, latest_at, IsNextIn}
-use Rattle.mv_core.specs.ReclaimFacts.{death_in}
-use Rattle.mv_core.proofs.history.Latest.{latest_at-mono, latest_at-own, entry-within, next_write}
+use Rattle.seat_log.specs.mv_core.declared.ring.Slot.TheVariants.{Live}
+use Rattle.seat_log.specs.mv_core.declared.ring.Status.{Status}
+use Rattle.seat_log.specs.mv_core.declared.ring.Status.TheVariants.{Held, Aborted, Committed}
+use Rattle.seat_log.specs.mv_core.declared.ring.CommitNote.{CommitNote}
+use Rattle.seat_log.specs.mv_core.declared.view.View.{View}
+use Rattle.seat_log.specs.mv_core.Known.{Known}
+use Rattle.seat_log.specs.mv_core.Rings.{slot_at, index_of}
+use Rattle.seat_log.specs.mv_core.Times.{latest, latest_at, IsNextIn}
+use Rattle.seat_log.specs.mv_core.ReclaimFacts.{death_in}
+use Rattle.seat_log.proofs.mv_core_lemmas.history.Latest.{latest_at-mono, latest_at-own, entry-within, next_write}
 use Rattle.seat_log.specs.declared.version.Note.{Note}
 use Rattle.seat_log.specs.Notes.{Noted, held_from, IsNoteAt}
 use Rattle.seat_log.specs.Stands.{version_of, IsAsNoted, Stands}

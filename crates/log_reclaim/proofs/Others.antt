@@ -3,10 +3,10 @@ use Rattle.std.proofs.Common.{◌≡◌, ℕ, ◌+◌, ◌-◌, ◌<◌, ◌≤�
 use Rattle.std.proofs.lemmas.Option.{slice_get-get_or}
 use Rattle.mv_history.specs.declared.Entry.TheVariants.{Rest}
 use Rattle.mv_history.specs.State.{State, Writes}
-use Rattle.mv_core.specs.declared.view.View.{View}
-use Rattle.mv_core.specs.HistoryFacts.{BeginsWith}
-use Rattle.mv_core.specs.Known.{Known}
-use Rattle.mv_core.proofs.history.OwnEntries.{other_maker}
+use Rattle.seat_log.specs.mv_core.declared.view.View.{View}
+use Rattle.seat_log.specs.mv_core.HistoryFacts.{BeginsWith}
+use Rattle.seat_log.specs.mv_core.Known.{Known}
+use Rattle.seat_log.proofs.mv_core_lemmas.history.OwnEntries.{other_maker}
 use Rattle.log_reclaim.specs.Holders.{IsOthers}
 
 module _ (starts : State → Type 0) (allows : List ℕ → State → Writes → Type 0) (v w : View) (before : ∥ Known starts allows v ∥₁)

@@ -2,12 +2,12 @@
 use Rattle.std.proofs.Common.{◌≡◌, ◌≤◌, List, [], ◌++◌, length, All, refl, sym, ap, ◌∙◌, arith, append_assoc, append-nil, None}
 use Rattle.std.proofs.lemmas.List.Elements.{All-nil, All-append}
 use Rattle.mv_history.specs.declared.Step.{Step}
-use Rattle.mv_core.specs.declared.view.View.{View}
-use Rattle.mv_core.specs.declared.view.Phase.TheVariants.{Outside}
-use Rattle.mv_core.specs.declared.view.Walk.TheVariants.{Nowhere}
-use Rattle.mv_core.specs.HistoryFacts.{BeginsWith}
-use Rattle.mv_core.specs.EnterSteps.{MayLoadLow}
-use Rattle.mv_core.proofs.history.Fronts.{begins_by, begins_long}
+use Rattle.seat_log.specs.mv_core.declared.view.View.{View}
+use Rattle.seat_log.specs.mv_core.declared.view.Phase.TheVariants.{Outside}
+use Rattle.seat_log.specs.mv_core.declared.view.Walk.TheVariants.{Nowhere}
+use Rattle.seat_log.specs.mv_core.HistoryFacts.{BeginsWith}
+use Rattle.seat_log.specs.mv_core.EnterSteps.{MayLoadLow}
+use Rattle.seat_log.proofs.mv_core_lemmas.history.Fronts.{begins_by, begins_long}
 use Rattle.log_reclaim.specs.Parts.{IsReclaimKind, IsOtherKind, Reclaims}
 use Rattle.log_reclaim.specs.Tries.{Makes}
 

@@ -7,19 +7,19 @@ use Rattle.mv_history.specs.declared.Step.{Step}
 use Rattle.mv_history.specs.declared.StepKind.{StepKind}
 use Rattle.mv_history.specs.declared.StepKind.TheVariants.{LoadScan, LoadMark, RaiseGrace}
 use Rattle.mv_layout.specs.declared.Config.{Config}
-use Rattle.mv_core.specs.declared.view.View.{View}
-use Rattle.mv_core.specs.declared.view.Walk.TheVariants.{Nowhere}
-use Rattle.mv_core.specs.EnterSteps.{MayLoadLow}
-use Rattle.mv_core.specs.HistoryFacts.{BeginsWith}
-use Rattle.mv_core.specs.SeatSteps.{grace_loaded}
-use Rattle.reader_marks.specs.declared.scanning.Watermark.{Watermark}
-use Rattle.reader_marks.specs.Scans.{Scans, scan_step, grace_step, mark_steps, scan_steps}
+use Rattle.seat_log.specs.mv_core.declared.view.View.{View}
+use Rattle.seat_log.specs.mv_core.declared.view.Walk.TheVariants.{Nowhere}
+use Rattle.seat_log.specs.mv_core.EnterSteps.{MayLoadLow}
+use Rattle.seat_log.specs.mv_core.HistoryFacts.{BeginsWith}
+use Rattle.seat_log.specs.mv_core.SeatSteps.{grace_loaded}
+use Rattle.seat_log.specs.reader_marks.declared.scanning.Watermark.{Watermark}
+use Rattle.seat_log.specs.reader_marks.Scans.{Scans, scan_step, grace_step, mark_steps, scan_steps}
 use Rattle.seat_log.specs.Notes.{Noted}
 use Rattle.seat_log.specs.Stands.{Stands}
 use Rattle.seat_log.proofs.PlainSteps.{LeavesLog, stands_left}
 use Rattle.log_reclaim.specs.Parts.{IsReclaimKind, BeginsNoScan, LeavesClock, IsOtherKind, IsPlainKind, Reclaims, HasScanned, grace_load}
 use Rattle.log_reclaim.specs.Tries.{Makes}
-use Rattle.mv_core.proofs.history.Fronts.{begins_long}
+use Rattle.seat_log.proofs.mv_core_lemmas.history.Fronts.{begins_long}
 use Rattle.log_reclaim.proofs.Reclaiming.{reclaims_outside}
 use Rattle.log_reclaim.proofs.causes.ScanCauses.{after_clock_all}
 

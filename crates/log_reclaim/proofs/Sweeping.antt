@@ -4,11 +4,11 @@ use Rattle.std.proofs.lemmas.List.Elements.{All-append}
 use Rattle.mv_history.specs.State.{State, Writes, maker_of}
 use Rattle.mv_history.specs.declared.Step.{Step}
 use Rattle.mv_layout.specs.declared.Config.{Config}
-use Rattle.mv_core.specs.declared.view.View.{View}
-use Rattle.mv_core.specs.Known.{Known}
-use Rattle.mv_core.specs.EnterSteps.{MayLoadLow}
-use Rattle.reader_marks.specs.declared.scanning.Watermark.{Watermark}
-use Rattle.reader_marks.specs.Scans.{Scans, IsKnown}
+use Rattle.seat_log.specs.mv_core.declared.view.View.{View}
+use Rattle.seat_log.specs.mv_core.Known.{Known}
+use Rattle.seat_log.specs.mv_core.EnterSteps.{MayLoadLow}
+use Rattle.seat_log.specs.reader_marks.declared.scanning.Watermark.{Watermark}
+use Rattle.seat_log.specs.reader_marks.Scans.{Scans, IsKnown}
 use Rattle.seat_log.specs.declared.version.Note.{Note}
 use Rattle.seat_log.specs.Notes.{Noted, IsNoteAt}
 use Rattle.seat_log.specs.Stands.{Stands}

@@ -2,7 +2,7 @@
 use Rattle.std.proofs.Common.{List, ◌++◌, Bool, inl, inr, ⊎_elim}
 use Rattle.mv_history.specs.declared.Step.{Step}
 use Rattle.mv_layout.specs.declared.Config.{Config}
-use Rattle.mv_core.specs.declared.view.View.{View}
+use Rattle.seat_log.specs.mv_core.declared.view.View.{View}
 use Rattle.seat_log.specs.Notes.{Noted}
 use Rattle.log_reclaim.specs.Rounds.{SweptSo}
 use Rattle.log_reclaim.proofs.MoreSteps.{scanned_then}

@@ -6,10 +6,10 @@ use Rattle.mv_history.specs.Trail.{clock_exchanges}
 use Rattle.mv_history.specs.declared.Step.{Step}
 use Rattle.mv_history.specs.declared.answers.Holder.{Holder}
 use Rattle.mv_layout.specs.declared.Config.{Config}
-use Rattle.mv_core.specs.declared.view.View.{View}
-use Rattle.mv_core.specs.Known.{Known}
-use Rattle.commit_clock.specs.Hears.{Hears}
-use Rattle.commit_clock.proofs.Hearing.{hears_one, hears_on}
+use Rattle.seat_log.specs.mv_core.declared.view.View.{View}
+use Rattle.seat_log.specs.mv_core.Known.{Known}
+use Rattle.seat_log.specs.commit_clock.Hears.{Hears}
+use Rattle.seat_log.proofs.commit_clock_lemmas.Hearing.{hears_one, hears_on}
 use Rattle.seat_log.specs.Notes.{Noted}
 use Rattle.seat_log.specs.Stands.{Stands}
 use Rattle.log_reclaim.specs.declared.settling.Found.{Found}

@@ -4,10 +4,10 @@ use Rattle.std.proofs.Common.{⊎_elim, arith, append_assoc, Option, Some, None,
 use Rattle.std.proofs.lemmas.List.Elements.{Contains-append_left, Contains-append_right}
 use Rattle.mv_history.specs.declared.Step.{Step}
 use Rattle.mv_layout.specs.declared.Config.{Config}
-use Rattle.mv_core.specs.declared.view.View.{View}
-use Rattle.mv_core.specs.Times.{latest, latest_at}
-use Rattle.mv_core.proofs.history.Fronts.{latest_at-more, latest-more}
-use Rattle.reader_marks.specs.declared.scanning.Watermark.{Watermark}
+use Rattle.seat_log.specs.mv_core.declared.view.View.{View}
+use Rattle.seat_log.specs.mv_core.Times.{latest, latest_at}
+use Rattle.seat_log.proofs.mv_core_lemmas.history.Fronts.{latest_at-more, latest-more}
+use Rattle.seat_log.specs.reader_marks.declared.scanning.Watermark.{Watermark}
 use Rattle.seat_log.specs.declared.version.Note.{Note}
 use Rattle.log_reclaim.specs.Parts.{Reclaims, super_load, super_step, FindsNewer, FindsAbove, TimesDeath}
 use Rattle.log_reclaim.specs.Untimed.{TriedSo, StaysUntimed, DatedSo}

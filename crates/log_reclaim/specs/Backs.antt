@@ -3,23 +3,23 @@ use Rattle.std.specs.Prelude.{◌≡◌, ◌≢◌, ℕ, ◌+◌, ◌-◌, ◌<�
 use Rattle.mv_history.specs.declared.Entry.{Entry}
 use Rattle.mv_layout.specs.declared.Config.{Config}
 use Rattle.mv_layout.specs.Words.{clock_time_of, link_of, link_seat_of}
-use Rattle.mv_core.specs.declared.ring.Slot.TheVariants.{Live}
-use Rattle.mv_core.specs.declared.ring.Version.{Version}
-use Rattle.mv_core.specs.declared.ring.Status.TheVariants.{Committed}
-use Rattle.mv_core.specs.declared.ring.CommitNote.{CommitNote}
-use Rattle.mv_core.specs.declared.view.View.{View}
-use Rattle.mv_core.specs.declared.view.Phase.TheVariants.{Inside}
-use Rattle.mv_core.specs.declared.view.Section.{Section}
-use Rattle.mv_core.specs.declared.view.Mode.TheVariants.{Open}
-use Rattle.mv_core.specs.Rings.{slot_at, index_of, HoldsNothing}
-use Rattle.mv_core.specs.SectionFacts.{IsPastHelp}
-use Rattle.mv_core.specs.EnterSteps.{IsWhole, mark_cleared}
-use Rattle.mv_core.specs.WalkSteps.{IsLinkOf, head_loaded}
-use Rattle.mv_core.specs.LockSteps.{death_loaded}
-use Rattle.mv_core.specs.Tops.{NamesNewer, IsNewer}
-use Rattle.mv_core.specs.ReclaimSteps.{GoesToWord, master_stored, head_cut, cut_lost}
-use Rattle.reader_marks.specs.declared.scanning.Watermark.{Watermark}
-use Rattle.reader_marks.specs.Sections.{Begins}
+use Rattle.seat_log.specs.mv_core.declared.ring.Slot.TheVariants.{Live}
+use Rattle.seat_log.specs.mv_core.declared.ring.Version.{Version}
+use Rattle.seat_log.specs.mv_core.declared.ring.Status.TheVariants.{Committed}
+use Rattle.seat_log.specs.mv_core.declared.ring.CommitNote.{CommitNote}
+use Rattle.seat_log.specs.mv_core.declared.view.View.{View}
+use Rattle.seat_log.specs.mv_core.declared.view.Phase.TheVariants.{Inside}
+use Rattle.seat_log.specs.mv_core.declared.view.Section.{Section}
+use Rattle.seat_log.specs.mv_core.declared.view.Mode.TheVariants.{Open}
+use Rattle.seat_log.specs.mv_core.Rings.{slot_at, index_of, HoldsNothing}
+use Rattle.seat_log.specs.mv_core.SectionFacts.{IsPastHelp}
+use Rattle.seat_log.specs.mv_core.EnterSteps.{IsWhole, mark_cleared}
+use Rattle.seat_log.specs.mv_core.WalkSteps.{IsLinkOf, head_loaded}
+use Rattle.seat_log.specs.mv_core.LockSteps.{death_loaded}
+use Rattle.seat_log.specs.mv_core.Tops.{NamesNewer, IsNewer}
+use Rattle.seat_log.specs.mv_core.ReclaimSteps.{GoesToWord, master_stored, head_cut, cut_lost}
+use Rattle.seat_log.specs.reader_marks.declared.scanning.Watermark.{Watermark}
+use Rattle.seat_log.specs.reader_marks.Sections.{Begins}
 use Rattle.seat_log.specs.declared.version.Note.{Note}
 use Rattle.seat_log.specs.Notes.{Noted, IsNoteAt, retired, back_noted}
 use Rattle.seat_log.specs.Stands.{Stands}

@@ -8,14 +8,14 @@ use Rattle.mv_history.specs.declared.answers.Holder.TheVariants.{Mark, Above, Fr
 use Rattle.mv_history.specs.State.{maker_of}
 use Rattle.mv_layout.specs.declared.Config.{Config}
 use Rattle.mv_layout.specs.Words.{clock_time_of}
-use Rattle.mv_core.specs.declared.ring.Slot.TheVariants.{Live}
-use Rattle.mv_core.specs.declared.ring.Version.{Version}
-use Rattle.mv_core.specs.declared.ring.Status.{Status}
-use Rattle.mv_core.specs.declared.ring.Status.TheVariants.{Held, Aborted, Committed}
-use Rattle.mv_core.specs.declared.view.View.{View}
-use Rattle.mv_core.specs.Rings.{slot_at, index_of}
-use Rattle.mv_core.specs.Times.{latest, IsEntry, IsNextIn}
-use Rattle.reader_marks.specs.Scans.{mark_step, scan_step}
+use Rattle.seat_log.specs.mv_core.declared.ring.Slot.TheVariants.{Live}
+use Rattle.seat_log.specs.mv_core.declared.ring.Version.{Version}
+use Rattle.seat_log.specs.mv_core.declared.ring.Status.{Status}
+use Rattle.seat_log.specs.mv_core.declared.ring.Status.TheVariants.{Held, Aborted, Committed}
+use Rattle.seat_log.specs.mv_core.declared.view.View.{View}
+use Rattle.seat_log.specs.mv_core.Rings.{slot_at, index_of}
+use Rattle.seat_log.specs.mv_core.Times.{latest, IsEntry, IsNextIn}
+use Rattle.seat_log.specs.reader_marks.Scans.{mark_step, scan_step}
 use Rattle.seat_log.specs.declared.version.Note.{Note}
 use Rattle.seat_log.specs.Notes.{Noted, IsNoteAt}
 use Rattle.seat_log.specs.Stands.{version_of}

@@ -8,15 +8,15 @@ use Rattle.mv_layout.specs.declared.Config.{Config}
 use Rattle.mv_layout.specs.declared.Place.TheVariants.{Grace, Head, Super}
 use Rattle.mv_layout.specs.Places.{place_of}
 use Rattle.mv_layout.specs.Words.{clock_time_of, link_seat_of}
-use Rattle.mv_core.specs.declared.view.View.{View}
-use Rattle.mv_core.specs.declared.view.Phase.TheVariants.{Outside}
-use Rattle.mv_core.specs.declared.view.Walk.TheVariants.{Nowhere}
-use Rattle.mv_core.specs.Rings.{index_of}
-use Rattle.mv_core.specs.HistoryFacts.{BeginsWith}
-use Rattle.mv_core.specs.Chains.{IsLater}
-use Rattle.mv_core.specs.Tops.{NamesNewer}
-use Rattle.reader_marks.specs.declared.scanning.Watermark.{Watermark}
-use Rattle.reader_marks.specs.Scans.{IsLowest, named_by, scan_steps}
+use Rattle.seat_log.specs.mv_core.declared.view.View.{View}
+use Rattle.seat_log.specs.mv_core.declared.view.Phase.TheVariants.{Outside}
+use Rattle.seat_log.specs.mv_core.declared.view.Walk.TheVariants.{Nowhere}
+use Rattle.seat_log.specs.mv_core.Rings.{index_of}
+use Rattle.seat_log.specs.mv_core.HistoryFacts.{BeginsWith}
+use Rattle.seat_log.specs.mv_core.Chains.{IsLater}
+use Rattle.seat_log.specs.mv_core.Tops.{NamesNewer}
+use Rattle.seat_log.specs.reader_marks.declared.scanning.Watermark.{Watermark}
+use Rattle.seat_log.specs.reader_marks.Scans.{IsLowest, named_by, scan_steps}
 use Rattle.seat_log.specs.declared.version.Note.{Note}
 use Rattle.seat_log.specs.Notes.{Noted, IsNoteAt}
 

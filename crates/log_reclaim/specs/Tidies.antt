@@ -10,11 +10,11 @@ use Rattle.mv_layout.specs.declared.Config.{Config}
 use Rattle.mv_layout.specs.declared.Place.TheVariants.{Clock}
 use Rattle.mv_layout.specs.Places.{place_of}
 use Rattle.mv_layout.specs.Words.{clock_time_of}
-use Rattle.mv_core.specs.declared.view.View.{View}
-use Rattle.mv_core.specs.Known.{Known}
-use Rattle.commit_clock.specs.Helps.{IsHelpStep}
-use Rattle.commit_clock.specs.Hears.{FindsUpTo, Hears}
-use Rattle.reader_marks.specs.declared.scanning.Watermark.{Watermark}
+use Rattle.seat_log.specs.mv_core.declared.view.View.{View}
+use Rattle.seat_log.specs.mv_core.Known.{Known}
+use Rattle.seat_log.specs.commit_clock.Helps.{IsHelpStep}
+use Rattle.seat_log.specs.commit_clock.Hears.{FindsUpTo, Hears}
+use Rattle.seat_log.specs.reader_marks.declared.scanning.Watermark.{Watermark}
 use Rattle.seat_log.specs.declared.version.Note.{Note}
 use Rattle.seat_log.specs.Notes.{Noted, IsNoteAt}
 use Rattle.seat_log.specs.Stands.{Stands}

@@ -2,9 +2,9 @@
 use Rattle.std.specs.Prelude.{◌≡◌, ◌⊎◌, ℕ, ◌+◌, ◌<◌, ◌≤◌, Bool, true, List, length, Contains, Option, Some, None}
 use Rattle.mv_history.specs.declared.Step.{Step}
 use Rattle.mv_layout.specs.declared.Config.{Config}
-use Rattle.mv_core.specs.declared.view.View.{View}
-use Rattle.mv_core.specs.Times.{latest, latest_at}
-use Rattle.reader_marks.specs.declared.scanning.Watermark.{Watermark}
+use Rattle.seat_log.specs.mv_core.declared.view.View.{View}
+use Rattle.seat_log.specs.mv_core.Times.{latest, latest_at}
+use Rattle.seat_log.specs.reader_marks.declared.scanning.Watermark.{Watermark}
 use Rattle.seat_log.specs.declared.version.Note.{Note}
 use Rattle.log_reclaim.specs.Parts.{super_load, super_step, FindsAbove, TimesDeath}
 

@@ -2,10 +2,10 @@
 ghost use Rattle.std.specs.Prelude.{◌≡◌, ◌≢◌, ℕ, ◌+◌, ◌*◌, ◌<◌, ◌≤◌, List, [], length, true, false, Some, None};
 ghost use Rattle.mv_history.specs.declared.Step.{Step};
 ghost use Rattle.mv_history.specs.Trail.{clock_exchanges};
-ghost use Rattle.mv_core.specs.EnterSteps.{MayLoadLow};
-ghost use Rattle.mv_core.specs.Passes.{view, IsOf, IsSame, config_of};
-ghost use Rattle.commit_clock.specs.Hears.{Hears};
-ghost use Rattle.reader_marks.specs.Scans.{IsKnown};
+ghost use Rattle.seat_log.specs.mv_core.EnterSteps.{MayLoadLow};
+ghost use Rattle.seat_log.specs.mv_core.Passes.{view, IsOf, IsSame, config_of};
+ghost use Rattle.seat_log.specs.commit_clock.Hears.{Hears};
+ghost use Rattle.seat_log.specs.reader_marks.Scans.{IsKnown};
 ghost use Rattle.seat_log.specs.declared.version.Note.{Note};
 ghost use Rattle.seat_log.specs.Notes.{IsNoteAt, IsLog};
 ghost use Rattle.seat_log.specs.Stands.{Stands};
@@ -17,10 +17,10 @@ ghost use Rattle.log_reclaim.specs.Holders.{RoundHolds, HeldSo};
 ghost use Rattle.log_reclaim.specs.Rounds.{FreesAll, FreesFirst, FreesBeforeScan, IsDue, by_mark_of, IsHolder, SweptSo, HasMade};
 
 use crate::settling::{Found, settle_all};
-use mv_core::{Pass, Shared, Steps};
 use mv_history::{Holder, Protocol};
 use mv_layout::LAST;
-use reader_marks::{Watermark, known, scan_clock};
+use seat_log::mv_core::{Pass, Shared, Steps};
+use seat_log::reader_marks::{Watermark, known, scan_clock};
 use seat_log::{Log, Note, free_oldest, live, note};
 use std::sync::ledger::Ledger;
 

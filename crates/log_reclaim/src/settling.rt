@@ -1,11 +1,11 @@
 // Finding out of each version without a time of death why it has none, with a write-back or without.
 ghost use Rattle.std.specs.Prelude.{◌≡◌, ℕ, ◌+◌, ◌*◌, ◌<◌, ◌≤◌, List, length, true, Option, IfSome};
 ghost use Rattle.mv_history.specs.declared.Step.{Step};
-ghost use Rattle.mv_core.specs.EnterSteps.{MayLoadLow};
-ghost use Rattle.mv_core.specs.Passes.{view, IsOf, IsSame, config_of};
-ghost use Rattle.mv_core.specs.ReclaimSteps.{FoundEmpty};
-ghost use Rattle.commit_clock.specs.Hears.{Hears};
-ghost use Rattle.reader_marks.specs.Scans.{IsKnown};
+ghost use Rattle.seat_log.specs.mv_core.EnterSteps.{MayLoadLow};
+ghost use Rattle.seat_log.specs.mv_core.Passes.{view, IsOf, IsSame, config_of};
+ghost use Rattle.seat_log.specs.mv_core.ReclaimSteps.{FoundEmpty};
+ghost use Rattle.seat_log.specs.commit_clock.Hears.{Hears};
+ghost use Rattle.seat_log.specs.reader_marks.Scans.{IsKnown};
 ghost use Rattle.seat_log.specs.declared.version.Note.{Note};
 ghost use Rattle.seat_log.specs.Notes.{IsNoteAt};
 ghost use Rattle.seat_log.specs.Stands.{Stands};
@@ -14,10 +14,10 @@ ghost use Rattle.log_reclaim.specs.Backs.{IsWriting};
 ghost use Rattle.log_reclaim.specs.Tries.{MaySettle, IsUntimed, StoresAll, TriesOne, LoadsSuper};
 
 use crate::writing_back::{Back, BackEnd, NoBack, back_word, finish_clock, start_clock};
-use mv_core::{Pass, Shared, Steps};
 use mv_history::Protocol;
 use mv_layout::WIDTH;
-use reader_marks::Watermark;
+use seat_log::mv_core::{Pass, Shared, Steps};
+use seat_log::reader_marks::Watermark;
 use seat_log::{Log, live, note, retire};
 use std::sync::ledger::Ledger;
 

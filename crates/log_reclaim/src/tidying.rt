@@ -3,8 +3,8 @@ ghost use Rattle.std.specs.Prelude.{◌≡◌, ℕ, ◌+◌, ◌*◌, ◌<◌, �
 ghost use Rattle.mv_history.specs.declared.answers.Holder.TheVariants.{Fresh};
 ghost use Rattle.mv_history.specs.declared.Step.{Step};
 ghost use Rattle.mv_history.specs.Trail.{clock_exchanges};
-ghost use Rattle.mv_core.specs.EnterSteps.{MayLoadLow};
-ghost use Rattle.mv_core.specs.Passes.{view, IsOf, IsSame, config_of};
+ghost use Rattle.seat_log.specs.mv_core.EnterSteps.{MayLoadLow};
+ghost use Rattle.seat_log.specs.mv_core.Passes.{view, IsOf, IsSame, config_of};
 ghost use Rattle.seat_log.specs.Stands.{Stands};
 ghost use Rattle.log_reclaim.specs.Parts.{Reclaims, Shrinks};
 ghost use Rattle.log_reclaim.specs.Holders.{TidyHolds, HeldSo};
@@ -13,11 +13,11 @@ ghost use Rattle.log_reclaim.specs.Tidies.{IsAnyAbove, RestsSo, RestsOnce, Rests
 
 use crate::rounds::{Tidy, free_all, holder, scan_and_free, sweep};
 use crate::settling::Found;
-use commit_clock::{Named, help, now, rest};
-use mv_core::{Pass, Shared, Steps};
 use mv_history::Protocol;
 use mv_layout::{LAST, clock_time};
-use reader_marks::known;
+use seat_log::commit_clock::{Named, help, now, rest};
+use seat_log::mv_core::{Pass, Shared, Steps};
+use seat_log::reader_marks::known;
 use seat_log::{Log, live, note, note_rest};
 use std::sync::ledger::Ledger;
 

@@ -1,13 +1,13 @@
 // Writing a version back into its object's master, and cutting its chain.
 ghost use Rattle.std.specs.Prelude.{◌≡◌, ◌≢◌, ◌+◌, ◌<◌, ◌≤◌, length, Err};
 ghost use Rattle.mv_layout.specs.Words.{IsLink, link_seat_of};
-ghost use Rattle.mv_core.specs.declared.view.View.{View};
-ghost use Rattle.mv_core.specs.EnterSteps.{MayLoadLow, mark_cleared};
-ghost use Rattle.mv_core.specs.LockSteps.{MayLoadDeath};
-ghost use Rattle.mv_core.specs.Passes.{view, IsOf, IsSame, config_of};
-ghost use Rattle.commit_clock.specs.Hears.{Hears};
-ghost use Rattle.reader_marks.specs.Scans.{IsKnown};
-ghost use Rattle.reader_marks.specs.Sections.{IsOpen};
+ghost use Rattle.seat_log.specs.mv_core.declared.view.View.{View};
+ghost use Rattle.seat_log.specs.mv_core.EnterSteps.{MayLoadLow, mark_cleared};
+ghost use Rattle.seat_log.specs.mv_core.LockSteps.{MayLoadDeath};
+ghost use Rattle.seat_log.specs.mv_core.Passes.{view, IsOf, IsSame, config_of};
+ghost use Rattle.seat_log.specs.commit_clock.Hears.{Hears};
+ghost use Rattle.seat_log.specs.reader_marks.Scans.{IsKnown};
+ghost use Rattle.seat_log.specs.reader_marks.Sections.{IsOpen};
 ghost use Rattle.seat_log.specs.declared.version.Note.{Note};
 ghost use Rattle.seat_log.specs.Notes.{retired, back_noted};
 ghost use Rattle.seat_log.specs.Stands.{Stands};
@@ -15,10 +15,10 @@ ghost use Rattle.log_reclaim.specs.declared.writing_back.NoBack.TheVariants.{You
 ghost use Rattle.log_reclaim.specs.declared.writing_back.BackEnd.TheVariants.{Cut};
 ghost use Rattle.log_reclaim.specs.Backs.{IsCommitted, IsWriting, StartsSo, StoresWord, CutsSo, FindsDeath, HasTimed, IsCutAt, FinishesSo};
 
-use mv_core::{Pass, Shared, Steps, Swap};
 use mv_history::{Protocol, Words};
 use mv_layout::{WIDTH, clock_time, link_seat, link_word};
-use reader_marks::{Watermark, enter_clock, leave};
+use seat_log::mv_core::{Pass, Shared, Steps, Swap};
+use seat_log::reader_marks::{Watermark, enter_clock, leave};
 use seat_log::{Log, note, note_cut, retire};
 use std::sync::ledger::Ledger;
 

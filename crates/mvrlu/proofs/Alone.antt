@@ -8,7 +8,7 @@ use Rattle.mv_history.specs.declared.Entry.TheVariants.{Rest}
 use Rattle.mv_history.specs.State.{State, Writes, maker_of}
 use Rattle.mv_history.specs.Meaning.{InSection, IsSection}
 use Rattle.mv_history.specs.Calls.{IsStale}
-use Rattle.mv_core.specs.Times.{IsEntry}
+use Rattle.object_lock.specs.mv_core.Times.{IsEntry}
 
 -- an entry that was seen is by a seat of the domain, if all are
 pub within_seats : (base : ℕ) (h : List Entry) (seats time : ℕ) (e : Entry) → All (λ x. maker_of x < seats) h → IsEntry base h time e

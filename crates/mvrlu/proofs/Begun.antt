@@ -7,21 +7,21 @@ use Rattle.mv_history.specs.declared.StepKind.TheVariants.{LoadLow, StoreMark, L
 use Rattle.mv_history.specs.Trail.{is_commit_exchange, commit_exchanges}
 use Rattle.mv_history.specs.Calls.{Enters}
 use Rattle.mv_layout.specs.declared.Config.{Config}
-use Rattle.mv_core.specs.declared.view.View.{View}
-use Rattle.mv_core.specs.declared.view.Section.{Section}
-use Rattle.mv_core.specs.Rings.{own_of, spare_count, writes_from, set_first}
-use Rattle.mv_core.specs.Views.{time_in}
-use Rattle.mv_core.specs.HistoryFacts.{BeginsWith}
-use Rattle.mv_core.specs.WalkSteps.{IsWalking}
-use Rattle.mv_core.proofs.history.Fronts.{begins_by}
-use Rattle.mv_core.proofs.kinds.entering.LoadTime.{holds_none}
-use Rattle.reader_marks.specs.Sections.{Begins, IsEnterStep}
-use Rattle.seat_log.specs.Notes.{Noted}
-use Rattle.seat_log.specs.Stands.{Stands}
-use Rattle.seat_log.proofs.PlainSteps.{stands_entered}
+use Rattle.object_lock.specs.mv_core.declared.view.View.{View}
+use Rattle.object_lock.specs.mv_core.declared.view.Section.{Section}
+use Rattle.object_lock.specs.mv_core.Rings.{own_of, spare_count, writes_from, set_first}
+use Rattle.object_lock.specs.mv_core.Views.{time_in}
+use Rattle.object_lock.specs.mv_core.HistoryFacts.{BeginsWith}
+use Rattle.object_lock.specs.mv_core.WalkSteps.{IsWalking}
+use Rattle.object_lock.proofs.mv_core_lemmas.history.Fronts.{begins_by}
+use Rattle.object_lock.proofs.mv_core_lemmas.kinds.entering.LoadTime.{holds_none}
+use Rattle.object_lock.specs.reader_marks.Sections.{Begins, IsEnterStep}
+use Rattle.object_lock.specs.seat_log.Notes.{Noted}
+use Rattle.object_lock.specs.seat_log.Stands.{Stands}
+use Rattle.object_lock.proofs.seat_log_lemmas.PlainSteps.{stands_entered}
 use Rattle.mv_history.specs.State.{State, Writes}
-use Rattle.mv_core.specs.Known.{Known}
-use Rattle.version_chain.specs.Walks.{inside_of, time_at, MayWalk}
+use Rattle.object_lock.specs.mv_core.Known.{Known}
+use Rattle.object_lock.specs.version_chain.Walks.{inside_of, time_at, MayWalk}
 use Rattle.mvrlu.specs.Placed.{Placed, seat_from, section_from, IsIdle, IsBusy}
 use Rattle.mvrlu.specs.Causes.{Took}
 use Rattle.mvrlu.proofs.Trails.{made, none_named}

@@ -12,17 +12,17 @@ use Rattle.mv_history.specs.Calls as calls
 use Rattle.mv_history.proofs.Histories.{slice_get_at}
 use Rattle.mv_layout.specs.declared.Config.{Config}
 use Rattle.mv_layout.specs.Words.{clock_time_of}
-use Rattle.mv_core.specs.declared.view.View.{View}
-use Rattle.mv_core.specs.declared.view.Past.{Past}
-use Rattle.mv_core.specs.Known.{Known}
-use Rattle.mv_core.specs.NameSteps.{commit_of}
-use Rattle.mv_core.specs.Rings.{own_of, spare_count}
-use Rattle.mv_core.specs.Times.{IsEntry}
-use Rattle.mv_core.specs.Views.{time_in}
-use Rattle.mv_core.specs.WalkSteps.{IsWalking}
-use Rattle.mv_core.proofs.history.Fronts.{begins_by}
-use Rattle.seat_log.specs.Stands.{Stands}
-use Rattle.version_chain.specs.Walks.{inside_of, section_in, MayWalk}
+use Rattle.object_lock.specs.mv_core.declared.view.View.{View}
+use Rattle.object_lock.specs.mv_core.declared.view.Past.{Past}
+use Rattle.object_lock.specs.mv_core.Known.{Known}
+use Rattle.object_lock.specs.mv_core.NameSteps.{commit_of}
+use Rattle.object_lock.specs.mv_core.Rings.{own_of, spare_count}
+use Rattle.object_lock.specs.mv_core.Times.{IsEntry}
+use Rattle.object_lock.specs.mv_core.Views.{time_in}
+use Rattle.object_lock.specs.mv_core.WalkSteps.{IsWalking}
+use Rattle.object_lock.proofs.mv_core_lemmas.history.Fronts.{begins_by}
+use Rattle.object_lock.specs.seat_log.Stands.{Stands}
+use Rattle.object_lock.specs.version_chain.Walks.{inside_of, section_in, MayWalk}
 use Rattle.object_lock.proofs.OwnNotes.{own_long}
 use Rattle.commit_abort.specs.Commits.{MayCommit, LoadsClock, Commits, IsKept, IsOvertakenBy, IsAtEnd}
 use Rattle.mvrlu.specs.Placed.{Placed, seat_from, section_from, IsIdle, IsBusy}

@@ -6,11 +6,11 @@ use Rattle.mv_history.specs.declared.Step.{Step}
 use Rattle.mv_history.specs.State.{State, Writes}
 use Rattle.mv_history.specs.Calls.{Continues}
 use Rattle.mv_layout.specs.declared.Config.{Config}
-use Rattle.mv_core.specs.HistoryFacts.{BeginsWith}
-use Rattle.mv_core.specs.Known.{Known}
-use Rattle.mv_core.specs.Passes.{home_of}
-use Rattle.seat_log.specs.Stands.{Stands}
-use Rattle.version_chain.specs.Walks.{MayWalk}
+use Rattle.object_lock.specs.mv_core.HistoryFacts.{BeginsWith}
+use Rattle.object_lock.specs.mv_core.Known.{Known}
+use Rattle.object_lock.specs.mv_core.Passes.{home_of}
+use Rattle.object_lock.specs.seat_log.Stands.{Stands}
+use Rattle.object_lock.specs.version_chain.Walks.{MayWalk}
 use Rattle.mvrlu.specs.Placed.{Placed, seat_from, IsPlaced, IsBusy}
 use Rattle.mvrlu.proofs.Trails.{kept}
 

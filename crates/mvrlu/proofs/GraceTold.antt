@@ -2,13 +2,13 @@
 use Rattle.std.proofs.Common.{◌≡◌, ℕ, ◌+◌, ◌≤◌, List, length, drop, sym, ap, subst, arith}
 use Rattle.mv_history.specs.State.{State, Writes}
 use Rattle.mv_history.specs.declared.Step.{Step}
-use Rattle.mv_core.specs.declared.view.View.{View}
-use Rattle.mv_core.specs.Known.{Known}
+use Rattle.object_lock.specs.mv_core.declared.view.View.{View}
+use Rattle.object_lock.specs.mv_core.Known.{Known}
 use Rattle.mv_layout.specs.declared.Config.{Config}
-use Rattle.seat_log.specs.Notes.{Noted}
-use Rattle.seat_log.specs.Stands.{Stands}
-use Rattle.reader_marks.specs.declared.scanning.Watermark.{Watermark}
-use Rattle.reader_marks.specs.Scans.{Scans, IsKnown}
+use Rattle.object_lock.specs.seat_log.Notes.{Noted}
+use Rattle.object_lock.specs.seat_log.Stands.{Stands}
+use Rattle.object_lock.specs.reader_marks.declared.scanning.Watermark.{Watermark}
+use Rattle.object_lock.specs.reader_marks.Scans.{Scans, IsKnown}
 use Rattle.log_reclaim.specs.Parts.{Reclaims}
 use Rattle.log_reclaim.proofs.Idle.{still_of}
 use Rattle.log_reclaim.proofs.ScanParts.{steps_of, scan_reclaims, scan_stands}

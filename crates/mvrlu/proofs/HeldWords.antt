@@ -6,11 +6,11 @@ use Rattle.mv_history.specs.State.{State, Writes}
 use Rattle.mv_history.specs.Meaning.{IsSection, Holds, snapshot_of, state_of, words_at}
 use Rattle.mv_history.proofs.Writing.{words-written_same}
 use Rattle.mv_history.proofs.Snapshots.{length-state_at}
-use Rattle.mv_core.specs.Rings.{own_of}
-use Rattle.seat_log.specs.declared.version.Note.{Note}
-use Rattle.seat_log.specs.Notes.{held_from, IsNoteAt}
+use Rattle.object_lock.specs.mv_core.Rings.{own_of}
+use Rattle.object_lock.specs.seat_log.declared.version.Note.{Note}
+use Rattle.object_lock.specs.seat_log.Notes.{held_from, IsNoteAt}
 use Rattle.object_lock.proofs.OwnNotes.{note_write, held_notes, own_is}
-use Rattle.seat_log.proofs.Places.{get_left}
+use Rattle.object_lock.proofs.seat_log_lemmas.Places.{get_left}
 use Rattle.object_lock.proofs.Locked.{noted_is}
 use Rattle.mvrlu.specs.Placed.{Placed, section_from, IsBusy}
 

@@ -16,24 +16,24 @@ use Rattle.mv_history.specs.Legal.{IsWords, AreWithin, AreWrites, AreApart, None
 use Rattle.mv_history.specs.Laws.{IsSeat-prop, IsSection-prop}
 use Rattle.mv_history.specs.Meaning.{IsSeat, IsSection}
 use Rattle.mv_layout.specs.declared.Config.{Config}
-use Rattle.mv_core.specs.declared.ring.Slot.TheVariants.{Live}
-use Rattle.mv_core.specs.declared.ring.Status.{Status}
-use Rattle.mv_core.specs.declared.ring.Status.TheVariants.{Held, Aborted, Committed}
-use Rattle.mv_core.specs.declared.view.View.{View}
-use Rattle.mv_core.specs.declared.view.Section.{Section}
-use Rattle.mv_core.specs.Rings.{slot_at, index_of, own_of}
-use Rattle.mv_core.specs.Times.{is_by, writes_to, latest, IsEntry}
-use Rattle.mv_core.specs.Views.{time_in, IsUnnamed}
-use Rattle.mv_core.specs.Known.{Known, KnownSection, KnownHeld}
-use Rattle.mv_core.proofs.logs.HeldSet.{slots_apart}
-use Rattle.mv_core.proofs.history.Latest.{last_that-reaches, latest-reaches}
-use Rattle.mv_core.proofs.logs.Written.{write_there}
-use Rattle.mv_core.proofs.kinds.naming.entry.NewEntry.{bool_is}
-use Rattle.seat_log.specs.declared.version.Note.{Note}
-use Rattle.seat_log.specs.Notes.{Noted, held_from}
-use Rattle.seat_log.proofs.Places.{get_dropped}
-use Rattle.seat_log.specs.Stands.{version_of, IsAsNoted, Stands}
-use Rattle.version_chain.specs.Walks.{section_in, time_at, MayWalk}
+use Rattle.object_lock.specs.mv_core.declared.ring.Slot.TheVariants.{Live}
+use Rattle.object_lock.specs.mv_core.declared.ring.Status.{Status}
+use Rattle.object_lock.specs.mv_core.declared.ring.Status.TheVariants.{Held, Aborted, Committed}
+use Rattle.object_lock.specs.mv_core.declared.view.View.{View}
+use Rattle.object_lock.specs.mv_core.declared.view.Section.{Section}
+use Rattle.object_lock.specs.mv_core.Rings.{slot_at, index_of, own_of}
+use Rattle.object_lock.specs.mv_core.Times.{is_by, writes_to, latest, IsEntry}
+use Rattle.object_lock.specs.mv_core.Views.{time_in, IsUnnamed}
+use Rattle.object_lock.specs.mv_core.Known.{Known, KnownSection, KnownHeld}
+use Rattle.object_lock.proofs.mv_core_lemmas.logs.HeldSet.{slots_apart}
+use Rattle.object_lock.proofs.mv_core_lemmas.history.Latest.{last_that-reaches, latest-reaches}
+use Rattle.object_lock.proofs.mv_core_lemmas.logs.Written.{write_there}
+use Rattle.object_lock.proofs.mv_core_lemmas.kinds.naming.entry.NewEntry.{bool_is}
+use Rattle.object_lock.specs.seat_log.declared.version.Note.{Note}
+use Rattle.object_lock.specs.seat_log.Notes.{Noted, held_from}
+use Rattle.object_lock.proofs.seat_log_lemmas.Places.{get_dropped}
+use Rattle.object_lock.specs.seat_log.Stands.{version_of, IsAsNoted, Stands}
+use Rattle.object_lock.specs.version_chain.Walks.{section_in, time_at, MayWalk}
 use Rattle.object_lock.proofs.OwnNotes.{note_write, held_notes, own_is, own_long}
 use Rattle.mvrlu.specs.Placed.{Placed, seat_from, section_from, IsPlaced, IsBusy}
 

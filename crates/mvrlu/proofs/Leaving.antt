@@ -6,9 +6,9 @@ use Rattle.mv_history.specs.declared.StepKind.TheVariants.{UnlockHead, LoadDeath
 use Rattle.mv_history.specs.State.{State, Writes}
 use Rattle.mv_history.specs.Trail.{is_clock_exchange, clock_exchanges}
 use Rattle.mv_history.specs.Calls.{Leaves}
-use Rattle.mv_core.specs.declared.view.View.{View}
-use Rattle.mv_core.specs.Known.{Known}
-use Rattle.seat_log.specs.Stands.{Stands}
+use Rattle.object_lock.specs.mv_core.declared.view.View.{View}
+use Rattle.object_lock.specs.mv_core.Known.{Known}
+use Rattle.object_lock.specs.seat_log.Stands.{Stands}
 use Rattle.commit_abort.specs.Aborts.{Aborts, IsAbortStep}
 use Rattle.mvrlu.specs.Placed.{Placed, seat_from, section_from, IsIdle, IsBusy}
 use Rattle.mvrlu.specs.Meant.{aborts_with}

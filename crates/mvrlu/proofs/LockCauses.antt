@@ -11,13 +11,13 @@ use Rattle.mv_history.specs.Meaning.{Lacks}
 use Rattle.mv_history.specs.Calls.{IsAsBefore, IsLogFull, IsStale}
 use Rattle.mv_history.specs.Calls.{IsSetFull as IsFullSection}
 use Rattle.mv_layout.specs.declared.Config.{Config}
-use Rattle.mv_core.specs.declared.view.View.{View}
-use Rattle.mv_core.specs.declared.view.Phase.{Phase}
-use Rattle.mv_core.specs.Passes.{home_of}
-use Rattle.mv_core.specs.Views.{time_in}
-use Rattle.mv_core.specs.Rings.{own_of, spare_count}
-use Rattle.mv_core.specs.Times.{IsEntry, writes_to}
-use Rattle.version_chain.specs.Walks.{inside_of, time_at}
+use Rattle.object_lock.specs.mv_core.declared.view.View.{View}
+use Rattle.object_lock.specs.mv_core.declared.view.Phase.{Phase}
+use Rattle.object_lock.specs.mv_core.Passes.{home_of}
+use Rattle.object_lock.specs.mv_core.Views.{time_in}
+use Rattle.object_lock.specs.mv_core.Rings.{own_of, spare_count}
+use Rattle.object_lock.specs.mv_core.Times.{IsEntry, writes_to}
+use Rattle.object_lock.specs.version_chain.Walks.{inside_of, time_at}
 use Rattle.object_lock.specs.Tops.{Tries}
 use Rattle.object_lock.specs.Locks.{AnswersWith, KeepsOwn, IsSetFull}
 use Rattle.mvrlu.specs.Placed.{Placed, section_from}

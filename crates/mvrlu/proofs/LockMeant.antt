@@ -11,12 +11,12 @@ use Rattle.mv_history.specs.Calls.{Continues, GoesOn, LocksWith}
 use Rattle.mv_history.proofs.Writing.{words-written_other}
 use Rattle.mv_history.proofs.Snapshots.{snapshot_of-later}
 use Rattle.mv_layout.specs.declared.Config.{Config}
-use Rattle.mv_core.specs.declared.view.View.{View}
-use Rattle.mv_core.specs.declared.view.Phase.{Phase}
-use Rattle.mv_core.specs.Views.{time_in}
-use Rattle.mv_core.specs.Rings.{own_of, spare_count}
-use Rattle.version_chain.specs.Walks.{inside_of, time_at}
-use Rattle.version_chain.specs.Reads.{words_in}
+use Rattle.object_lock.specs.mv_core.declared.view.View.{View}
+use Rattle.object_lock.specs.mv_core.declared.view.Phase.{Phase}
+use Rattle.object_lock.specs.mv_core.Views.{time_in}
+use Rattle.object_lock.specs.mv_core.Rings.{own_of, spare_count}
+use Rattle.object_lock.specs.version_chain.Walks.{inside_of, time_at}
+use Rattle.object_lock.specs.version_chain.Reads.{words_in}
 use Rattle.object_lock.specs.Tops.{Tries, IsLockStep}
 use Rattle.mvrlu.specs.Placed.{Placed, seat_from, section_from}
 use Rattle.mvrlu.proofs.Trails.{made, none_named}

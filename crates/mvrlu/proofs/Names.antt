@@ -3,11 +3,11 @@ use Rattle.std.proofs.Common.{◌≡◌, ◌<◌, ℕ, List, length, arith, sym,
 use Rattle.mv_history.specs.declared.Protocol.{Ghosts}
 use Rattle.mv_history.specs.State.{State, Writes}
 use Rattle.mv_layout.specs.declared.Config.{Config}
-use Rattle.mv_core.specs.declared.shared.Shared.{Shared}
-use Rattle.mv_core.specs.declared.shared.Pass.{Pass}
-use Rattle.mv_core.specs.Passes.{IsOf, IsSame, config_of, home_of, start_of, table_of}
-use Rattle.mv_core.proofs.Homes.{homes_apart}
-use Rattle.seat_log.specs.Notes.{Noted}
+use Rattle.object_lock.specs.mv_core.declared.shared.Shared.{Shared}
+use Rattle.object_lock.specs.mv_core.declared.shared.Pass.{Pass}
+use Rattle.object_lock.specs.mv_core.Passes.{IsOf, IsSame, config_of, home_of, start_of, table_of}
+use Rattle.object_lock.proofs.mv_core_lemmas.Homes.{homes_apart}
+use Rattle.object_lock.specs.seat_log.Notes.{Noted}
 use Rattle.mvrlu.specs.Placed.{Placed, placed, IsPlaced, Fits}
 
 module _ {P : Type 0} (s : Shared P) (p : Placed) (f : Fits s p) where

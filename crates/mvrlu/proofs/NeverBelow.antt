@@ -3,16 +3,16 @@ use Rattle.std.proofs.Common.{◌≡◌, ℕ, ◌+◌, ◌≤◌, max, nat_lt, B
 use Rattle.mv_history.specs.declared.Entry.{Entry}
 use Rattle.mv_history.specs.State.{State, Writes}
 use Rattle.mv_layout.specs.declared.Config.{Config}
-use Rattle.mv_core.specs.declared.view.View.{View}
-use Rattle.mv_core.specs.Views.{parts_of, set_at}
-use Rattle.mv_core.specs.SeatSteps.{made_one, newly_made, joined}
-use Rattle.mv_core.specs.ReclaimSteps.{other_from}
-use Rattle.mv_core.specs.Moves.{Moment, Kind, act, Move, steps, makes, joins}
-use Rattle.mv_core.specs.Moves.{stamp, lock_head, name_commit, name_rest, load_scan, load_mark, load_grace, raise_grace, cut_head}
-use Rattle.mv_core.specs.MoveLaws.{Holds}
-use Rattle.mv_core.proofs.frames.FrameLaw.{set_at_all}
-use Rattle.mv_core.proofs.frames.Watermarks.{lower_not_above}
-use Rattle.mv_core.proofs.moves.Moving.{moves_keep}
+use Rattle.object_lock.specs.mv_core.declared.view.View.{View}
+use Rattle.object_lock.specs.mv_core.Views.{parts_of, set_at}
+use Rattle.object_lock.specs.mv_core.SeatSteps.{made_one, newly_made, joined}
+use Rattle.object_lock.specs.mv_core.ReclaimSteps.{other_from}
+use Rattle.object_lock.specs.mv_core.Moves.{Moment, Kind, act, Move, steps, makes, joins}
+use Rattle.object_lock.specs.mv_core.Moves.{stamp, lock_head, name_commit, name_rest, load_scan, load_mark, load_grace, raise_grace, cut_head}
+use Rattle.object_lock.specs.mv_core.MoveLaws.{Holds}
+use Rattle.object_lock.proofs.mv_core_lemmas.frames.FrameLaw.{set_at_all}
+use Rattle.object_lock.proofs.mv_core_lemmas.frames.Watermarks.{lower_not_above}
+use Rattle.object_lock.proofs.mv_core_lemmas.moves.Moving.{moves_keep}
 use Rattle.mvrlu.specs.Grace.{IsSince, now, later, NeverBelow}
 
 -- an exchange that leaves the watermark where it is won, and where it is lost

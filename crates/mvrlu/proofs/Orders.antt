@@ -2,7 +2,7 @@
 use Rattle.std.proofs.Common.{◌≡◌, ℕ, zero, suc, ◌⊎◌, ◌+◌, List, [], ◌∷◌, ◌++◌, length, set, inl, inr, refl, sym, ap, ◌∙◌, subst, ⊎_elim, arith}
 use mathlib.Core.Option.{some}
 use lib.ListN.{get_elem?}
-use Rattle.mv_core.proofs.Terms.{some-injective}
+use Rattle.object_lock.proofs.mv_core_lemmas.Terms.{some-injective}
 use Rattle.mv_history.specs.Meaning.{Seat}
 use Rattle.mv_history.specs.State.{State}
 use Rattle.mv_history.specs.Calls.{Continues}

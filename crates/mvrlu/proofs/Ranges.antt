@@ -5,11 +5,11 @@ use Rattle.std.proofs.Props.{props}
 use Rattle.mv_history.specs.State.{State, Writes}
 use Rattle.mv_history.specs.Meaning.{state_of}
 use Rattle.mv_history.proofs.Snapshots.{length-state_of}
-use Rattle.mv_core.specs.declared.shared.Shared.{Shared}
-use Rattle.mv_core.specs.Passes.{start_of}
-use Rattle.mv_core.specs.Times.{last_own}
-use Rattle.mv_core.specs.Views.{IsUnnamed}
-use Rattle.version_chain.specs.Walks.{time_at, section_in}
+use Rattle.object_lock.specs.mv_core.declared.shared.Shared.{Shared}
+use Rattle.object_lock.specs.mv_core.Passes.{start_of}
+use Rattle.object_lock.specs.mv_core.Times.{last_own}
+use Rattle.object_lock.specs.mv_core.Views.{IsUnnamed}
+use Rattle.object_lock.specs.version_chain.Walks.{time_at, section_in}
 use Rattle.mvrlu.specs.Placed.{Placed, section_from, IsBusy}
 use Rattle.mvrlu.specs.Placed.{Fits}
 

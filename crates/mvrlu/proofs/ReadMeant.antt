@@ -8,18 +8,18 @@ use Rattle.mv_history.specs.declared.StepKind.TheVariants.{LoadHead, LoadFirst, 
 use Rattle.mv_history.specs.Trail.{is_commit_exchange, commit_exchanges}
 use Rattle.mv_history.specs.Calls.{Continues}
 use Rattle.mv_layout.specs.declared.Config.{Config}
-use Rattle.mv_core.specs.declared.view.View.{View}
-use Rattle.mv_core.specs.Views.{time_in}
-use Rattle.mv_core.specs.Rings.{own_of, spare_count}
-use Rattle.mv_core.specs.HistoryFacts.{BeginsWith}
+use Rattle.object_lock.specs.mv_core.declared.view.View.{View}
+use Rattle.object_lock.specs.mv_core.Views.{time_in}
+use Rattle.object_lock.specs.mv_core.Rings.{own_of, spare_count}
+use Rattle.object_lock.specs.mv_core.HistoryFacts.{BeginsWith}
 use Rattle.mv_history.specs.State.{State, Writes}
-use Rattle.mv_core.specs.Known.{Known}
-use Rattle.seat_log.specs.Stands.{Stands}
-use Rattle.seat_log.specs.Notes.{Noted}
-use Rattle.seat_log.proofs.PlainSteps.{LeavesLog, stands_left}
+use Rattle.object_lock.specs.mv_core.Known.{Known}
+use Rattle.object_lock.specs.seat_log.Stands.{Stands}
+use Rattle.object_lock.specs.seat_log.Notes.{Noted}
+use Rattle.object_lock.proofs.seat_log_lemmas.PlainSteps.{LeavesLog, stands_left}
 use Rattle.mvrlu.proofs.Continuing.{continues, busy_on}
-use Rattle.version_chain.specs.Walks.{Walks, IsWalkStep, inside_of, time_at, snapshot_length, MayWalk}
-use Rattle.version_chain.specs.Reads.{ReadsSome}
+use Rattle.object_lock.specs.version_chain.Walks.{Walks, IsWalkStep, inside_of, time_at, snapshot_length, MayWalk}
+use Rattle.object_lock.specs.version_chain.Reads.{ReadsSome}
 use Rattle.mvrlu.specs.Placed.{Placed, seat_from, section_from, IsBusy}
 use Rattle.mvrlu.specs.Bounds.{MakesAtMost}
 use Rattle.mvrlu.specs.Standing.{Stays}

@@ -8,19 +8,19 @@ use Rattle.mv_history.specs.State.{State, Writes}
 use Rattle.mv_history.specs.declared.Protocol.{Ghosts}
 use Rattle.mv_layout.specs.declared.Config.{Config}
 use Rattle.mv_layout.specs.Limits.{Checked}
-use Rattle.mv_core.specs.declared.ring.Slot.TheVariants.{Free}
-use Rattle.mv_core.specs.declared.view.View.{View}
-use Rattle.mv_core.specs.declared.shared.Shared.{Shared}
-use Rattle.mv_core.specs.declared.shared.Pass.{Pass}
-use Rattle.mv_core.specs.Rings.{is_spare, spare_count, empty_ring}
-use Rattle.mv_core.specs.Passes.{view, home_of, seat_meant, config_of, start_of, table_of, AreNew}
-use Rattle.mv_core.specs.Start.{starting_view}
-use Rattle.mv_core.specs.EnterSteps.{MayLoadLow}
-use Rattle.mv_core.specs.Known.{Known}
-use Rattle.mv_core.proofs.Terms.{some-injective}
-use Rattle.seat_log.specs.Notes.{Noted, nothing_noted}
-use Rattle.seat_log.specs.Stands.{Stands}
-use Rattle.seat_log.proofs.Beginning.{stands_new}
+use Rattle.object_lock.specs.mv_core.declared.ring.Slot.TheVariants.{Free}
+use Rattle.object_lock.specs.mv_core.declared.view.View.{View}
+use Rattle.object_lock.specs.mv_core.declared.shared.Shared.{Shared}
+use Rattle.object_lock.specs.mv_core.declared.shared.Pass.{Pass}
+use Rattle.object_lock.specs.mv_core.Rings.{is_spare, spare_count, empty_ring}
+use Rattle.object_lock.specs.mv_core.Passes.{view, home_of, seat_meant, config_of, start_of, table_of, AreNew}
+use Rattle.object_lock.specs.mv_core.Start.{starting_view}
+use Rattle.object_lock.specs.mv_core.EnterSteps.{MayLoadLow}
+use Rattle.object_lock.specs.mv_core.Known.{Known}
+use Rattle.object_lock.proofs.mv_core_lemmas.Terms.{some-injective}
+use Rattle.object_lock.specs.seat_log.Notes.{Noted, nothing_noted}
+use Rattle.object_lock.specs.seat_log.Stands.{Stands}
+use Rattle.object_lock.proofs.seat_log_lemmas.Beginning.{stands_new}
 use Rattle.mvrlu.specs.declared.domain.Seat.{Seat}
 use Rattle.mvrlu.specs.declared.opening.Ready.{Ready}
 use Rattle.mvrlu.specs.Opened.{new_seat, IsNewSeatOf}

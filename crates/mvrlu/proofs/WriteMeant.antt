@@ -5,10 +5,10 @@ use Rattle.mv_history.specs.Trail.{is_commit_exchange, commit_exchanges}
 use Rattle.mv_history.specs.State.{rewritten}
 use Rattle.mv_history.specs.Calls.{GoesOn, Rewrites}
 use Rattle.mv_layout.specs.declared.Config.{Config}
-use Rattle.mv_core.specs.declared.view.View.{View}
-use Rattle.mv_core.specs.Rings.{own_of, spare_count}
-use Rattle.mv_core.specs.Views.{time_in}
-use Rattle.version_chain.specs.Walks.{inside_of}
+use Rattle.object_lock.specs.mv_core.declared.view.View.{View}
+use Rattle.object_lock.specs.mv_core.Rings.{own_of, spare_count}
+use Rattle.object_lock.specs.mv_core.Views.{time_in}
+use Rattle.object_lock.specs.version_chain.Walks.{inside_of}
 use Rattle.object_lock.specs.Writes.{Stores}
 use Rattle.mvrlu.specs.Placed.{Placed, section_from}
 use Rattle.mvrlu.proofs.Trails.{made, none_named}

@@ -6,7 +6,7 @@ use Rattle.mv_history.specs.Meaning.{Seat, InSection}
 use Rattle.mv_history.specs.Calls.{call_trail}
 use Rattle.mv_layout.specs.declared.Config.{Config}
 use Rattle.mv_layout.specs.Words.{clock_time_of}
-use Rattle.mv_core.specs.Passes.{home_of}
+use Rattle.object_lock.specs.mv_core.Passes.{home_of}
 use Rattle.object_lock.specs.Tops.{FoundHeld}
 
 -- a load of CLOCK in the call gave the section its time

@@ -3,13 +3,13 @@ use Rattle.std.specs.Prelude.{◌≡◌, ℕ, ◌+◌, ◌≤◌, List, length}
 use Rattle.mv_history.specs.State.{State, Writes}
 use Rattle.mv_history.specs.Calls.{Prepares}
 use Rattle.mv_layout.specs.declared.Config.{Config}
-use Rattle.mv_core.specs.declared.view.View.{View}
-use Rattle.mv_core.specs.Times.{NotAboveAny}
-use Rattle.mv_core.specs.Views.{parts_of}
-use Rattle.mv_core.specs.Moves.{Moment, Moves}
-use Rattle.mv_core.specs.MoveLaws.{Holds}
-use Rattle.reader_marks.specs.declared.scanning.Watermark.{Watermark}
-use Rattle.reader_marks.specs.Scans.{Scans}
+use Rattle.object_lock.specs.mv_core.declared.view.View.{View}
+use Rattle.object_lock.specs.mv_core.Times.{NotAboveAny}
+use Rattle.object_lock.specs.mv_core.Views.{parts_of}
+use Rattle.object_lock.specs.mv_core.Moves.{Moment, Moves}
+use Rattle.object_lock.specs.mv_core.MoveLaws.{Holds}
+use Rattle.object_lock.specs.reader_marks.declared.scanning.Watermark.{Watermark}
+use Rattle.object_lock.specs.reader_marks.Scans.{Scans}
 use Rattle.mvrlu.specs.Placed.{Placed, seat_from}
 use Rattle.mvrlu.specs.Holding.{steps_between}
 

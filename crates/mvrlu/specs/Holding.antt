@@ -9,7 +9,7 @@ use Rattle.mv_history.specs.State.{State, Writes}
 use Rattle.mv_history.specs.Meaning.{Seat}
 use Rattle.mv_history.specs.Trail.{clock_exchanges}
 use Rattle.mv_history.specs.Calls.{call_trail, Prepares}
-use Rattle.seat_log.specs.Stands.{is_free, is_won_cut, is_won_lock, aborts_in, writes_in}
+use Rattle.object_lock.specs.seat_log.Stands.{is_free, is_won_cut, is_won_lock, aborts_in, writes_in}
 use Rattle.log_reclaim.specs.Parts.{Shrinks}
 use Rattle.log_reclaim.specs.Holders.{TidyHolds, RoundHolds, HeldSo}
 use Rattle.log_reclaim.specs.Rounds.{FreesFirst, SweptSo}

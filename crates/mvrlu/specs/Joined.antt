@@ -3,9 +3,9 @@ use Rattle.std.specs.Prelude.{◌≡◌, ◌⊎◌, ◌+◌, List, ◌++◌, len
 use Rattle.mv_history.specs.declared.Step.{Step}
 use Rattle.mv_history.specs.declared.StepKind.TheVariants.{JoinSeat}
 use Rattle.mv_history.specs.Meaning as history
-use Rattle.mv_core.specs.declared.view.View.{View}
-use Rattle.mv_core.specs.declared.view.Note.{Note}
-use Rattle.mv_core.specs.HistoryFacts.{BeginsWith}
+use Rattle.object_lock.specs.mv_core.declared.view.View.{View}
+use Rattle.object_lock.specs.mv_core.declared.view.Note.{Note}
+use Rattle.object_lock.specs.mv_core.HistoryFacts.{BeginsWith}
 use Rattle.mvrlu.specs.declared.domain.Seat.{Seat}
 use Rattle.mvrlu.specs.Meant.{seat_of}
 

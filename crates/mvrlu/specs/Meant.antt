@@ -6,7 +6,7 @@ use Rattle.mv_history.specs.State.{State, Writes}
 use Rattle.mv_history.specs.Meaning.{InSection}
 use Rattle.mv_history.specs.Meaning as history
 use Rattle.mv_layout.specs.declared.Config.{Config}
-use Rattle.mv_core.specs.Passes.{home_of, config_of, start_of, table_of}
+use Rattle.object_lock.specs.mv_core.Passes.{home_of, config_of, start_of, table_of}
 use Rattle.mvrlu.specs.Placed.{Placed, seat_from, section_from}
 use Rattle.mvrlu.specs.Whole.{Whole}
 use Rattle.mvrlu.specs.declared.closing.Closing.{Closing}

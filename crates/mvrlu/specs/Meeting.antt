@@ -7,7 +7,7 @@ use Rattle.mv_history.specs.declared.Step.{Step}
 use Rattle.mv_history.specs.State.{State, Writes, maker_of, commits_of, rests_of}
 use Rattle.mv_history.specs.Legal.{IsLegal, IsAllowed}
 use Rattle.mv_history.specs.declared.history.TheConstants.{LAST}
-use Rattle.mv_core.specs.HistoryFacts.{BeginsWith}
+use Rattle.object_lock.specs.mv_core.HistoryFacts.{BeginsWith}
 use Rattle.mvrlu.specs.declared.domain.Domain.{Domain}
 use Rattle.mvrlu.specs.declared.domain.Seat.{Seat}
 use Rattle.mvrlu.specs.Meant.{numbers_of, seat_of, IsSeatOf}

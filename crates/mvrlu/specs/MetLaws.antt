@@ -11,7 +11,7 @@ use Rattle.mv_history.specs.declared.StepKind.{StepKind}
 use Rattle.mv_history.specs.declared.StepKind.TheVariants.{LoadJoined}
 use Rattle.mv_history.specs.Meaning.{Seat}
 use Rattle.mv_layout.specs.declared.Config.{Config}
-use Rattle.reader_marks.specs.Sections.{IsEnterStep}
+use Rattle.object_lock.specs.reader_marks.Sections.{IsEnterStep}
 use Rattle.mvrlu.specs.MetSeats.{MetSeat, met_seat, IsLookStep, MeetsBy}
 use Rattle.mvrlu.specs.Whole.{Whole, IsStill, IsLeftSeat, IsMetSeat, AreApart, TellsTrails}
 

@@ -6,9 +6,9 @@ use Rattle.mv_history.specs.declared.Step.{Step}
 use Rattle.mv_history.specs.declared.StepKind.{StepKind}
 use Rattle.mv_history.specs.declared.StepKind.TheVariants.{JoinSeat, LoadJoined, LoadData, LoadMaster}
 use Rattle.mv_history.specs.Meaning.{Seat}
-use Rattle.mv_core.specs.declared.view.Note.{Note}
-use Rattle.reader_marks.specs.Sections.{IsEnterStep}
-use Rattle.version_chain.specs.Walks.{IsWalkStep}
+use Rattle.object_lock.specs.mv_core.declared.view.Note.{Note}
+use Rattle.object_lock.specs.reader_marks.Sections.{IsEnterStep}
+use Rattle.object_lock.specs.version_chain.Walks.{IsWalkStep}
 
 -- a seat as it was when it met: its number, what it had seen, its commits and rests, and its steps
 pub record MetSeat : Type 0 where

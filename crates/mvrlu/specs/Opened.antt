@@ -7,10 +7,10 @@ use Rattle.mv_history.specs.Meaning as history
 use Rattle.mv_history.specs.declared.history.TheConstants.{LAST}
 use Rattle.mv_layout.specs.declared.Config.{Config}
 use Rattle.mv_layout.specs.Limits.{Checked, FirstUnfit}
-use Rattle.mv_core.specs.declared.shared.Shared.{Shared}
-use Rattle.mv_core.specs.Passes.{home_of, config_of, start_of, table_of}
-use Rattle.mv_core.specs.Start.{starting_view}
-use Rattle.seat_log.specs.Notes.{nothing_noted}
+use Rattle.object_lock.specs.mv_core.declared.shared.Shared.{Shared}
+use Rattle.object_lock.specs.mv_core.Passes.{home_of, config_of, start_of, table_of}
+use Rattle.object_lock.specs.mv_core.Start.{starting_view}
+use Rattle.object_lock.specs.seat_log.Notes.{nothing_noted}
 use Rattle.mvrlu.specs.declared.domain.Domain.{Domain}
 use Rattle.mvrlu.specs.declared.domain.Seat.{Seat}
 use Rattle.mvrlu.specs.declared.opening.OpenFault.{OpenFault}

@@ -5,16 +5,16 @@ use Rattle.mv_history.specs.State.{State, Writes}
 use Rattle.mv_history.specs.Meaning.{Seat, InSection}
 use Rattle.mv_history.specs.declared.Protocol.{Ghosts}
 use Rattle.mv_layout.specs.declared.Config.{Config}
-use Rattle.mv_core.specs.declared.view.View.{View}
-use Rattle.mv_core.specs.Rings.{own_of}
-use Rattle.mv_core.specs.Known.{Known}
-use Rattle.mv_core.specs.declared.shared.Shared.{Shared}
-use Rattle.mv_core.specs.declared.shared.Pass.{Pass}
-use Rattle.mv_core.specs.Passes.{view, home_of, seat_meant, config_of, start_of, table_of, table_under}
-use Rattle.mv_core.specs.EnterSteps.{MayLoadLow}
-use Rattle.seat_log.specs.Notes.{Noted}
-use Rattle.seat_log.specs.Stands.{Stands}
-use Rattle.version_chain.specs.Walks.{time_at, MayWalk}
+use Rattle.object_lock.specs.mv_core.declared.view.View.{View}
+use Rattle.object_lock.specs.mv_core.Rings.{own_of}
+use Rattle.object_lock.specs.mv_core.Known.{Known}
+use Rattle.object_lock.specs.mv_core.declared.shared.Shared.{Shared}
+use Rattle.object_lock.specs.mv_core.declared.shared.Pass.{Pass}
+use Rattle.object_lock.specs.mv_core.Passes.{view, home_of, seat_meant, config_of, start_of, table_of, table_under}
+use Rattle.object_lock.specs.mv_core.EnterSteps.{MayLoadLow}
+use Rattle.object_lock.specs.seat_log.Notes.{Noted}
+use Rattle.object_lock.specs.seat_log.Stands.{Stands}
+use Rattle.object_lock.specs.version_chain.Walks.{time_at, MayWalk}
 
 -- a seat's pass and its log, in a domain of these numbers: what the pass knows, and what the log has noted
 pub record Placed : Type 0 where

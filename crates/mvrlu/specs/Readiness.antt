@@ -3,11 +3,11 @@ use Rattle.std.specs.Prelude.{◌≡◌, ℕ, ◌+◌, List}
 use mathlib.Core.Option.{some}
 use lib.ListN.{get_elem?}
 use Rattle.mv_history.specs.declared.Protocol.{Ghosts}
-use Rattle.mv_core.specs.declared.shared.Shared.{Shared}
-use Rattle.mv_core.specs.declared.shared.Pass.{Pass}
-use Rattle.mv_core.specs.Passes.{view, IsOf, config_of, start_of}
-use Rattle.mv_core.specs.Start.{starting_view}
-use Rattle.seat_log.specs.Notes.{nothing_noted}
+use Rattle.object_lock.specs.mv_core.declared.shared.Shared.{Shared}
+use Rattle.object_lock.specs.mv_core.declared.shared.Pass.{Pass}
+use Rattle.object_lock.specs.mv_core.Passes.{view, IsOf, config_of, start_of}
+use Rattle.object_lock.specs.mv_core.Start.{starting_view}
+use Rattle.object_lock.specs.seat_log.Notes.{nothing_noted}
 use Rattle.mvrlu.specs.declared.domain.Seat.{Seat}
 use Rattle.mvrlu.specs.declared.opening.Ready.{Ready}
 use Rattle.mvrlu.specs.Opened.{IsNewSeatOf}

@@ -8,12 +8,12 @@ use Rattle.mv_history.specs.Legal.{AreWords, IsLegal}
 use Rattle.mv_history.specs.Meaning.{Seat}
 use Rattle.mv_history.specs.declared.history.TheConstants.{LAST}
 use Rattle.mv_layout.specs.declared.Config.{Config}
-use Rattle.mv_core.specs.declared.view.View.{View}
-use Rattle.mv_core.specs.declared.shared.Shared.{Shared}
-use Rattle.mv_core.specs.declared.shared.Pass.{Pass}
+use Rattle.object_lock.specs.mv_core.declared.view.View.{View}
+use Rattle.object_lock.specs.mv_core.declared.shared.Shared.{Shared}
+use Rattle.object_lock.specs.mv_core.declared.shared.Pass.{Pass}
 use Rattle.mv_history.specs.declared.Protocol.{Ghosts}
-use Rattle.mv_core.specs.Passes.{view, IsOf}
-use Rattle.version_chain.specs.Walks.{time_at, MayWalk}
+use Rattle.object_lock.specs.mv_core.Passes.{view, IsOf}
+use Rattle.object_lock.specs.version_chain.Walks.{time_at, MayWalk}
 use Rattle.mvrlu.specs.MetSeats.{MetSeat, met_seat, noted_seat, IsLookStep, MeetsBy}
 
 -- The numbers with which the domain was opened, its opening state with its printed time, its history, the number and the steps of the seat that

@@ -4,11 +4,11 @@ ghost use Rattle.mv_history.specs.Meaning.{words_at};
 ghost use Rattle.mvrlu.specs.Whole.{IsSound, IsStill, last_state};
 ghost use Rattle.mvrlu.specs.WholeLaws.{IsSound-prop};
 
-use mv_core::{Pass, Shared, Steps};
 use mv_history::{LogTable, Protocol, View, Words};
+use object_lock::mv_core::{Pass, Shared, Steps};
+use object_lock::version_chain::{Found, find, read_master, read_version};
 use std::marker::{Brand, Model};
 use std::sync::ledger::{Blank, Ledger};
-use version_chain::{Found, find, read_master, read_version};
 
 /// The shared words of a domain, the one pass that is left of it, in a section that reads the whole
 /// history, and the tables of the seats that met. Clauses see them as `Whole`.
@@ -20,7 +20,7 @@ pub(crate) struct Last<P: Protocol> {
 }
 
 impl<P: Protocol> Model for Last<P> {
-    ghost use Rattle.mv_core.specs.Passes.{view as knows, config_of};
+    ghost use Rattle.object_lock.specs.mv_core.Passes.{view as knows, config_of};
     ghost use Rattle.mvrlu.specs.Whole.{Whole, whole_from, IsReading};
 
     ghost Value = { Whole };

@@ -1,13 +1,13 @@
 // A domain, and its seats.
 ghost use Rattle.std.specs.Prelude.{◌≡◌, ◌≤◌, length, vec_capacity};
-ghost use Rattle.mv_core.specs.Passes.{config_of};
+ghost use Rattle.object_lock.specs.mv_core.Passes.{config_of};
 ghost use Rattle.mv_history.specs.Laws.{IsSeat-prop};
 ghost use Rattle.mv_history.specs.Meaning.{IsSeat};
 ghost use Rattle.mvrlu.specs.Placed.{seat_from};
 
 use crate::places::Idle;
-use mv_core::Shared;
 use mv_history::{LogTable, Protocol};
+use object_lock::mv_core::Shared;
 
 /// The shared words of a domain: its opening objects, the logs and marks of its seats, and the commit
 /// clock. It owns their memory, and gives it back when it is let go.

@@ -14,8 +14,8 @@ ghost use Rattle.mvrlu.specs.Holding.{seats_of};
 
 use crate::places::{Busy, Idle, Place};
 use commit_abort::{Ended, abort, commit};
-use mv_core::{Shared, Steps};
 use mv_history::{CommitAnswer, Protocol, Tag};
+use object_lock::mv_core::{Shared, Steps};
 use std::sync::ledger::{Blank, Ledger};
 
 // Tries to commit what is held.

@@ -7,9 +7,9 @@ ghost use Rattle.mvrlu.specs.Causes.{Took};
 ghost use Rattle.mvrlu.specs.Bounds.{MakesAtMost};
 
 use crate::places::{Busy, Idle};
-use mv_core::{Shared, Steps};
 use mv_history::Protocol;
-use reader_marks::enter;
+use object_lock::mv_core::{Shared, Steps};
+use object_lock::reader_marks::enter;
 use std::sync::ledger::{Blank, Ledger};
 
 // Begins a section.

@@ -6,9 +6,9 @@ ghost use Rattle.mvrlu.specs.Grace.{TellsGrace};
 
 use crate::handle::Handle;
 use crate::places::{Idle, Place};
-use mv_core::{Shared, Steps};
 use mv_history::Protocol;
-use reader_marks::scan;
+use object_lock::mv_core::{Shared, Steps};
+use object_lock::reader_marks::scan;
 use std::marker::Brand;
 use std::sync::ledger::{Blank, Ledger};
 

@@ -4,8 +4,8 @@ ghost use Rattle.mv_history.specs.State.{touches, maker_of};
 ghost use Rattle.mv_history.specs.Meaning.{IsSection, state_of, words_at, Holds, Lacks};
 ghost use Rattle.mv_history.specs.Calls.{GoesOn, IsAsBefore, IsSetFull, IsLogFull, LocksWith, Rewrites, IsStale};
 ghost use Rattle.mv_history.specs.declared.answers.LockAnswer.TheVariants.{Held, Busy as IsTaken, Stale, SetFull, LogFull};
-ghost use Rattle.mv_core.specs.Passes.{start_of};
-ghost use Rattle.seat_log.specs.Notes.{held_from, IsNoteAt};
+ghost use Rattle.object_lock.specs.mv_core.Passes.{start_of};
+ghost use Rattle.object_lock.specs.seat_log.Notes.{held_from, IsNoteAt};
 ghost use Rattle.object_lock.specs.Locks.{HoldsObject, most_to_lock};
 ghost use Rattle.mvrlu.specs.Placed.{section_from, Fits};
 ghost use Rattle.mvrlu.specs.Causes.{FoundLocked};
@@ -13,10 +13,10 @@ ghost use Rattle.mvrlu.specs.Bounds.{MakesAtMost};
 ghost use Rattle.mvrlu.specs.Holding.{seats_of};
 
 use crate::places::{Busy, Place};
-use mv_core::{Shared, Steps};
 use mv_history::{LockAnswer, Protocol, Words};
+use object_lock::mv_core::{Shared, Steps};
+use object_lock::seat_log::{Log, Note, held, live, note};
 use object_lock::{lock_new, write};
-use seat_log::{Log, Note, held, live, note};
 use std::sync::ledger::{Blank, Ledger};
 
 // The note of the section's version of an object, if it holds the object.

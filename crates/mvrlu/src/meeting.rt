@@ -1,7 +1,7 @@
 // Meeting: all seats of a domain are joined, and its history is known whole.
 ghost use Rattle.std.specs.Prelude.{◌≡◌, ◌+◌, ◌<◌, ◌≤◌, [], length, map, All, vec_capacity};
-ghost use Rattle.mv_core.specs.EnterSteps.{MayLoadLow};
-ghost use Rattle.mv_core.specs.Passes.{view, IsOf};
+ghost use Rattle.object_lock.specs.mv_core.EnterSteps.{MayLoadLow};
+ghost use Rattle.object_lock.specs.mv_core.Passes.{view, IsOf};
 ghost use Rattle.mvrlu.specs.Holding.{AreTablesOf};
 ghost use Rattle.mvrlu.specs.Joined.{AreJoining};
 ghost use Rattle.mvrlu.specs.Meant.{numbers_of, opening_of, seat_of, whole_of};
@@ -12,9 +12,9 @@ ghost use Rattle.mvrlu.specs.Whole.{IsSound, AreApart, TellsTrails};
 use crate::closing::{Closing, Last};
 use crate::domain::{Domain, Seat};
 use crate::places::{Idle, Place};
-use mv_core::{Pass, Shared, Steps};
 use mv_history::{LogTable, Protocol};
-use reader_marks::enter;
+use object_lock::mv_core::{Pass, Shared, Steps};
+use object_lock::reader_marks::enter;
 use std::boxed::Box;
 use std::marker::Brand;
 use std::sync::ledger::{Blank, Ledger};

@@ -1,17 +1,17 @@
 // Opening a domain, with a seat for each thread.
 ghost use Rattle.std.specs.Prelude.{◌≡◌, ◌+◌, ◌≤◌, [], length, IfOk, IfErr, vec_len, vec_capacity};
 ghost use Rattle.mv_layout.specs.Limits.{Checked};
-ghost use Rattle.mv_core.specs.Passes.{IsOf, AreNew, config_of, start_of};
-ghost use Rattle.mv_core.specs.Start.{zero_state};
+ghost use Rattle.object_lock.specs.mv_core.Passes.{IsOf, AreNew, config_of, start_of};
+ghost use Rattle.object_lock.specs.mv_core.Start.{zero_state};
 ghost use Rattle.mvrlu.specs.Opened.{IsNewSeatOf, IsOpened, Refuses};
 ghost use Rattle.mvrlu.specs.Readiness.{IsReady, AreReady, AreSeats};
 
 use crate::domain::{Domain, Seat};
 use crate::places::{Idle, Place};
-use mv_core::{Pass, Shared};
 use mv_history::{Protocol, Words};
 use mv_layout::{Config, ConfigFault};
-use seat_log::new_log;
+use object_lock::mv_core::{Pass, Shared};
+use object_lock::seat_log::new_log;
 use std::alloc::{AllocError, Global};
 use std::boxed::Box;
 

@@ -2,20 +2,20 @@
 ghost use Rattle.std.specs.Prelude.{◌≡◌, ◌+◌, ◌<◌, length, slice_index_or};
 ghost use Rattle.mv_history.specs.Meaning.{IsSection, snapshot_of, state_of, words_at};
 ghost use Rattle.mv_history.specs.Fours.{four_from};
-ghost use Rattle.mv_core.specs.Passes.{start_of};
+ghost use Rattle.object_lock.specs.mv_core.Passes.{start_of};
 ghost use Rattle.mvrlu.specs.Placed.{section_from, Fits};
 ghost use Rattle.mvrlu.specs.Standing.{Stays};
 ghost use Rattle.mvrlu.specs.Bounds.{MakesAtMost, read_most, pair_most, four_most};
 
 use crate::holding::held_words;
 use crate::places::Busy;
-use mv_core::{Shared, Steps};
 use mv_history::{Protocol, Words};
-use std::sync::ledger::{Blank, Ledger};
-use version_chain::{
+use object_lock::mv_core::{Shared, Steps};
+use object_lock::version_chain::{
     find_at, read_master, read_master_four, read_master_pair, read_version_at,
     read_version_four_at, read_version_pair_at,
 };
+use std::sync::ledger::{Blank, Ledger};
 
 // The words of an object in the section's snapshot.
 #[inline(always)]

@@ -10,9 +10,9 @@ ghost use Rattle.mvrlu.specs.Holding.{seats_of, IsEarly, HoldsBack, HoldsSeat, T
 
 use crate::places::{Idle, Place};
 use log_reclaim::{Tidy, round, tidy};
-use mv_core::{Shared, Steps};
 use mv_history::{Protocol, Room};
-use seat_log::live;
+use object_lock::mv_core::{Shared, Steps};
+use object_lock::seat_log::live;
 use std::sync::ledger::{Blank, Ledger};
 
 // Reclaims what it can.

@@ -6,7 +6,7 @@ use Rattle.std.proofs.lemmas.List.Elements.{All-nil, All-cons, All-append}
 use Rattle.mv_history.specs.declared.Step.{Step}
 use Rattle.mv_layout.specs.declared.Config.{Config}
 use Rattle.mv_layout.specs.Words.{unset_of}
-use Rattle.mv_core.specs.declared.view.View.{View}
+use Rattle.seat_log.specs.mv_core.declared.view.View.{View}
 use Rattle.seat_log.specs.Builds.{stored_next, words_stored, begun, linked, slot_built, build_cost}
 use Rattle.object_lock.specs.Tops.{lock_exchanges}
 use Rattle.object_lock.proofs.Exchanged.{exchanged_on}

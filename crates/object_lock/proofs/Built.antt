@@ -3,13 +3,13 @@ use Rattle.std.proofs.Common.{◌≡◌, ℕ, ◌+◌, ◌<◌, ◌≤◌, ◌==
 use Rattle.std.proofs.Common.{ap, ◌∙◌, subst, ⊎_elim, inl, inr, arith, Option, Some, None}
 use Rattle.mv_history.specs.declared.answers.LockAnswer.{LockAnswer}
 use Rattle.mv_layout.specs.declared.Config.{Config}
-use Rattle.mv_core.specs.declared.view.View.{View}
-use Rattle.mv_core.specs.declared.view.Passed.TheVariants.{Nothing}
-use Rattle.mv_core.specs.declared.view.Walk.TheVariants as place
-use Rattle.mv_core.specs.Times.{words_of}
-use Rattle.mv_core.specs.Views.{time_in}
-use Rattle.mv_core.specs.LockSteps.{StandsToLock, lock_lost}
-use Rattle.mv_core.proofs.kinds.walking.WalkOn.{at_zero}
+use Rattle.seat_log.specs.mv_core.declared.view.View.{View}
+use Rattle.seat_log.specs.mv_core.declared.view.Passed.TheVariants.{Nothing}
+use Rattle.seat_log.specs.mv_core.declared.view.Walk.TheVariants as place
+use Rattle.seat_log.specs.mv_core.Times.{words_of}
+use Rattle.seat_log.specs.mv_core.Views.{time_in}
+use Rattle.seat_log.specs.mv_core.LockSteps.{StandsToLock, lock_lost}
+use Rattle.seat_log.proofs.mv_core_lemmas.kinds.walking.WalkOn.{at_zero}
 use Rattle.seat_log.specs.Notes.{Noted, next_of, first_of, next_note, built_noted}
 use Rattle.seat_log.specs.Stands.{Stands}
 use Rattle.seat_log.specs.Builds.{slot_built, build_cost}

@@ -10,20 +10,20 @@ use Rattle.mv_layout.specs.declared.Config.{Config}
 use Rattle.mv_layout.specs.declared.Place.TheVariants.{Head}
 use Rattle.mv_layout.specs.Places.{place_of}
 use Rattle.mv_layout.specs.Words.{link_of, link_seat_of}
-use Rattle.mv_core.specs.declared.view.View.{View}
-use Rattle.mv_core.specs.declared.view.Phase.{Phase}
-use Rattle.mv_core.specs.declared.view.Phase.TheVariants.{Inside}
-use Rattle.mv_core.specs.declared.view.Section.{Section}
-use Rattle.mv_core.specs.declared.view.LoadedClocks.{LoadedClocks}
-use Rattle.mv_core.specs.declared.view.Passed.TheVariants.{Nothing}
-use Rattle.mv_core.specs.declared.view.Walk.TheVariants as place
-use Rattle.mv_core.specs.Rings.{own_of, spare_count}
-use Rattle.mv_core.specs.Views.{time_in}
-use Rattle.mv_core.specs.declared.view.Stand.{Stand}
-use Rattle.mv_core.specs.SectionFacts.{IsPastHelp}
-use Rattle.mv_core.specs.LockSteps.{StandsToLock, head_locked, lock_lost, OneMoreWrite}
-use Rattle.mv_core.specs.WalkSteps.{IsLinkOf}
-use Rattle.mv_core.proofs.kinds.walking.WalkOn.{at_some}
+use Rattle.seat_log.specs.mv_core.declared.view.View.{View}
+use Rattle.seat_log.specs.mv_core.declared.view.Phase.{Phase}
+use Rattle.seat_log.specs.mv_core.declared.view.Phase.TheVariants.{Inside}
+use Rattle.seat_log.specs.mv_core.declared.view.Section.{Section}
+use Rattle.seat_log.specs.mv_core.declared.view.LoadedClocks.{LoadedClocks}
+use Rattle.seat_log.specs.mv_core.declared.view.Passed.TheVariants.{Nothing}
+use Rattle.seat_log.specs.mv_core.declared.view.Walk.TheVariants as place
+use Rattle.seat_log.specs.mv_core.Rings.{own_of, spare_count}
+use Rattle.seat_log.specs.mv_core.Views.{time_in}
+use Rattle.seat_log.specs.mv_core.declared.view.Stand.{Stand}
+use Rattle.seat_log.specs.mv_core.SectionFacts.{IsPastHelp}
+use Rattle.seat_log.specs.mv_core.LockSteps.{StandsToLock, head_locked, lock_lost, OneMoreWrite}
+use Rattle.seat_log.specs.mv_core.WalkSteps.{IsLinkOf}
+use Rattle.seat_log.proofs.mv_core_lemmas.kinds.walking.WalkOn.{at_some}
 use Rattle.seat_log.specs.declared.version.Note.{Note}
 use Rattle.seat_log.specs.Notes.{Noted, held_noted, cleared, without_previous}
 use Rattle.seat_log.specs.Stands.{is_won_lock, Stands}

@@ -7,9 +7,9 @@ use Rattle.mv_history.specs.declared.Step.{Step}
 use Rattle.mv_history.specs.declared.answers.LockAnswer.{LockAnswer}
 use Rattle.mv_history.specs.declared.answers.LockAnswer.TheVariants.{Held, Busy, Stale, SetFull, LogFull}
 use Rattle.mv_layout.specs.declared.Config.{Config}
-use Rattle.mv_core.specs.declared.view.View.{View}
-use Rattle.mv_core.specs.Rings.{own_of, spare_count}
-use Rattle.mv_core.proofs.logs.Written.{write_there, write_touches}
+use Rattle.seat_log.specs.mv_core.declared.view.View.{View}
+use Rattle.seat_log.specs.mv_core.Rings.{own_of, spare_count}
+use Rattle.seat_log.proofs.mv_core_lemmas.logs.Written.{write_there, write_touches}
 use Rattle.seat_log.specs.declared.version.Note.{Note}
 use Rattle.seat_log.specs.Notes.{Noted, built_count, held_from}
 use Rattle.seat_log.specs.Stands.{Stands}

@@ -10,19 +10,20 @@ use Rattle.mv_layout.specs.declared.Config.{Config}
 use Rattle.mv_layout.specs.declared.Place.TheVariants.{Head, First, Stamp}
 use Rattle.mv_layout.specs.Places.{place_of}
 use Rattle.mv_layout.specs.Words.{IsUnset, link_of, link_seat_of}
-use Rattle.mv_core.specs.declared.ring.Slot.TheVariants.{Live}
-use Rattle.mv_core.specs.declared.ring.Status.{Status}
-use Rattle.mv_core.specs.declared.ring.Status.TheVariants.{Committed}
-use Rattle.mv_core.specs.declared.view.View.{View}
-use Rattle.mv_core.specs.declared.view.Section.{Section}
-use Rattle.mv_core.specs.declared.view.Phase.TheVariants.{Inside}
-use Rattle.mv_core.specs.declared.view.Stand.{Stand}
-use Rattle.mv_core.specs.declared.view.Passed.TheVariants.{Nothing}
-use Rattle.mv_core.specs.declared.view.Walk as core
-use Rattle.mv_core.specs.declared.view.Walk.TheVariants as place
-use Rattle.mv_core.specs.Rings.{slot_at, index_of}
-use Rattle.mv_core.specs.WalkSteps.{IsLinkOf, IsPackedOf, IsOwnTop, IsOwnTime, IsWriteOf, StampSays, slot_named, head_loaded, first_loaded, stamp_loaded}
-use Rattle.mv_core.specs.LockSteps.{StandsToLock}
+use Rattle.seat_log.specs.mv_core.declared.ring.Slot.TheVariants.{Live}
+use Rattle.seat_log.specs.mv_core.declared.ring.Status.{Status}
+use Rattle.seat_log.specs.mv_core.declared.ring.Status.TheVariants.{Committed}
+use Rattle.seat_log.specs.mv_core.declared.view.View.{View}
+use Rattle.seat_log.specs.mv_core.declared.view.Section.{Section}
+use Rattle.seat_log.specs.mv_core.declared.view.Phase.TheVariants.{Inside}
+use Rattle.seat_log.specs.mv_core.declared.view.Stand.{Stand}
+use Rattle.seat_log.specs.mv_core.declared.view.Passed.TheVariants.{Nothing}
+use Rattle.seat_log.specs.mv_core.declared.view.Walk as core
+use Rattle.seat_log.specs.mv_core.declared.view.Walk.TheVariants as place
+use Rattle.seat_log.specs.mv_core.Rings.{slot_at, index_of}
+use Rattle.seat_log.specs.mv_core.WalkSteps.{IsLinkOf, IsPackedOf, IsOwnTop, IsOwnTime, IsWriteOf, StampSays}
+use Rattle.seat_log.specs.mv_core.WalkSteps.{slot_named, head_loaded, first_loaded, stamp_loaded}
+use Rattle.seat_log.specs.mv_core.LockSteps.{StandsToLock}
 use Rattle.version_chain.specs.Walks.{MayWalk, section_in, stand_of, stand_in, time_at, with_first, StandsAtVersion}
 use Rattle.version_chain.specs.Reads.{words_in, Reads}
 use Rattle.version_chain.proofs.Standing.{stands_here}

@@ -3,12 +3,12 @@ use Rattle.std.proofs.Common.{◌≡◌, ℕ, ◌-◌, ◌<◌, List, [], ◌∷
 use Rattle.std.specs.Prelude.{unwrap_or}
 use Rattle.mv_layout.specs.declared.Config.{Config}
 use Rattle.mv_layout.specs.Words.{unset_of}
-use Rattle.mv_core.specs.declared.ring.Slot.{Slot}
-use Rattle.mv_core.specs.declared.ring.Slot.TheVariants.{Built}
-use Rattle.mv_core.specs.declared.ring.Build.{Build}
-use Rattle.mv_core.specs.declared.view.View.{View}
-use Rattle.mv_core.specs.Rings.{slot_at, index_of, set_first}
-use Rattle.mv_core.specs.LockSteps.{nothing_built, build_in, StandsToLock, MayLock}
+use Rattle.seat_log.specs.mv_core.declared.ring.Slot.{Slot}
+use Rattle.seat_log.specs.mv_core.declared.ring.Slot.TheVariants.{Built}
+use Rattle.seat_log.specs.mv_core.declared.ring.Build.{Build}
+use Rattle.seat_log.specs.mv_core.declared.view.View.{View}
+use Rattle.seat_log.specs.mv_core.Rings.{slot_at, index_of, set_first}
+use Rattle.seat_log.specs.mv_core.LockSteps.{nothing_built, build_in, StandsToLock, MayLock}
 use Rattle.seat_log.proofs.Noting.{built_next}
 use Rattle.seat_log.specs.declared.version.Note.{Note}
 use Rattle.seat_log.specs.Notes.{Noted, IsNextOf}

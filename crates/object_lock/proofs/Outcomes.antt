@@ -10,9 +10,9 @@ use Rattle.mv_layout.specs.declared.Config.{Config}
 use Rattle.mv_layout.specs.declared.Place.TheVariants.{First, Stamp}
 use Rattle.mv_layout.specs.Places.{place_of}
 use Rattle.mv_layout.specs.Words.{IsUnset, link_seat_of}
-use Rattle.mv_core.specs.declared.view.View.{View}
-use Rattle.mv_core.specs.Rings.{index_of, own_of, spare_count}
-use Rattle.mv_core.specs.WalkSteps.{slot_named, IsWriteOf}
+use Rattle.seat_log.specs.mv_core.declared.view.View.{View}
+use Rattle.seat_log.specs.mv_core.Rings.{index_of, own_of, spare_count}
+use Rattle.seat_log.specs.mv_core.WalkSteps.{slot_named, IsWriteOf}
 use Rattle.seat_log.specs.Notes.{Noted, dropped}
 use Rattle.seat_log.specs.Stands.{Stands}
 use Rattle.seat_log.proofs.Standing.{stands_dropped}

@@ -8,8 +8,8 @@ use Rattle.mv_history.specs.State.{rewritten}
 use Rattle.mv_history.specs.declared.Step.{Step}
 use Rattle.mv_history.specs.declared.StepKind.TheVariants.{StoreData}
 use Rattle.mv_layout.specs.declared.Config.{Config}
-use Rattle.mv_core.specs.declared.view.View.{View}
-use Rattle.mv_core.specs.Rings.{index_of, own_of, spare_count}
+use Rattle.seat_log.specs.mv_core.declared.view.View.{View}
+use Rattle.seat_log.specs.mv_core.Rings.{index_of, own_of, spare_count}
 use Rattle.mv_layout.specs.declared.Place.TheVariants.{Data}
 use Rattle.mv_layout.specs.Places.{place_of}
 use Rattle.seat_log.specs.declared.version.Note.{Note}

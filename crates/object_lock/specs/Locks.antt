@@ -9,10 +9,10 @@ use Rattle.mv_layout.specs.declared.Config.{Config}
 use Rattle.mv_layout.specs.declared.Place.TheVariants.{Head}
 use Rattle.mv_layout.specs.Places.{place_of}
 use Rattle.mv_layout.specs.Words.{IsUnset, link_seat_of}
-use Rattle.mv_core.specs.declared.ring.Build.{Build}
-use Rattle.mv_core.specs.declared.view.View.{View}
-use Rattle.mv_core.specs.LockSteps.{StandsToLock}
-use Rattle.mv_core.specs.Rings.{own_of, spare_count}
+use Rattle.seat_log.specs.mv_core.declared.ring.Build.{Build}
+use Rattle.seat_log.specs.mv_core.declared.view.View.{View}
+use Rattle.seat_log.specs.mv_core.LockSteps.{StandsToLock}
+use Rattle.seat_log.specs.mv_core.Rings.{own_of, spare_count}
 use Rattle.seat_log.specs.declared.version.Note.{Note}
 use Rattle.seat_log.specs.Notes.{Noted, held_from, IsNoteAt}
 use Rattle.seat_log.specs.Stands.{Stands}

@@ -10,15 +10,15 @@ use Rattle.mv_layout.specs.declared.Config.{Config}
 use Rattle.mv_layout.specs.declared.Place.TheVariants.{Head, First, Stamp}
 use Rattle.mv_layout.specs.Places.{place_of}
 use Rattle.mv_layout.specs.Words.{IsUnset, link_seat_of}
-use Rattle.mv_core.specs.declared.ring.Slot.TheVariants.{Live}
-use Rattle.mv_core.specs.declared.ring.Version.{Version}
-use Rattle.mv_core.specs.declared.ring.Status.TheVariants.{Held as held_status}
-use Rattle.mv_core.specs.declared.view.View.{View}
-use Rattle.mv_core.specs.declared.view.Walk.TheVariants as place
-use Rattle.mv_core.specs.Rings.{slot_at, index_of}
-use Rattle.mv_core.specs.HistoryFacts.{BeginsWith}
-use Rattle.mv_core.specs.WalkSteps.{IsPackedOf, IsLinkOf, IsWriteOf, IsOwnTime, slot_named, first_loaded}
-use Rattle.mv_core.specs.LockSteps.{StandsToLock}
+use Rattle.seat_log.specs.mv_core.declared.ring.Slot.TheVariants.{Live}
+use Rattle.seat_log.specs.mv_core.declared.ring.Version.{Version}
+use Rattle.seat_log.specs.mv_core.declared.ring.Status.TheVariants.{Held as held_status}
+use Rattle.seat_log.specs.mv_core.declared.view.View.{View}
+use Rattle.seat_log.specs.mv_core.declared.view.Walk.TheVariants as place
+use Rattle.seat_log.specs.mv_core.Rings.{slot_at, index_of}
+use Rattle.seat_log.specs.mv_core.HistoryFacts.{BeginsWith}
+use Rattle.seat_log.specs.mv_core.WalkSteps.{IsPackedOf, IsLinkOf, IsWriteOf, IsOwnTime, slot_named, first_loaded}
+use Rattle.seat_log.specs.mv_core.LockSteps.{StandsToLock}
 use Rattle.version_chain.specs.Walks.{section_in, time_at, stand_in, version_looked_at, LookSays}
 use Rattle.version_chain.specs.Reads.{words_in}
 

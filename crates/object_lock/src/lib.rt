@@ -33,6 +33,7 @@
 //!
 //! The crate stands on `version_chain`, which reads what is on top; on `seat_log`, which builds a
 //! version and notes it; and on `mv_core`, whose exchange of HEAD alone can lock.
+//! `mvrlu` names both, `reader_marks` and `mv_core` through this crate.
 #![tactic(auto)]
 
 mod locking;
@@ -40,4 +41,7 @@ mod top;
 mod writing;
 
 pub use locking::{StartedLock, lock, lock_end, lock_new, lock_start, lock_with};
+pub use seat_log;
+pub use seat_log::{mv_core, reader_marks};
+pub use version_chain;
 pub use writing::{holds, write};

@@ -2,12 +2,12 @@
 ghost use Rattle.std.specs.Prelude.{◌≡◌, ◌≢◌, ℕ, ◌+◌, ◌<◌, ◌≤◌, ◌^◌, true, false, List, [], length, None, unwrap_or, Err, IfOk, IfErr, OnErr};
 ghost use Rattle.mv_history.specs.State.{touches};
 ghost use Rattle.mv_layout.specs.Words.{link_seat_of};
-ghost use Rattle.mv_core.specs.declared.view.Walk.TheVariants.{Master};
-ghost use Rattle.mv_core.specs.Rings.{own_of};
-ghost use Rattle.mv_core.specs.Passes.{view, IsOf, IsSame, config_of};
-ghost use Rattle.mv_core.specs.WalkSteps.{IsLinkOf};
-ghost use Rattle.mv_core.specs.LockSteps.{StandsToLock, LockTold, OneMoreWrite};
-ghost use Rattle.mv_core.specs.Swaps.{found_by, IsSwap};
+ghost use Rattle.seat_log.specs.mv_core.declared.view.Walk.TheVariants.{Master};
+ghost use Rattle.seat_log.specs.mv_core.Rings.{own_of};
+ghost use Rattle.seat_log.specs.mv_core.Passes.{view, IsOf, IsSame, config_of};
+ghost use Rattle.seat_log.specs.mv_core.WalkSteps.{IsLinkOf};
+ghost use Rattle.seat_log.specs.mv_core.LockSteps.{StandsToLock, LockTold, OneMoreWrite};
+ghost use Rattle.seat_log.specs.mv_core.Swaps.{found_by, IsSwap};
 ghost use Rattle.mv_history.specs.declared.answers.LockAnswer.TheVariants.{Held};
 ghost use Rattle.seat_log.specs.Notes.{IsBuilt};
 ghost use Rattle.seat_log.specs.Stands.{Stands};
@@ -20,9 +20,9 @@ ghost use Rattle.object_lock.specs.Writes.{Rewrites};
 
 use crate::top::{stamp_at, top_of};
 use crate::writing::{holds, write};
-use mv_core::{Pass, Shared, Steps, Swap};
 use mv_history::{LockAnswer, Protocol, Words};
 use mv_layout::{is_unset, link_seat};
+use seat_log::mv_core::{Pass, Shared, Steps, Swap};
 use seat_log::{Log, build, clear_previous, drop_built, held, note_held, room};
 use std::sync::ledger::Ledger;
 

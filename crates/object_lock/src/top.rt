@@ -1,13 +1,13 @@
 // What is on top of an object's chain.
 ghost use Rattle.std.specs.Prelude.{◌≡◌, ◌≢◌, ◌+◌, ◌<◌, ◌≤◌, []};
 ghost use Rattle.mv_layout.specs.Words.{link_seat_of};
-ghost use Rattle.mv_core.specs.Passes.{view, IsOf, IsSame, config_of};
+ghost use Rattle.seat_log.specs.mv_core.Passes.{view, IsOf, IsSame, config_of};
 ghost use Rattle.version_chain.specs.Walks.{MayWalk, stand_in};
 ghost use Rattle.object_lock.specs.Tops.{IsUnheld, StandsOn, Looked, Tries, TopAnswers, most_to_look};
 
-use mv_core::{Pass, Shared, Steps};
 use mv_history::{LockAnswer, Protocol, Words};
 use mv_layout::{is_unset, link_position, link_seat};
+use seat_log::mv_core::{Pass, Shared, Steps};
 use std::sync::ledger::Ledger;
 use version_chain::{read_master, read_version};
 

@@ -1,15 +1,15 @@
 // Writing an object that is held.
 ghost use Rattle.std.specs.Prelude.{◌≡◌, ◌+◌, true, false, None};
 ghost use Rattle.mv_history.specs.State.{touches, rewritten};
-ghost use Rattle.mv_core.specs.Rings.{own_of, spare_count};
-ghost use Rattle.mv_core.specs.Passes.{view, IsOf, IsSame, config_of};
+ghost use Rattle.seat_log.specs.mv_core.Rings.{own_of, spare_count};
+ghost use Rattle.seat_log.specs.mv_core.Passes.{view, IsOf, IsSame, config_of};
 ghost use Rattle.seat_log.specs.Stands.{Stands};
 ghost use Rattle.version_chain.specs.Walks.{MayWalk};
 ghost use Rattle.object_lock.specs.Locks.{HoldsObject};
 ghost use Rattle.object_lock.specs.Writes.{IsHeldAt, Stores};
 
-use mv_core::{Pass, Shared, Steps};
 use mv_history::{Protocol, Words};
+use seat_log::mv_core::{Pass, Shared, Steps};
 use seat_log::{Log, held, live, note, put_words};
 use std::sync::ledger::Ledger;
 

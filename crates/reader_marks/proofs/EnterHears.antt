@@ -7,8 +7,8 @@ use Rattle.mv_layout.specs.declared.Config.{Config}
 use Rattle.mv_layout.specs.declared.Place.TheVariants.{Clock, Mark}
 use Rattle.mv_layout.specs.Places.{place_of}
 use Rattle.mv_layout.specs.Words.{clock_time_of}
-use Rattle.mv_core.specs.declared.view.View.{View}
-use Rattle.mv_core.specs.EnterSteps.{low_loaded, mark_stored, time_loaded}
+use Rattle.commit_clock.specs.mv_core.declared.view.View.{View}
+use Rattle.commit_clock.specs.mv_core.EnterSteps.{low_loaded, mark_stored, time_loaded}
 use Rattle.commit_clock.specs.Hears.{HearsJust, Hears}
 use Rattle.commit_clock.proofs.Hearing.{hears_one, hears_on, hears_just}
 use Rattle.reader_marks.specs.Sections.{Begins}

@@ -8,11 +8,11 @@ use Rattle.mv_history.specs.declared.Entry.{Entry}
 use Rattle.mv_history.specs.declared.Step.{Step}
 use Rattle.mv_layout.specs.declared.Config.{Config}
 use Rattle.mv_layout.specs.Words.{clock_time_of}
-use Rattle.mv_core.specs.declared.view.View.{View}
-use Rattle.mv_core.specs.declared.view.Scan.{Scan}
-use Rattle.mv_core.specs.EnterSteps.{IsWhole}
-use Rattle.mv_core.specs.ReclaimSteps.{other_from, scan_on, grace_on, scan_loaded, MayLoadMark, least_with, mark_loaded}
-use Rattle.mv_core.specs.SeatSteps.{grace_raised}
+use Rattle.commit_clock.specs.mv_core.declared.view.View.{View}
+use Rattle.commit_clock.specs.mv_core.declared.view.Scan.{Scan}
+use Rattle.commit_clock.specs.mv_core.EnterSteps.{IsWhole}
+use Rattle.commit_clock.specs.mv_core.ReclaimSteps.{other_from, scan_on, grace_on, scan_loaded, MayLoadMark, least_with, mark_loaded}
+use Rattle.commit_clock.specs.mv_core.SeatSteps.{grace_raised}
 use Rattle.reader_marks.specs.declared.scanning.Lowest.{Lowest}
 use Rattle.reader_marks.specs.declared.scanning.Watermark.{Watermark}
 use Rattle.reader_marks.specs.Scans.{IsFixedBy, IsLowest, named_by, mark_step, mark_steps, scan_step, grace_step, scan_steps, scanned, Scans, IsKnown}

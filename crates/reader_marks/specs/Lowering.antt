@@ -3,9 +3,9 @@ use Rattle.std.specs.Prelude.{◌≡◌, ℕ, zero, suc, ◌+◌, nat_lt, if◌t
 use Rattle.mv_history.specs.declared.Entry.{Entry}
 use Rattle.mv_layout.specs.declared.Config.{Config}
 use Rattle.mv_layout.specs.Words.{clock_time_of}
-use Rattle.mv_core.specs.declared.view.View.{View}
-use Rattle.mv_core.specs.EnterSteps.{IsWhole}
-use Rattle.mv_core.specs.ReclaimSteps.{other_from, scan_on, grace_on}
+use Rattle.commit_clock.specs.mv_core.declared.view.View.{View}
+use Rattle.commit_clock.specs.mv_core.EnterSteps.{IsWhole}
+use Rattle.commit_clock.specs.mv_core.ReclaimSteps.{other_from, scan_on, grace_on}
 use Rattle.reader_marks.specs.declared.scanning.Lowest.{Lowest}
 use Rattle.reader_marks.specs.Scans.{IsLowest, scan_step, mark_steps}
 

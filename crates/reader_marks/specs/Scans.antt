@@ -8,8 +8,8 @@ use Rattle.mv_layout.specs.declared.Config.{Config}
 use Rattle.mv_layout.specs.declared.Place.TheVariants.{Clock, Grace, Mark}
 use Rattle.mv_layout.specs.Places.{place_of}
 use Rattle.mv_layout.specs.Words.{clock_time_of}
-use Rattle.mv_core.specs.declared.view.View.{View}
-use Rattle.mv_core.specs.EnterSteps.{IsWhole}
+use Rattle.commit_clock.specs.mv_core.declared.view.View.{View}
+use Rattle.commit_clock.specs.mv_core.EnterSteps.{IsWhole}
 use Rattle.reader_marks.specs.declared.scanning.Watermark.{Watermark}
 
 -- this is the lowest seat below n with this mark

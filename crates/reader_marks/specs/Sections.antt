@@ -5,15 +5,15 @@ use Rattle.mv_history.specs.declared.StepKind.{StepKind}
 use Rattle.mv_history.specs.declared.StepKind.TheVariants.{LoadLow, StoreMark, LoadTime}
 use Rattle.mv_layout.specs.declared.Config.{Config}
 use Rattle.mv_layout.specs.Words.{clock_time_of, clock_slot_of}
-use Rattle.mv_core.specs.declared.view.View.{View}
-use Rattle.mv_core.specs.declared.view.Phase.{Phase}
-use Rattle.mv_core.specs.declared.view.Phase.TheVariants.{Inside}
-use Rattle.mv_core.specs.declared.view.Section.{Section}
-use Rattle.mv_core.specs.declared.view.Mode.TheVariants.{Open}
-use Rattle.mv_core.specs.declared.view.Walk.TheVariants.{Nowhere}
-use Rattle.mv_core.specs.Rings.{HoldsNothing}
-use Rattle.mv_core.specs.HistoryFacts.{BeginsWith}
-use Rattle.mv_core.specs.SectionFacts.{IsPastHelp}
+use Rattle.commit_clock.specs.mv_core.declared.view.View.{View}
+use Rattle.commit_clock.specs.mv_core.declared.view.Phase.{Phase}
+use Rattle.commit_clock.specs.mv_core.declared.view.Phase.TheVariants.{Inside}
+use Rattle.commit_clock.specs.mv_core.declared.view.Section.{Section}
+use Rattle.commit_clock.specs.mv_core.declared.view.Mode.TheVariants.{Open}
+use Rattle.commit_clock.specs.mv_core.declared.view.Walk.TheVariants.{Nowhere}
+use Rattle.commit_clock.specs.mv_core.Rings.{HoldsNothing}
+use Rattle.commit_clock.specs.mv_core.HistoryFacts.{BeginsWith}
+use Rattle.commit_clock.specs.mv_core.SectionFacts.{IsPastHelp}
 use Rattle.commit_clock.specs.Helps.{IsHelpStep}
 
 -- a step of entering: one of its own, or one of the help

@@ -29,10 +29,13 @@
 //!
 //! The crate stands on `mv_core` for its steps, `commit_clock` for the help, and `mv_layout` for
 //! the packing of clock words.
+//! Crates above name `commit_clock` and `mv_core` through this crate.
 #![tactic(auto)]
 
 mod scanning;
 mod sections;
 
+pub use commit_clock;
+pub use commit_clock::mv_core;
 pub use scanning::{Watermark, known, scan, scan_clock};
 pub use sections::{enter, enter_clock, enter_low, enter_mark, enter_time, leave};

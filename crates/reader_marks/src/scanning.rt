@@ -1,14 +1,14 @@
 // Scanning the marks for a watermark, and taking the one that stands in GRACE.
 ghost use Rattle.std.specs.Prelude.{◌≡◌, ◌≢◌, ℕ, ◌+◌, ◌<◌, ◌≤◌, false, None, Some, All};
 ghost use Rattle.mv_history.specs.State.{maker_of};
-ghost use Rattle.mv_core.specs.declared.view.Scan.{Scan};
-ghost use Rattle.mv_core.specs.Passes.{view, IsOf, IsSame, config_of};
-ghost use Rattle.mv_core.specs.ReclaimSteps.{MayLoadScan, MayLoadMark, mark_loaded};
-ghost use Rattle.mv_core.specs.SeatSteps.{grace_loaded};
+ghost use Rattle.commit_clock.specs.mv_core.declared.view.Scan.{Scan};
+ghost use Rattle.commit_clock.specs.mv_core.Passes.{view, IsOf, IsSame, config_of};
+ghost use Rattle.commit_clock.specs.mv_core.ReclaimSteps.{MayLoadScan, MayLoadMark, mark_loaded};
+ghost use Rattle.commit_clock.specs.mv_core.SeatSteps.{grace_loaded};
 ghost use Rattle.reader_marks.specs.Scans.{Scans, IsKnown};
 ghost use Rattle.reader_marks.specs.Lowering.{lowered};
 
-use mv_core::{Pass, Shared, Steps};
+use commit_clock::mv_core::{Pass, Shared, Steps};
 use mv_history::Protocol;
 use mv_layout::{clock_time, mark_low};
 use std::sync::ledger::Ledger;

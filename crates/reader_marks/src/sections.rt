@@ -2,16 +2,16 @@
 ghost use Rattle.std.specs.Prelude.{◌≡◌, ℕ, ◌+◌, ◌≤◌, List, length};
 ghost use Rattle.mv_history.specs.declared.Entry.{Entry};
 ghost use Rattle.mv_layout.specs.Words.{clock_time_of};
-ghost use Rattle.mv_core.specs.SectionFacts.{IsWord};
-ghost use Rattle.mv_core.specs.EnterSteps.{IsWhole, MayLoadLow, low_loaded, MayStoreMark, mark_stored, MayLoadTime, time_loaded, mark_cleared};
-ghost use Rattle.mv_core.specs.Passes.{view, IsOf, IsSame, config_of};
-ghost use Rattle.mv_core.specs.Rings.{HoldsNothing};
+ghost use Rattle.commit_clock.specs.mv_core.SectionFacts.{IsWord};
+ghost use Rattle.commit_clock.specs.mv_core.EnterSteps.{IsWhole, MayLoadLow, low_loaded, MayStoreMark, mark_stored, MayLoadTime, time_loaded, mark_cleared};
+ghost use Rattle.commit_clock.specs.mv_core.Passes.{view, IsOf, IsSame, config_of};
+ghost use Rattle.commit_clock.specs.mv_core.Rings.{HoldsNothing};
 ghost use Rattle.commit_clock.specs.Hears.{Hears};
 ghost use Rattle.commit_clock.specs.Helps.{HasLoaded};
 ghost use Rattle.reader_marks.specs.Sections.{Begins, IsOpen};
 
 use commit_clock::help_clock;
-use mv_core::{Pass, Shared, Steps};
+use commit_clock::mv_core::{Pass, Shared, Steps};
 use mv_history::Protocol;
 use mv_layout::clock_time;
 use std::sync::ledger::Ledger;

@@ -7,19 +7,19 @@ use native.Mathlib.Decide.{ℕ_discrete}
 use Rattle.mv_history.specs.declared.Entry.{Entry}
 use Rattle.mv_layout.specs.declared.Config.{Config}
 use Rattle.mv_layout.specs.Words.{clock_time_of}
-use Rattle.mv_core.specs.declared.ring.Slot.{Slot}
-use Rattle.mv_core.specs.declared.ring.Slot.TheVariants.{Free, Built, Live, Freeing}
-use Rattle.mv_core.specs.declared.ring.Version.{Version}
-use Rattle.mv_core.specs.declared.ring.Status.TheVariants.{Held, Aborted, Committed}
-use Rattle.mv_core.specs.declared.ring.CommitNote.{CommitNote}
-use Rattle.mv_core.specs.declared.view.View.{View}
-use Rattle.mv_core.specs.Rings.{slot_at, is_held, is_spare, HoldsNothing}
-use Rattle.mv_core.specs.LockSteps.{dead_if, timed, death_loaded}
-use Rattle.mv_core.proofs.logs.Links.{live_once}
-use Rattle.mv_core.proofs.logs.Slots.{slot_mapped}
-use Rattle.mv_core.proofs.logs.Counts.{count_mapped}
-use Rattle.mv_core.proofs.kinds.entering.LoadTime.{holds_none}
-use Rattle.mv_core.proofs.kinds.building.DeathNotes.{note_cut, note_uncut}
+use Rattle.reader_marks.specs.mv_core.declared.ring.Slot.{Slot}
+use Rattle.reader_marks.specs.mv_core.declared.ring.Slot.TheVariants.{Free, Built, Live, Freeing}
+use Rattle.reader_marks.specs.mv_core.declared.ring.Version.{Version}
+use Rattle.reader_marks.specs.mv_core.declared.ring.Status.TheVariants.{Held, Aborted, Committed}
+use Rattle.reader_marks.specs.mv_core.declared.ring.CommitNote.{CommitNote}
+use Rattle.reader_marks.specs.mv_core.declared.view.View.{View}
+use Rattle.reader_marks.specs.mv_core.Rings.{slot_at, is_held, is_spare, HoldsNothing}
+use Rattle.reader_marks.specs.mv_core.LockSteps.{dead_if, timed, death_loaded}
+use Rattle.reader_marks.proofs.mv_core_lemmas.logs.Links.{live_once}
+use Rattle.reader_marks.proofs.mv_core_lemmas.logs.Slots.{slot_mapped}
+use Rattle.reader_marks.proofs.mv_core_lemmas.logs.Counts.{count_mapped}
+use Rattle.reader_marks.proofs.mv_core_lemmas.kinds.entering.LoadTime.{holds_none}
+use Rattle.reader_marks.proofs.mv_core_lemmas.kinds.building.DeathNotes.{note_cut, note_uncut}
 use Rattle.seat_log.specs.declared.version.Note.{Note}
 use Rattle.seat_log.specs.Notes.{Noted, next_of, aborted_noted}
 use Rattle.seat_log.specs.Stands.{death_of, is_cut, is_free, is_won_cut, is_won_lock, ends_unlocking, aborts_in, writes_in, Stands}

@@ -7,11 +7,11 @@ use Rattle.mv_history.specs.State.{State}
 use Rattle.mv_history.specs.declared.Step.{Step}
 use Rattle.mv_layout.specs.declared.Config.{Config}
 use Rattle.mv_layout.specs.Limits.{Checked}
-use Rattle.mv_core.specs.declared.ring.Slot.TheVariants.{Free, Built, Live, Freeing}
-use Rattle.mv_core.specs.declared.view.View.{View}
-use Rattle.mv_core.specs.Rings.{slot_at, is_held, is_spare, empty_ring}
-use Rattle.mv_core.specs.Start.{starting_view}
-use Rattle.mv_core.proofs.kinds.opening.Starting.{all_free}
+use Rattle.reader_marks.specs.mv_core.declared.ring.Slot.TheVariants.{Free, Built, Live, Freeing}
+use Rattle.reader_marks.specs.mv_core.declared.view.View.{View}
+use Rattle.reader_marks.specs.mv_core.Rings.{slot_at, is_held, is_spare, empty_ring}
+use Rattle.reader_marks.specs.mv_core.Start.{starting_view}
+use Rattle.reader_marks.proofs.mv_core_lemmas.kinds.opening.Starting.{all_free}
 use Rattle.seat_log.specs.Notes.{nothing_noted}
 use Rattle.seat_log.specs.Stands.{is_free, is_won_cut, is_won_lock, is_unlock, writes_in, Stands}
 use Rattle.seat_log.proofs.StepCounts.{KeepsLocks, keeps_same, keeps_more}

@@ -9,14 +9,14 @@ use native.Mathlib.Decide.{ℕ_discrete}
 use Rattle.mv_history.specs.declared.Step.{Step}
 use Rattle.mv_layout.specs.declared.Config.{Config}
 use Rattle.mv_layout.specs.Words.{unset_of}
-use Rattle.mv_core.specs.declared.ring.Slot.{Slot}
-use Rattle.mv_core.specs.declared.ring.Slot.TheVariants.{Built}
-use Rattle.mv_core.specs.declared.ring.Build.{Build}
-use Rattle.mv_core.specs.declared.view.View.{View}
-use Rattle.mv_core.specs.Rings.{slot_at, index_of}
-use Rattle.mv_core.specs.LockSteps.{nothing_built, build_in, built_too}
-use Rattle.mv_core.proofs.logs.Slots.{slot_here, slot_else}
-use Rattle.mv_core.proofs.logs.Counts.{count_same}
+use Rattle.reader_marks.specs.mv_core.declared.ring.Slot.{Slot}
+use Rattle.reader_marks.specs.mv_core.declared.ring.Slot.TheVariants.{Built}
+use Rattle.reader_marks.specs.mv_core.declared.ring.Build.{Build}
+use Rattle.reader_marks.specs.mv_core.declared.view.View.{View}
+use Rattle.reader_marks.specs.mv_core.Rings.{slot_at, index_of}
+use Rattle.reader_marks.specs.mv_core.LockSteps.{nothing_built, build_in, built_too}
+use Rattle.reader_marks.proofs.mv_core_lemmas.logs.Slots.{slot_here, slot_else}
+use Rattle.reader_marks.proofs.mv_core_lemmas.logs.Counts.{count_same}
 use Rattle.seat_log.specs.declared.version.Note.{Note}
 use Rattle.seat_log.specs.Stands.{IsAllStored, is_free, is_won_cut}
 use Rattle.seat_log.specs.Builds.{build_at, stored_next, words_stored, begun, linked, slot_built, MayBuild}

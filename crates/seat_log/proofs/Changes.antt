@@ -5,7 +5,7 @@ use mathlib.Core.Logic.{dite}
 use native.Mathlib.Decide.{ℕ_discrete}
 use Rattle.mv_layout.specs.declared.Config.{Config}
 use Rattle.mv_layout.specs.Words.{unset_of}
-use Rattle.mv_core.specs.declared.view.View.{View}
+use Rattle.reader_marks.specs.mv_core.declared.view.View.{View}
 use Rattle.seat_log.specs.Builds.{IsOpen, stored_next, words_stored, begun, linked, slot_built, word_stored, words_put, ChangesLog}
 use Rattle.seat_log.proofs.MayBuild.{begun_first, begun_later}
 

@@ -8,19 +8,19 @@ use Rattle.std.proofs.lemmas.List.Sums.{sum_by-cons}
 use Rattle.mv_history.specs.declared.Entry.{Entry}
 use Rattle.mv_layout.specs.declared.Config.{Config}
 use Rattle.mv_layout.specs.Words.{clock_time_of}
-use Rattle.mv_core.specs.declared.ring.Ring.{Ring}
-use Rattle.mv_core.specs.declared.ring.Slot.{Slot}
-use Rattle.mv_core.specs.declared.ring.Slot.TheVariants.{Free, Built, Live, Freeing}
-use Rattle.mv_core.specs.declared.ring.Version.{Version}
-use Rattle.mv_core.specs.declared.ring.Status.TheVariants.{Held, Aborted, Committed}
-use Rattle.mv_core.specs.declared.ring.CommitNote.{CommitNote}
-use Rattle.mv_core.specs.declared.view.View.{View}
-use Rattle.mv_core.specs.Rings.{slot_at, index_of, put_slot, is_spare, spare_count}
-use Rattle.mv_core.specs.EnterSteps.{mark_cleared}
-use Rattle.mv_core.specs.LockSteps.{dead_if, timed, MayLoadDeath, death_loaded}
-use Rattle.mv_core.specs.ReclaimSteps.{head_cut, cut_lost}
-use Rattle.mv_core.proofs.logs.Slots.{slot_here, live_within}
-use Rattle.mv_core.proofs.logs.Counts.{one_if, count_same, count_more}
+use Rattle.reader_marks.specs.mv_core.declared.ring.Ring.{Ring}
+use Rattle.reader_marks.specs.mv_core.declared.ring.Slot.{Slot}
+use Rattle.reader_marks.specs.mv_core.declared.ring.Slot.TheVariants.{Free, Built, Live, Freeing}
+use Rattle.reader_marks.specs.mv_core.declared.ring.Version.{Version}
+use Rattle.reader_marks.specs.mv_core.declared.ring.Status.TheVariants.{Held, Aborted, Committed}
+use Rattle.reader_marks.specs.mv_core.declared.ring.CommitNote.{CommitNote}
+use Rattle.reader_marks.specs.mv_core.declared.view.View.{View}
+use Rattle.reader_marks.specs.mv_core.Rings.{slot_at, index_of, put_slot, is_spare, spare_count}
+use Rattle.reader_marks.specs.mv_core.EnterSteps.{mark_cleared}
+use Rattle.reader_marks.specs.mv_core.LockSteps.{dead_if, timed, MayLoadDeath, death_loaded}
+use Rattle.reader_marks.specs.mv_core.ReclaimSteps.{head_cut, cut_lost}
+use Rattle.reader_marks.proofs.mv_core_lemmas.logs.Slots.{slot_here, live_within}
+use Rattle.reader_marks.proofs.mv_core_lemmas.logs.Counts.{one_if, count_same, count_more}
 use Rattle.seat_log.specs.declared.version.Note.{Note}
 use Rattle.seat_log.specs.Notes.{Noted, next_of, IsNoteAt, retired, back_noted}
 use Rattle.seat_log.specs.Stands.{version_of, is_cut, cut_count, is_free, is_won_cut, Stands}

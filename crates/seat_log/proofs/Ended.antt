@@ -2,13 +2,13 @@
 use Rattle.std.proofs.Common.{◌≡◌, ◌≢◌, ℕ, ◌+◌, ◌≤◌, nat_le, false, true, count_by, length, refl, sym, ap, ◌∙◌, subst, ⊎_elim, arith, None, slice_get}
 use Rattle.std.proofs.lemmas.Bool.{lt-leb}
 use Rattle.mv_layout.specs.declared.Config.{Config}
-use Rattle.mv_core.specs.declared.ring.Slot.{Slot}
-use Rattle.mv_core.specs.declared.ring.Slot.TheVariants.{Free, Built, Live, Freeing}
-use Rattle.mv_core.specs.declared.ring.Version.{Version}
-use Rattle.mv_core.specs.declared.ring.Status.{Status}
-use Rattle.mv_core.specs.declared.ring.Status.TheVariants.{Held, Aborted, Committed}
-use Rattle.mv_core.specs.declared.view.View.{View}
-use Rattle.mv_core.specs.Rings.{slot_at, index_of, is_held, held_count, spare_count}
+use Rattle.reader_marks.specs.mv_core.declared.ring.Slot.{Slot}
+use Rattle.reader_marks.specs.mv_core.declared.ring.Slot.TheVariants.{Free, Built, Live, Freeing}
+use Rattle.reader_marks.specs.mv_core.declared.ring.Version.{Version}
+use Rattle.reader_marks.specs.mv_core.declared.ring.Status.{Status}
+use Rattle.reader_marks.specs.mv_core.declared.ring.Status.TheVariants.{Held, Aborted, Committed}
+use Rattle.reader_marks.specs.mv_core.declared.view.View.{View}
+use Rattle.reader_marks.specs.mv_core.Rings.{slot_at, index_of, is_held, held_count, spare_count}
 use Rattle.seat_log.specs.declared.version.Note.{Note}
 use Rattle.seat_log.specs.Notes.{Noted, next_of, held_from, IsNoteAt, IsLog, from_place}
 use Rattle.seat_log.specs.Stands.{version_of, IsAsNoted, HasNoted, HasBuilt, cut_count, is_free, is_won_cut, is_won_lock, ends_unlocking, aborts_in}

@@ -4,15 +4,15 @@ use Rattle.std.proofs.Common.{◌∙◌, subst, ⊎_elim, arith, le-leb, length-
 use Rattle.std.proofs.lemmas.Bool.{cases_lt, cases_eq, lt-leb}
 use Rattle.std.specs.Prelude.{IfSome}
 use Rattle.mv_layout.specs.declared.Config.{Config}
-use Rattle.mv_core.specs.declared.ring.Slot.{Slot}
-use Rattle.mv_core.specs.declared.ring.Slot.TheVariants.{Free, Built, Live, Freeing}
-use Rattle.mv_core.specs.declared.ring.Version.{Version}
-use Rattle.mv_core.specs.declared.ring.Status.{Status}
-use Rattle.mv_core.specs.declared.view.View.{View}
-use Rattle.mv_core.specs.declared.view.Past.{Past}
-use Rattle.mv_core.specs.declared.view.Phase.TheVariants.{Outside}
-use Rattle.mv_core.specs.Rings.{slot_at, index_of}
-use Rattle.mv_core.specs.ReclaimSteps.{UsesPosition, MayFreeSlot, MayStoreFree, free_stored}
+use Rattle.reader_marks.specs.mv_core.declared.ring.Slot.{Slot}
+use Rattle.reader_marks.specs.mv_core.declared.ring.Slot.TheVariants.{Free, Built, Live, Freeing}
+use Rattle.reader_marks.specs.mv_core.declared.ring.Version.{Version}
+use Rattle.reader_marks.specs.mv_core.declared.ring.Status.{Status}
+use Rattle.reader_marks.specs.mv_core.declared.view.View.{View}
+use Rattle.reader_marks.specs.mv_core.declared.view.Past.{Past}
+use Rattle.reader_marks.specs.mv_core.declared.view.Phase.TheVariants.{Outside}
+use Rattle.reader_marks.specs.mv_core.Rings.{slot_at, index_of}
+use Rattle.reader_marks.specs.mv_core.ReclaimSteps.{UsesPosition, MayFreeSlot, MayStoreFree, free_stored}
 use Rattle.seat_log.specs.declared.version.Note.{Note}
 use Rattle.seat_log.specs.Notes.{Noted, next_of, held_from, first_of, IsNoteAt, AreNoted, IsNextOf, IsLog}
 use Rattle.seat_log.specs.Stands.{version_of, HasBuilt, IsAsNoted, writes_in, Stands}

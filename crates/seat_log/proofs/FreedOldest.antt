@@ -8,18 +8,18 @@ use native.Mathlib.Decide.{ℕ_discrete}
 use Rattle.mv_layout.specs.declared.Config.{Config}
 use Rattle.mv_layout.specs.declared.Place.TheVariants.{Stamp}
 use Rattle.mv_history.specs.declared.StepKind.TheVariants.{StoreFree}
-use Rattle.mv_core.specs.declared.ring.Ring.{Ring}
-use Rattle.mv_core.specs.declared.ring.Slot.{Slot}
-use Rattle.mv_core.specs.declared.ring.Slot.TheVariants.{Free, Built, Live, Freeing}
-use Rattle.mv_core.specs.declared.ring.Version.{Version}
-use Rattle.mv_core.specs.declared.ring.Status.{Status}
-use Rattle.mv_core.specs.declared.ring.Status.TheVariants.{Held, Aborted, Committed}
-use Rattle.mv_core.specs.declared.view.View.{View}
-use Rattle.mv_core.specs.Rings.{slot_at, index_of, put_slot, is_held, is_spare}
-use Rattle.mv_core.specs.Views.{with_step}
-use Rattle.mv_core.specs.ReclaimSteps.{IsDeadBy, freeing_slot, freed_ring, free_stored}
-use Rattle.mv_core.proofs.logs.Slots.{slot_here, slot_else, slot_mapped, slot_within}
-use Rattle.mv_core.proofs.logs.Counts.{count_same, count_more, count_less, count_mapped}
+use Rattle.reader_marks.specs.mv_core.declared.ring.Ring.{Ring}
+use Rattle.reader_marks.specs.mv_core.declared.ring.Slot.{Slot}
+use Rattle.reader_marks.specs.mv_core.declared.ring.Slot.TheVariants.{Free, Built, Live, Freeing}
+use Rattle.reader_marks.specs.mv_core.declared.ring.Version.{Version}
+use Rattle.reader_marks.specs.mv_core.declared.ring.Status.{Status}
+use Rattle.reader_marks.specs.mv_core.declared.ring.Status.TheVariants.{Held, Aborted, Committed}
+use Rattle.reader_marks.specs.mv_core.declared.view.View.{View}
+use Rattle.reader_marks.specs.mv_core.Rings.{slot_at, index_of, put_slot, is_held, is_spare}
+use Rattle.reader_marks.specs.mv_core.Views.{with_step}
+use Rattle.reader_marks.specs.mv_core.ReclaimSteps.{IsDeadBy, freeing_slot, freed_ring, free_stored}
+use Rattle.reader_marks.proofs.mv_core_lemmas.logs.Slots.{slot_here, slot_else, slot_mapped, slot_within}
+use Rattle.reader_marks.proofs.mv_core_lemmas.logs.Counts.{count_same, count_more, count_less, count_mapped}
 use Rattle.seat_log.specs.declared.version.Note.{Note}
 use Rattle.seat_log.specs.Notes.{Noted, held_from, IsNoteAt}
 use Rattle.seat_log.specs.Stands.{version_of, death_of, IsAsNoted, HasNoted, is_cut, is_free, is_won_cut, Stands}

@@ -4,16 +4,16 @@ use Rattle.std.proofs.Common.{List, [], ◌∷◌, ◌++◌, length, map, refl, 
 use Rattle.std.proofs.lemmas.List.Sums.{sum_by-cons, sum_by-append}
 use Rattle.mv_history.specs.declared.Step.{Step}
 use Rattle.mv_layout.specs.declared.Config.{Config}
-use Rattle.mv_core.specs.declared.ring.Ring.{Ring}
-use Rattle.mv_core.specs.declared.ring.Slot.{Slot}
-use Rattle.mv_core.specs.declared.ring.Slot.TheVariants.{Free, Built, Live, Freeing}
-use Rattle.mv_core.specs.declared.ring.Version.{Version}
-use Rattle.mv_core.specs.declared.ring.Status.{Status}
-use Rattle.mv_core.specs.declared.ring.Status.TheVariants.{Held, Aborted, Committed}
-use Rattle.mv_core.specs.declared.view.View.{View}
-use Rattle.mv_core.specs.Rings.{slot_at, index_of, held_count, is_spare, spare_count}
-use Rattle.mv_core.specs.ReclaimSteps.{freeing_slot}
-use Rattle.mv_core.proofs.logs.Counts.{one_if}
+use Rattle.reader_marks.specs.mv_core.declared.ring.Ring.{Ring}
+use Rattle.reader_marks.specs.mv_core.declared.ring.Slot.{Slot}
+use Rattle.reader_marks.specs.mv_core.declared.ring.Slot.TheVariants.{Free, Built, Live, Freeing}
+use Rattle.reader_marks.specs.mv_core.declared.ring.Version.{Version}
+use Rattle.reader_marks.specs.mv_core.declared.ring.Status.{Status}
+use Rattle.reader_marks.specs.mv_core.declared.ring.Status.TheVariants.{Held, Aborted, Committed}
+use Rattle.reader_marks.specs.mv_core.declared.view.View.{View}
+use Rattle.reader_marks.specs.mv_core.Rings.{slot_at, index_of, held_count, is_spare, spare_count}
+use Rattle.reader_marks.specs.mv_core.ReclaimSteps.{freeing_slot}
+use Rattle.reader_marks.proofs.mv_core_lemmas.logs.Counts.{one_if}
 use Rattle.seat_log.specs.Stands.{is_cut, cut_count, is_free, is_won_cut}
 use Rattle.seat_log.proofs.StepCounts.{KeepsLocks}
 

@@ -4,15 +4,15 @@ use Rattle.std.proofs.lemmas.List.{length-set}
 use mathlib.Core.Logic.{dite}
 use native.Mathlib.Decide.{ℕ_discrete}
 use Rattle.mv_layout.specs.declared.Config.{Config}
-use Rattle.mv_core.specs.declared.ring.Slot.{Slot}
-use Rattle.mv_core.specs.declared.ring.Slot.TheVariants.{Built, Live, Freeing}
-use Rattle.mv_core.specs.declared.ring.Version.{Version}
-use Rattle.mv_core.specs.declared.ring.Status.TheVariants.{Held}
-use Rattle.mv_core.specs.declared.view.View.{View}
-use Rattle.mv_core.specs.Rings.{slot_at, index_of, is_held, is_spare}
-use Rattle.mv_core.specs.LockSteps.{data_stored, MayStoreData}
-use Rattle.mv_core.proofs.logs.Slots.{slot_here, slot_else, live_within}
-use Rattle.mv_core.proofs.logs.Counts.{count_same}
+use Rattle.reader_marks.specs.mv_core.declared.ring.Slot.{Slot}
+use Rattle.reader_marks.specs.mv_core.declared.ring.Slot.TheVariants.{Built, Live, Freeing}
+use Rattle.reader_marks.specs.mv_core.declared.ring.Version.{Version}
+use Rattle.reader_marks.specs.mv_core.declared.ring.Status.TheVariants.{Held}
+use Rattle.reader_marks.specs.mv_core.declared.view.View.{View}
+use Rattle.reader_marks.specs.mv_core.Rings.{slot_at, index_of, is_held, is_spare}
+use Rattle.reader_marks.specs.mv_core.LockSteps.{data_stored, MayStoreData}
+use Rattle.reader_marks.proofs.mv_core_lemmas.logs.Slots.{slot_here, slot_else, live_within}
+use Rattle.reader_marks.proofs.mv_core_lemmas.logs.Counts.{count_same}
 use Rattle.seat_log.specs.declared.version.Note.{Note}
 use Rattle.seat_log.specs.Notes.{Noted, next_of, held_from, IsNoteAt, IsHeld, with_word, word_noted}
 use Rattle.seat_log.specs.Stands.{version_of, IsAsNoted, HasBuilt, is_cut, is_free, is_won_cut, writes_in, Stands}

@@ -23,3 +23,7 @@ pub mod PlainSteps
 pub mod Retired
 pub mod CutLogs
 pub mod Rested
+-- Passed on to the crates above: the lemmas of reader_marks, commit_clock and mv_core.
+pub use Rattle.reader_marks.proofs as reader_marks_lemmas
+pub use Rattle.reader_marks.proofs.commit_clock_lemmas
+pub use Rattle.reader_marks.proofs.mv_core_lemmas

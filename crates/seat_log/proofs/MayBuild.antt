@@ -5,14 +5,14 @@ use Rattle.std.specs.Prelude.{unwrap_or, slice_index}
 use Rattle.mv_layout.specs.Words.{unset_of}
 use Rattle.std.proofs.lemmas.List.{length-set}
 use Rattle.mv_layout.specs.declared.Config.{Config}
-use Rattle.mv_core.specs.declared.ring.Slot.{Slot}
-use Rattle.mv_core.specs.declared.ring.Slot.TheVariants.{Free, Built, Live, Freeing}
-use Rattle.mv_core.specs.declared.ring.Build.{Build}
-use Rattle.mv_core.specs.declared.view.View.{View}
-use Rattle.mv_core.specs.Rings.{slot_at, index_of, is_held, held_count}
-use Rattle.mv_core.specs.LockSteps.{nothing_built, build_in, built_too, FitsField, MayStoreBuilt, built_stored}
-use Rattle.mv_core.proofs.logs.Slots.{slot_here}
-use Rattle.mv_core.proofs.logs.Counts.{held_same}
+use Rattle.reader_marks.specs.mv_core.declared.ring.Slot.{Slot}
+use Rattle.reader_marks.specs.mv_core.declared.ring.Slot.TheVariants.{Free, Built, Live, Freeing}
+use Rattle.reader_marks.specs.mv_core.declared.ring.Build.{Build}
+use Rattle.reader_marks.specs.mv_core.declared.view.View.{View}
+use Rattle.reader_marks.specs.mv_core.Rings.{slot_at, index_of, is_held, held_count}
+use Rattle.reader_marks.specs.mv_core.LockSteps.{nothing_built, build_in, built_too, FitsField, MayStoreBuilt, built_stored}
+use Rattle.reader_marks.proofs.mv_core_lemmas.logs.Slots.{slot_here}
+use Rattle.reader_marks.proofs.mv_core_lemmas.logs.Counts.{held_same}
 use Rattle.seat_log.specs.Builds.{build_at, stored_next, words_stored, begun, linked, slot_built, MayBuild, first_in}
 
 -- what is in a slot that may be built isn't held

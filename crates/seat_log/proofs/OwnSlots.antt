@@ -4,10 +4,10 @@ use Rattle.mv_history.specs.declared.Protocol.{Ghosts}
 use Rattle.mv_layout.specs.declared.Config.{Config}
 use Rattle.mv_layout.specs.declared.Place.TheVariants.{First}
 use Rattle.mv_layout.specs.Cells.{cell_of}
-use Rattle.mv_core.specs.declared.shared.Pass.{Pass}
-use Rattle.mv_core.specs.declared.shared.Shared.{Shared}
-use Rattle.mv_core.specs.Passes.{IsOf, IsOwnSlot, IsSame, config_of}
-use Rattle.mv_core.specs.Rings.{index_of}
+use Rattle.reader_marks.specs.mv_core.declared.shared.Pass.{Pass}
+use Rattle.reader_marks.specs.mv_core.declared.shared.Shared.{Shared}
+use Rattle.reader_marks.specs.mv_core.Passes.{IsOf, IsOwnSlot, IsSame, config_of}
+use Rattle.reader_marks.specs.mv_core.Rings.{index_of}
 
 pub own_still : {P : Type 0} {g : Ghosts P} (c : Config) (position slot : ℕ) (p q : Pass P g) → IsSame p q → IsOwnSlot c p position slot
     → IsOwnSlot c q position slot

@@ -5,10 +5,10 @@ use Rattle.std.proofs.lemmas.List.Elements.{All-nil, All-cons, All-weaker}
 use Rattle.mv_history.specs.declared.Step.{Step}
 use Rattle.mv_history.specs.declared.StepKind.{StepKind}
 use Rattle.mv_layout.specs.declared.Config.{Config}
-use Rattle.mv_core.specs.declared.view.View.{View}
-use Rattle.mv_core.specs.EnterSteps.{mark_cleared}
-use Rattle.commit_clock.specs.Helps.{IsHelpStep}
-use Rattle.commit_clock.proofs.HelpKinds.{help_kind}
+use Rattle.reader_marks.specs.mv_core.declared.view.View.{View}
+use Rattle.reader_marks.specs.mv_core.EnterSteps.{mark_cleared}
+use Rattle.reader_marks.specs.commit_clock.Helps.{IsHelpStep}
+use Rattle.reader_marks.proofs.commit_clock_lemmas.HelpKinds.{help_kind}
 use Rattle.reader_marks.specs.Sections.{IsEnterStep, Begins}
 use Rattle.reader_marks.proofs.EnterKinds.{enter_kind}
 use Rattle.seat_log.specs.Notes.{Noted}

@@ -3,12 +3,12 @@ use Rattle.std.proofs.Common.{◌≡◌, ℕ, zero, suc, ◌+◌, ◌-◌, ◌<�
 use Rattle.std.specs.Prelude.{slice_set, unwrap_or}
 use Rattle.std.proofs.lemmas.List.{length-map, length-set}
 use Rattle.mv_layout.specs.declared.Config.{Config}
-use Rattle.mv_core.specs.declared.ring.Slot.TheVariants.{Live}
-use Rattle.mv_core.specs.declared.ring.Build.{Build}
-use Rattle.mv_core.specs.declared.ring.Status.TheVariants.{Held}
-use Rattle.mv_core.specs.declared.view.View.{View}
-use Rattle.mv_core.specs.Rings.{slot_at, index_of}
-use Rattle.mv_core.specs.LockSteps.{nothing_built, build_in, built_too}
+use Rattle.reader_marks.specs.mv_core.declared.ring.Slot.TheVariants.{Live}
+use Rattle.reader_marks.specs.mv_core.declared.ring.Build.{Build}
+use Rattle.reader_marks.specs.mv_core.declared.ring.Status.TheVariants.{Held}
+use Rattle.reader_marks.specs.mv_core.declared.view.View.{View}
+use Rattle.reader_marks.specs.mv_core.Rings.{slot_at, index_of}
+use Rattle.reader_marks.specs.mv_core.LockSteps.{nothing_built, build_in, built_too}
 use Rattle.seat_log.specs.declared.version.Note.{Note}
 use Rattle.seat_log.specs.Notes.{Noted, built_count, IsNoteAt, IsNextOf, IsHeld, with_word, without_previous, cleared, built_word, built_word_noted}
 use Rattle.seat_log.specs.Stands.{version_of, IsAllStored, HasBuilt, Stands}

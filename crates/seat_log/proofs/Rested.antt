@@ -5,10 +5,10 @@ use Rattle.std.proofs.Math.Bridge.{le_prop}
 use Rattle.mv_history.specs.declared.Entry.{Entry}
 use Rattle.mv_history.specs.State.{State, Writes}
 use Rattle.mv_layout.specs.declared.Config.{Config}
-use Rattle.mv_core.specs.declared.view.View.{View}
-use Rattle.mv_core.specs.Known.{Known}
-use Rattle.mv_core.specs.NameSteps.{rest_named, rest_lost}
-use Rattle.mv_core.proofs.history.OwnEntries.{own_seen}
+use Rattle.reader_marks.specs.mv_core.declared.view.View.{View}
+use Rattle.reader_marks.specs.mv_core.Known.{Known}
+use Rattle.reader_marks.specs.mv_core.NameSteps.{rest_named, rest_lost}
+use Rattle.reader_marks.proofs.mv_core_lemmas.history.OwnEntries.{own_seen}
 use Rattle.seat_log.specs.Notes.{Noted, rest_noted}
 use Rattle.seat_log.specs.Stands.{is_free, is_won_cut, Stands}
 use Rattle.seat_log.proofs.BuildsOn.{unpassed}

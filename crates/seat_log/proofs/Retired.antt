@@ -8,18 +8,18 @@ use mathlib.Core.Logic.{dite}
 use native.Mathlib.Decide.{ℕ_discrete}
 use Rattle.mv_history.specs.declared.Entry.{Entry}
 use Rattle.mv_layout.specs.declared.Config.{Config}
-use Rattle.mv_core.specs.declared.ring.Ring.{Ring}
-use Rattle.mv_core.specs.declared.ring.Slot.{Slot}
-use Rattle.mv_core.specs.declared.ring.Slot.TheVariants.{Free, Built, Live, Freeing}
-use Rattle.mv_core.specs.declared.ring.Status.{Status}
-use Rattle.mv_core.specs.declared.ring.Status.TheVariants.{Held, Aborted, Committed}
-use Rattle.mv_core.specs.declared.ring.CommitNote.{CommitNote}
-use Rattle.mv_core.specs.declared.view.View.{View}
-use Rattle.mv_core.specs.Rings.{slot_at, index_of, put_slot, is_held, is_spare}
-use Rattle.mv_core.specs.ReclaimSteps.{MayLoadSuper, super_note, super_loaded}
-use Rattle.mv_core.proofs.logs.Links.{live_once}
-use Rattle.mv_core.proofs.logs.Slots.{slot_here, slot_else, live_within}
-use Rattle.mv_core.proofs.logs.Counts.{count_same}
+use Rattle.reader_marks.specs.mv_core.declared.ring.Ring.{Ring}
+use Rattle.reader_marks.specs.mv_core.declared.ring.Slot.{Slot}
+use Rattle.reader_marks.specs.mv_core.declared.ring.Slot.TheVariants.{Free, Built, Live, Freeing}
+use Rattle.reader_marks.specs.mv_core.declared.ring.Status.{Status}
+use Rattle.reader_marks.specs.mv_core.declared.ring.Status.TheVariants.{Held, Aborted, Committed}
+use Rattle.reader_marks.specs.mv_core.declared.ring.CommitNote.{CommitNote}
+use Rattle.reader_marks.specs.mv_core.declared.view.View.{View}
+use Rattle.reader_marks.specs.mv_core.Rings.{slot_at, index_of, put_slot, is_held, is_spare}
+use Rattle.reader_marks.specs.mv_core.ReclaimSteps.{MayLoadSuper, super_note, super_loaded}
+use Rattle.reader_marks.proofs.mv_core_lemmas.logs.Links.{live_once}
+use Rattle.reader_marks.proofs.mv_core_lemmas.logs.Slots.{slot_here, slot_else, live_within}
+use Rattle.reader_marks.proofs.mv_core_lemmas.logs.Counts.{count_same}
 use Rattle.seat_log.specs.declared.version.Note.{Note}
 use Rattle.seat_log.specs.Notes.{Noted, next_of, held_from, IsNoteAt, IsLive, retired}
 use Rattle.seat_log.specs.Stands.{version_of, death_of, IsAsNoted, HasNoted, HasBuilt, is_cut, cut_count, is_free, is_won_cut, writes_in, Stands}

@@ -1,12 +1,12 @@
 -- How many slots of two logs pass a test that each slot of the one passes where that of the other does.
 use Rattle.std.proofs.Common.{◌≡◌, ◌≢◌, ℕ, suc, ◌+◌, Bool, false, count_by, List, [], ◌∷◌, length, refl, sym, ◌∙◌, arith, slice_index_or}
 use Rattle.std.proofs.lemmas.List.Sums.{sum_by-cons}
-use Rattle.mv_core.specs.declared.ring.Slot.{Slot}
-use Rattle.mv_core.specs.declared.ring.Slot.TheVariants.{Free, Built, Live, Freeing}
-use Rattle.mv_core.specs.declared.ring.Version.{Version}
-use Rattle.mv_core.specs.declared.ring.Status.{Status}
-use Rattle.mv_core.specs.Rings.{is_held}
-use Rattle.mv_core.proofs.logs.Counts.{one_if}
+use Rattle.reader_marks.specs.mv_core.declared.ring.Slot.{Slot}
+use Rattle.reader_marks.specs.mv_core.declared.ring.Slot.TheVariants.{Free, Built, Live, Freeing}
+use Rattle.reader_marks.specs.mv_core.declared.ring.Version.{Version}
+use Rattle.reader_marks.specs.mv_core.declared.ring.Status.{Status}
+use Rattle.reader_marks.specs.mv_core.Rings.{is_held}
+use Rattle.reader_marks.proofs.mv_core_lemmas.logs.Counts.{one_if}
 
 -- as many pass it
 pub count_alike : (p : Slot → Bool) (xs ys : List Slot) → length xs ≡ length ys

@@ -5,13 +5,13 @@ use Rattle.std.proofs.lemmas.List.{length-map}
 use mathlib.Core.Logic.{dite}
 use native.Mathlib.Decide.{ℕ_discrete}
 use Rattle.mv_layout.specs.declared.Config.{Config}
-use Rattle.mv_core.specs.declared.ring.Slot.{Slot}
-use Rattle.mv_core.specs.declared.ring.Slot.TheVariants.{Free, Built, Live, Freeing}
-use Rattle.mv_core.specs.declared.ring.Build.{Build}
-use Rattle.mv_core.specs.declared.view.View.{View}
-use Rattle.mv_core.specs.Rings.{slot_at, index_of, is_held, is_spare}
-use Rattle.mv_core.specs.LockSteps.{nothing_built, build_in}
-use Rattle.mv_core.proofs.logs.HeldSet.{slots_apart}
+use Rattle.reader_marks.specs.mv_core.declared.ring.Slot.{Slot}
+use Rattle.reader_marks.specs.mv_core.declared.ring.Slot.TheVariants.{Free, Built, Live, Freeing}
+use Rattle.reader_marks.specs.mv_core.declared.ring.Build.{Build}
+use Rattle.reader_marks.specs.mv_core.declared.view.View.{View}
+use Rattle.reader_marks.specs.mv_core.Rings.{slot_at, index_of, is_held, is_spare}
+use Rattle.reader_marks.specs.mv_core.LockSteps.{nothing_built, build_in}
+use Rattle.reader_marks.proofs.mv_core_lemmas.logs.HeldSet.{slots_apart}
 use Rattle.seat_log.specs.declared.version.Note.{Note}
 use Rattle.seat_log.specs.Notes.{Noted, next_of, first_of, built_count, IsNoteAt, IsNextOf, IsLog, next_note, built_noted, dropped}
 use Rattle.seat_log.specs.Stands.{version_of, HasBuilt, is_cut, writes_in, Stands}

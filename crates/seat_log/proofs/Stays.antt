@@ -5,15 +5,15 @@ use Rattle.std.proofs.lemmas.List.{length-set}
 use mathlib.Core.Logic.{dite}
 use native.Mathlib.Decide.{ℕ_discrete}
 use Rattle.mv_layout.specs.declared.Config.{Config}
-use Rattle.mv_core.specs.declared.ring.Ring.{Ring}
-use Rattle.mv_core.specs.declared.ring.Slot.{Slot}
-use Rattle.mv_core.specs.declared.ring.Slot.TheVariants.{Free, Built, Live, Freeing}
-use Rattle.mv_core.specs.declared.ring.Status.TheVariants.{Held}
-use Rattle.mv_core.specs.declared.view.View.{View}
-use Rattle.mv_core.specs.Rings.{slot_at, index_of, put_slot, is_held, held_count, is_spare, spare_count, set_first}
-use Rattle.mv_core.specs.LockSteps.{locked_version, head_locked}
-use Rattle.mv_core.proofs.logs.Slots.{slot_here, slot_else, slot_within}
-use Rattle.mv_core.proofs.logs.Counts.{count_same, count_less, held_more}
+use Rattle.reader_marks.specs.mv_core.declared.ring.Ring.{Ring}
+use Rattle.reader_marks.specs.mv_core.declared.ring.Slot.{Slot}
+use Rattle.reader_marks.specs.mv_core.declared.ring.Slot.TheVariants.{Free, Built, Live, Freeing}
+use Rattle.reader_marks.specs.mv_core.declared.ring.Status.TheVariants.{Held}
+use Rattle.reader_marks.specs.mv_core.declared.view.View.{View}
+use Rattle.reader_marks.specs.mv_core.Rings.{slot_at, index_of, put_slot, is_held, held_count, is_spare, spare_count, set_first}
+use Rattle.reader_marks.specs.mv_core.LockSteps.{locked_version, head_locked}
+use Rattle.reader_marks.proofs.mv_core_lemmas.logs.Slots.{slot_here, slot_else, slot_within}
+use Rattle.reader_marks.proofs.mv_core_lemmas.logs.Counts.{count_same, count_less, held_more}
 use Rattle.seat_log.specs.declared.version.Note.{Note}
 use Rattle.seat_log.specs.Notes.{Noted, next_of, held_from, built_list, IsNextOf, held_noted}
 use Rattle.seat_log.specs.Stands.{version_of, IsAsNoted, HasNoted, HasBuilt, is_cut, cut_count, is_free, is_won_cut, is_won_lock, writes_in, Stands}

@@ -3,7 +3,7 @@ use Rattle.std.proofs.Common.{◌≡◌, ◌≢◌, ℕ, ◌+◌, ◌&&◌, not,
 use Rattle.std.proofs.lemmas.List.Elements.{All-nil, All-cons, All-head, All-tail}
 use Rattle.std.proofs.lemmas.List.Sums.{sum_by-cons, sum_by-append}
 use Rattle.mv_history.specs.declared.Step.{Step}
-use Rattle.mv_core.proofs.logs.Counts.{one_if}
+use Rattle.reader_marks.proofs.mv_core_lemmas.logs.Counts.{one_if}
 use Rattle.seat_log.specs.Stands.{is_won_lock, is_unlock, ends_unlocking, unlocks_after, aborts_in}
 
 -- none of these steps passes a test

@@ -4,18 +4,18 @@ use Rattle.std.specs.Prelude.{unwrap_or, slice_index}
 use Rattle.mv_layout.specs.declared.Config.{Config}
 use Rattle.mv_layout.specs.declared.cells.TheConstants.{FIRST_OFFSET, STAMP_OFFSET, PREV_OFFSET, SUPER_OFFSET, DATA_OFFSET}
 use Rattle.mv_layout.specs.Words.{unset_of}
-use Rattle.mv_core.specs.declared.ring.Build.{Build}
-use Rattle.mv_core.specs.declared.ring.Slot.{Slot}
-use Rattle.mv_core.specs.declared.ring.Slot.TheVariants.{Live}
-use Rattle.mv_core.specs.declared.ring.Version.{Version}
-use Rattle.mv_core.specs.declared.ring.Status.TheVariants.{Committed}
-use Rattle.mv_core.specs.declared.ring.CommitNote.{CommitNote}
-use Rattle.mv_core.specs.declared.view.View.{View}
-use Rattle.mv_core.specs.declared.view.Phase.TheVariants.{Inside}
-use Rattle.mv_core.specs.declared.view.Section.{Section}
-use Rattle.mv_core.specs.declared.view.Mode.TheVariants.{Open}
-use Rattle.mv_core.specs.Rings.{slot_at, index_of, set_first}
-use Rattle.mv_core.specs.LockSteps.{nothing_built, build_in, built_stored, data_stored}
+use Rattle.reader_marks.specs.mv_core.declared.ring.Build.{Build}
+use Rattle.reader_marks.specs.mv_core.declared.ring.Slot.{Slot}
+use Rattle.reader_marks.specs.mv_core.declared.ring.Slot.TheVariants.{Live}
+use Rattle.reader_marks.specs.mv_core.declared.ring.Version.{Version}
+use Rattle.reader_marks.specs.mv_core.declared.ring.Status.TheVariants.{Committed}
+use Rattle.reader_marks.specs.mv_core.declared.ring.CommitNote.{CommitNote}
+use Rattle.reader_marks.specs.mv_core.declared.view.View.{View}
+use Rattle.reader_marks.specs.mv_core.declared.view.Phase.TheVariants.{Inside}
+use Rattle.reader_marks.specs.mv_core.declared.view.Section.{Section}
+use Rattle.reader_marks.specs.mv_core.declared.view.Mode.TheVariants.{Open}
+use Rattle.reader_marks.specs.mv_core.Rings.{slot_at, index_of, set_first}
+use Rattle.reader_marks.specs.mv_core.LockSteps.{nothing_built, build_in, built_stored, data_stored}
 
 -- the view is in an open section
 abbrev pub IsOpen : View → Type 0

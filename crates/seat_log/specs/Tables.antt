@@ -1,8 +1,8 @@
 -- The table of a log's counts, and what each of them is of the pass.
 use Rattle.std.specs.Prelude.{◌≡◌, ◌+◌, ◌≤◌, count_by, length}
 use Rattle.mv_history.specs.declared.answers.LogTable.{LogTable}
-use Rattle.mv_core.specs.declared.view.View.{View}
-use Rattle.mv_core.specs.Rings.{held_count}
+use Rattle.reader_marks.specs.mv_core.declared.view.View.{View}
+use Rattle.reader_marks.specs.mv_core.Rings.{held_count}
 use Rattle.seat_log.specs.Notes.{Noted}
 use Rattle.seat_log.specs.Stands.{is_free, is_won_cut, is_won_lock, aborts_in, writes_in}
 

@@ -1,8 +1,8 @@
 // Building a version in the next slot of the own log.
 ghost use Rattle.std.specs.Prelude.{◌≡◌, ◌⊎◌, ℕ, ◌+◌, ◌<◌, ◌^◌, ◌==◌, if◌then◌else◌, length, None};
 ghost use Rattle.mv_layout.specs.Words.{unset_of};
-ghost use Rattle.mv_core.specs.Passes.{view, IsOf, IsOwnSlot, IsSame, config_of};
-ghost use Rattle.mv_core.specs.LockSteps.{FitsField};
+ghost use Rattle.reader_marks.specs.mv_core.Passes.{view, IsOf, IsOwnSlot, IsSame, config_of};
+ghost use Rattle.reader_marks.specs.mv_core.LockSteps.{FitsField};
 ghost use Rattle.seat_log.specs.Notes.{IsBuilt, next_of, first_of, next_note, built_noted, without_previous, cleared, IsHeld};
 ghost use Rattle.seat_log.specs.Notes.{built_word_noted, word_noted};
 ghost use Rattle.seat_log.specs.Stands.{Stands};
@@ -10,11 +10,11 @@ ghost use Rattle.seat_log.specs.Builds.{IsOpen, MayBuild, first_in, stored_next,
 
 use crate::log::Log;
 use crate::version::Note;
-use mv_core::{Pass, Shared, Steps};
 use mv_history::{Protocol, Words};
 use mv_layout::{
     DATA_OFFSET, FIRST_OFFSET, PREV_OFFSET, STAMP_OFFSET, SUPER_OFFSET, WIDTH, unset_stamp,
 };
+use reader_marks::mv_core::{Pass, Shared, Steps};
 use std::sync::ledger::Ledger;
 
 // Stores one word of the version that is built, whose slot begins at this cell.

@@ -1,7 +1,7 @@
 // What a log has come to.
 ghost use Rattle.std.specs.Prelude.{◌≡◌};
 ghost use Rattle.mv_layout.specs.declared.Config.{Config};
-ghost use Rattle.mv_core.specs.declared.view.View.{View};
+ghost use Rattle.reader_marks.specs.mv_core.declared.view.View.{View};
 ghost use Rattle.seat_log.specs.Stands.{Stands};
 ghost use Rattle.seat_log.specs.Tables.{table_of, Counts};
 

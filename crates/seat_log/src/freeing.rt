@@ -1,9 +1,9 @@
 // Freeing the oldest write set of a log.
 ghost use Rattle.std.specs.Prelude.{◌≡◌, ℕ, ◌+◌, ◌<◌, ◌≤◌, ◌^◌, drop};
 ghost use Rattle.std.specs.VecDeque.{deque_len, deque_capacity};
-ghost use Rattle.mv_core.specs.declared.view.Phase.TheVariants.{Outside};
-ghost use Rattle.mv_core.specs.Passes.{view, IsOf, IsSame, config_of};
-ghost use Rattle.mv_core.specs.ReclaimSteps.{MayStoreFree};
+ghost use Rattle.reader_marks.specs.mv_core.declared.view.Phase.TheVariants.{Outside};
+ghost use Rattle.reader_marks.specs.mv_core.Passes.{view, IsOf, IsSame, config_of};
+ghost use Rattle.reader_marks.specs.mv_core.ReclaimSteps.{MayStoreFree};
 ghost use Rattle.reader_marks.specs.Scans.{IsKnown};
 ghost use Rattle.seat_log.specs.Stands.{Stands};
 ghost use Rattle.seat_log.specs.Frees.{FreesSet, freed_noted, slots_freed};
@@ -11,9 +11,9 @@ ghost use Rattle.seat_log.specs.Frees.{FreesSet, freed_noted, slots_freed};
 use crate::log::Log;
 use crate::notes::{live, note};
 use crate::version::Note;
-use mv_core::{Pass, Shared, Steps};
 use mv_history::Protocol;
 use reader_marks::Watermark;
+use reader_marks::mv_core::{Pass, Shared, Steps};
 use std::alloc::Global;
 use std::collections::VecDeque;
 use std::sync::ledger::Ledger;

@@ -36,6 +36,7 @@
 //!
 //! The crate stands on `mv_core` for its steps, on `reader_marks` for watermarks, and on `mv_layout`
 //! for the packing of stamps.
+//! Crates above name `reader_marks`, `commit_clock` and `mv_core` through this crate.
 #![tactic(auto)]
 
 mod building;
@@ -54,5 +55,7 @@ pub use notes::{
     drop_built, held, live, new_log, note, note_abort, note_commit, note_cut, note_held, note_rest,
     retire, room,
 };
+pub use reader_marks;
+pub use reader_marks::{commit_clock, mv_core};
 pub use version::Note;
 pub use writing::put_words;

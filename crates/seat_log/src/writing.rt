@@ -1,15 +1,15 @@
 // Writing all data words of a held version.
 ghost use Rattle.std.specs.Prelude.{◌≡◌, ◌+◌, length};
-ghost use Rattle.mv_core.specs.Passes.{view, IsOf, IsSame, config_of};
+ghost use Rattle.reader_marks.specs.mv_core.Passes.{view, IsOf, IsSame, config_of};
 ghost use Rattle.seat_log.specs.Notes.{IsHeld, with_words, some_noted, words_noted};
 ghost use Rattle.seat_log.specs.Stands.{Stands};
 ghost use Rattle.seat_log.specs.Builds.{IsOpen, words_put, ChangesLog};
 
 use crate::log::Log;
 use crate::version::Note;
-use mv_core::{Pass, Shared, Steps};
 use mv_history::{Protocol, Words};
 use mv_layout::WIDTH;
+use reader_marks::mv_core::{Pass, Shared, Steps};
 use std::sync::ledger::Ledger;
 
 // Stores these words, in order, and notes nothing.

@@ -6,8 +6,8 @@ use Rattle.std.proofs.lemmas.List.Elements.{All-head, All-tail}
 use Rattle.mv_history.specs.declared.Entry.{Entry}
 use Rattle.mv_history.specs.declared.Entry.TheVariants.{Rest, Change}
 use Rattle.mv_history.specs.State.{State, Writes, maker_of, commits_of, rests_of}
-use Rattle.mv_core.specs.declared.view.View.{View}
-use Rattle.mv_core.specs.Known.{Known}
+use Rattle.seat_log.specs.mv_core.declared.view.View.{View}
+use Rattle.seat_log.specs.mv_core.Known.{Known}
 
 -- a history of one seat is as long as its commits and rests are many
 all_own : (n : ℕ) (h : List Entry) → n < 1 → All (λ e. maker_of e < 1) h → length h ≡ length (commits_of n h) + rests_of n h

@@ -4,7 +4,7 @@ use Rattle.mv_history.specs.State.{State, Writes}
 use Rattle.mv_history.specs.declared.answers.Holder.{Holder}
 use Rattle.mv_history.specs.declared.answers.Holder.TheVariants.{Fresh}
 use Rattle.mv_layout.specs.declared.Config.{Config}
-use Rattle.mv_core.specs.declared.view.View.{View}
+use Rattle.seat_log.specs.mv_core.declared.view.View.{View}
 use Rattle.seat_log.specs.declared.version.Note.{Note}
 use Rattle.seat_log.specs.Notes.{Noted}
 use Rattle.log_reclaim.specs.declared.settling.Found.{Found}

@@ -8,8 +8,8 @@ use Rattle.mv_history.specs.declared.Step.{Step}
 use Rattle.mv_history.specs.declared.StepKind.{StepKind}
 use Rattle.mv_history.specs.declared.StepKind.TheVariants.{LoadMark, RaiseGrace}
 use Rattle.mv_layout.specs.declared.Config.{Config}
-use Rattle.reader_marks.specs.declared.scanning.Watermark.{Watermark}
-use Rattle.reader_marks.specs.Scans.{IsFixedBy, mark_step, mark_steps, scan_step, grace_step, scan_steps}
+use Rattle.seat_log.specs.reader_marks.declared.scanning.Watermark.{Watermark}
+use Rattle.seat_log.specs.reader_marks.Scans.{IsFixedBy, mark_step, mark_steps, scan_step, grace_step, scan_steps}
 use Rattle.log_reclaim.specs.Parts.{BeginsNoScan, HasScanned}
 use Rattle.log_reclaim.specs.Holders.{ReadsMark, IsAfterScan, FindsLast}
 

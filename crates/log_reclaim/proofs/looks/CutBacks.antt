@@ -3,23 +3,23 @@ use Rattle.std.proofs.Common.{◌≡◌, ◌≢◌, ℕ, zero, suc, ◌+◌, ◌
 use Rattle.mv_history.specs.declared.Entry.{Entry}
 use Rattle.mv_layout.specs.declared.Config.{Config}
 use Rattle.mv_layout.specs.Words.{clock_time_of, link_of, link_seat_of}
-use Rattle.mv_core.specs.declared.ring.Ring.{Ring}
-use Rattle.mv_core.specs.declared.ring.Slot.TheVariants.{Live}
-use Rattle.mv_core.specs.declared.ring.Version.{Version}
-use Rattle.mv_core.specs.declared.ring.Status.TheVariants.{Committed}
-use Rattle.mv_core.specs.declared.ring.CommitNote.{CommitNote}
-use Rattle.mv_core.specs.declared.view.View.{View}
-use Rattle.mv_core.specs.Rings.{slot_at, index_of, put_slot, is_held, HoldsNothing}
-use Rattle.mv_core.specs.EnterSteps.{IsWhole, mark_cleared}
-use Rattle.mv_core.specs.Tops.{NamesNewer}
-use Rattle.mv_core.specs.WalkSteps.{IsLinkOf}
-use Rattle.mv_core.specs.LockSteps.{timed, MayLoadDeath, death_loaded}
-use Rattle.mv_core.specs.ReclaimSteps.{MayCutHead, head_cut, cut_lost, IsOfOther}
-use Rattle.mv_core.proofs.logs.Slots.{live_within, slot_here}
-use Rattle.mv_core.proofs.logs.Counts.{held_same, held_mapped}
-use Rattle.mv_core.proofs.kinds.entering.LoadTime.{holds_none}
-use Rattle.mv_core.proofs.kinds.locking.lock_head.LockedLog.{none_held}
-use Rattle.reader_marks.specs.Sections.{IsOpen}
+use Rattle.seat_log.specs.mv_core.declared.ring.Ring.{Ring}
+use Rattle.seat_log.specs.mv_core.declared.ring.Slot.TheVariants.{Live}
+use Rattle.seat_log.specs.mv_core.declared.ring.Version.{Version}
+use Rattle.seat_log.specs.mv_core.declared.ring.Status.TheVariants.{Committed}
+use Rattle.seat_log.specs.mv_core.declared.ring.CommitNote.{CommitNote}
+use Rattle.seat_log.specs.mv_core.declared.view.View.{View}
+use Rattle.seat_log.specs.mv_core.Rings.{slot_at, index_of, put_slot, is_held, HoldsNothing}
+use Rattle.seat_log.specs.mv_core.EnterSteps.{IsWhole, mark_cleared}
+use Rattle.seat_log.specs.mv_core.Tops.{NamesNewer}
+use Rattle.seat_log.specs.mv_core.WalkSteps.{IsLinkOf}
+use Rattle.seat_log.specs.mv_core.LockSteps.{timed, MayLoadDeath, death_loaded}
+use Rattle.seat_log.specs.mv_core.ReclaimSteps.{MayCutHead, head_cut, cut_lost, IsOfOther}
+use Rattle.seat_log.proofs.mv_core_lemmas.logs.Slots.{live_within, slot_here}
+use Rattle.seat_log.proofs.mv_core_lemmas.logs.Counts.{held_same, held_mapped}
+use Rattle.seat_log.proofs.mv_core_lemmas.kinds.entering.LoadTime.{holds_none}
+use Rattle.seat_log.proofs.mv_core_lemmas.kinds.locking.lock_head.LockedLog.{none_held}
+use Rattle.seat_log.specs.reader_marks.Sections.{IsOpen}
 use Rattle.seat_log.specs.declared.version.Note.{Note}
 use Rattle.seat_log.specs.Notes.{Noted, next_of, IsLive, retired, back_noted}
 use Rattle.seat_log.specs.Stands.{version_of, death_of, Stands}

@@ -9,12 +9,12 @@ use native.Mathlib.Decide.{dec_lt}
 use Rattle.mv_history.specs.State.{State, Writes}
 use Rattle.mv_history.specs.declared.Step.{Step}
 use Rattle.mv_layout.specs.declared.Config.{Config}
-use Rattle.mv_core.specs.declared.view.View.{View}
-use Rattle.mv_core.specs.Times.{latest, latest_at}
-use Rattle.mv_core.specs.Known.{Known}
-use Rattle.mv_core.proofs.history.Latest.{latest_at-mono, latest_at-latest}
-use Rattle.mv_core.proofs.history.Fronts.{latest_at-more}
-use Rattle.reader_marks.specs.declared.scanning.Watermark.{Watermark}
+use Rattle.seat_log.specs.mv_core.declared.view.View.{View}
+use Rattle.seat_log.specs.mv_core.Times.{latest, latest_at}
+use Rattle.seat_log.specs.mv_core.Known.{Known}
+use Rattle.seat_log.proofs.mv_core_lemmas.history.Latest.{latest_at-mono, latest_at-latest}
+use Rattle.seat_log.proofs.mv_core_lemmas.history.Fronts.{latest_at-more}
+use Rattle.seat_log.specs.reader_marks.declared.scanning.Watermark.{Watermark}
 use Rattle.seat_log.specs.declared.version.Note.{Note}
 use Rattle.seat_log.specs.Notes.{Noted, IsNoteAt, retired}
 use Rattle.seat_log.specs.Stands.{Stands}

@@ -2,15 +2,15 @@
 use Rattle.std.proofs.Common.{ℕ, Option, Some, None}
 use Rattle.mv_layout.specs.declared.Config.{Config}
 use Rattle.mv_layout.specs.Words.{link_position_of}
-use Rattle.mv_core.specs.declared.ring.Version.{Version}
-use Rattle.mv_core.specs.declared.ring.CommitNote.{CommitNote}
-use Rattle.mv_core.specs.declared.view.View.{View}
-use Rattle.mv_core.specs.declared.view.Section.{Section}
-use Rattle.mv_core.specs.declared.view.Walk.{Walk}
-use Rattle.mv_core.specs.declared.view.Walk.TheVariants.{At}
-use Rattle.mv_core.specs.declared.view.WriteBack.{WriteBack}
-use Rattle.mv_core.specs.Rings.{slot_at, index_of}
-use Rattle.reader_marks.specs.Sections.{section_in}
+use Rattle.seat_log.specs.mv_core.declared.ring.Version.{Version}
+use Rattle.seat_log.specs.mv_core.declared.ring.CommitNote.{CommitNote}
+use Rattle.seat_log.specs.mv_core.declared.view.View.{View}
+use Rattle.seat_log.specs.mv_core.declared.view.Section.{Section}
+use Rattle.seat_log.specs.mv_core.declared.view.Walk.{Walk}
+use Rattle.seat_log.specs.mv_core.declared.view.Walk.TheVariants.{At}
+use Rattle.seat_log.specs.mv_core.declared.view.WriteBack.{WriteBack}
+use Rattle.seat_log.specs.mv_core.Rings.{slot_at, index_of}
+use Rattle.seat_log.specs.reader_marks.Sections.{section_in}
 use Rattle.seat_log.specs.Builds.{version_in, note_in}
 
 -- the version of a position, and what is noted of its commit

@@ -10,25 +10,25 @@ use Rattle.mv_history.specs.State.{State, Writes}
 use Rattle.mv_layout.specs.declared.Config.{Config}
 use Rattle.mv_layout.specs.Words.{link_of, link_seat_of, link_position_of}
 use Rattle.mv_layout.proofs.Unpacking.{link_seat_back, link_position_back}
-use Rattle.mv_core.specs.declared.ring.Slot.TheVariants.{Live}
-use Rattle.mv_core.specs.declared.ring.Status.TheVariants.{Held, Committed}
-use Rattle.mv_core.specs.declared.ring.CommitNote.{CommitNote}
-use Rattle.mv_core.specs.declared.ring.Version.{Version}
-use Rattle.mv_core.specs.declared.view.View.{View}
-use Rattle.mv_core.specs.declared.view.Section.{Section}
-use Rattle.mv_core.specs.declared.view.Walk.TheVariants.{At, Master}
-use Rattle.mv_core.specs.declared.view.Stand.{Stand}
-use Rattle.mv_core.specs.declared.view.Passed.TheVariants.{Nothing}
-use Rattle.mv_core.specs.Rings.{slot_at, index_of}
-use Rattle.mv_core.specs.Times.{latest}
-use Rattle.mv_core.specs.EnterSteps.{mark_cleared}
-use Rattle.mv_core.specs.Tops.{IsNewer}
-use Rattle.mv_core.specs.WalkSteps.{slot_named, IsLinkOf, IsOwnTop, IsOwnLink, IsLastOwn, IsLastSeen, IsWalking, MayLoadHead, stand_at, head_loaded}
-use Rattle.mv_core.specs.Known.{Known}
-use Rattle.mv_core.proofs.history.Latest.{latest_at-latest}
-use Rattle.mv_core.proofs.logs.Links.{link_some, live_once, note_once}
-use Rattle.reader_marks.specs.declared.scanning.Watermark.{Watermark}
-use Rattle.reader_marks.specs.Sections.{Begins, IsOpen, inside_of, section_in}
+use Rattle.seat_log.specs.mv_core.declared.ring.Slot.TheVariants.{Live}
+use Rattle.seat_log.specs.mv_core.declared.ring.Status.TheVariants.{Held, Committed}
+use Rattle.seat_log.specs.mv_core.declared.ring.CommitNote.{CommitNote}
+use Rattle.seat_log.specs.mv_core.declared.ring.Version.{Version}
+use Rattle.seat_log.specs.mv_core.declared.view.View.{View}
+use Rattle.seat_log.specs.mv_core.declared.view.Section.{Section}
+use Rattle.seat_log.specs.mv_core.declared.view.Walk.TheVariants.{At, Master}
+use Rattle.seat_log.specs.mv_core.declared.view.Stand.{Stand}
+use Rattle.seat_log.specs.mv_core.declared.view.Passed.TheVariants.{Nothing}
+use Rattle.seat_log.specs.mv_core.Rings.{slot_at, index_of}
+use Rattle.seat_log.specs.mv_core.Times.{latest}
+use Rattle.seat_log.specs.mv_core.EnterSteps.{mark_cleared}
+use Rattle.seat_log.specs.mv_core.Tops.{IsNewer}
+use Rattle.seat_log.specs.mv_core.WalkSteps.{slot_named, IsLinkOf, IsOwnTop, IsOwnLink, IsLastOwn, IsLastSeen, IsWalking, MayLoadHead, stand_at, head_loaded}
+use Rattle.seat_log.specs.mv_core.Known.{Known}
+use Rattle.seat_log.proofs.mv_core_lemmas.history.Latest.{latest_at-latest}
+use Rattle.seat_log.proofs.mv_core_lemmas.logs.Links.{link_some, live_once, note_once}
+use Rattle.seat_log.specs.reader_marks.declared.scanning.Watermark.{Watermark}
+use Rattle.seat_log.specs.reader_marks.Sections.{Begins, IsOpen, inside_of, section_in}
 use Rattle.seat_log.specs.declared.version.Note.{Note}
 use Rattle.seat_log.specs.Notes.{Noted, IsNoteAt, IsLog}
 use Rattle.seat_log.specs.Stands.{version_of, Stands}

@@ -11,10 +11,10 @@ use Rattle.mv_layout.specs.declared.Config.{Config}
 use Rattle.mv_layout.specs.declared.Place.TheVariants.{Head, Mark, Master}
 use Rattle.mv_layout.specs.Places.{place_of}
 use Rattle.mv_layout.specs.Words.{link_of}
-use Rattle.mv_core.specs.declared.view.View.{View}
-use Rattle.mv_core.specs.declared.view.Phase.TheVariants.{Outside}
-use Rattle.mv_core.specs.declared.view.Walk.TheVariants.{Nowhere}
-use Rattle.mv_core.specs.HistoryFacts.{BeginsWith}
+use Rattle.seat_log.specs.mv_core.declared.view.View.{View}
+use Rattle.seat_log.specs.mv_core.declared.view.Phase.TheVariants.{Outside}
+use Rattle.seat_log.specs.mv_core.declared.view.Walk.TheVariants.{Nowhere}
+use Rattle.seat_log.specs.mv_core.HistoryFacts.{BeginsWith}
 use Rattle.seat_log.specs.Notes.{Noted, retired, back_noted}
 use Rattle.seat_log.specs.Stands.{Stands}
 use Rattle.seat_log.proofs.PlainSteps.{kind_leaves, stands_left}
@@ -22,7 +22,7 @@ use Rattle.log_reclaim.specs.declared.writing_back.Back.{Back}
 use Rattle.log_reclaim.specs.declared.writing_back.BackEnd.{BackEnd}
 use Rattle.log_reclaim.specs.declared.writing_back.BackEnd.TheVariants.{Cut, Above}
 use Rattle.log_reclaim.specs.Backs.{IsWriting, StoresWord, IsCutAt, IsUncut, FinishesSo}
-use Rattle.mv_core.specs.Tops.{NamesNewer}
+use Rattle.seat_log.specs.mv_core.Tops.{NamesNewer}
 use Rattle.log_reclaim.specs.Parts.{IsReclaimKind, IsOtherKind, FindsSeat, FindsTop}
 use Rattle.log_reclaim.specs.Tries.{StoresAll}
 use Rattle.log_reclaim.proofs.looks.Visits.{IsPlain}

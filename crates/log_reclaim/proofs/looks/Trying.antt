@@ -7,17 +7,17 @@ use Rattle.std.proofs.lemmas.List.Elements.{All-append, Contains-append_right}
 use Rattle.mv_history.specs.State.{State, Writes}
 use Rattle.mv_history.specs.declared.Step.{Step}
 use Rattle.mv_layout.specs.declared.Config.{Config}
-use Rattle.mv_core.specs.declared.ring.Ring.{Ring}
-use Rattle.mv_core.specs.declared.view.View.{View}
-use Rattle.mv_core.specs.declared.view.Phase.TheVariants.{Outside}
-use Rattle.mv_core.specs.declared.view.Walk.TheVariants.{Nowhere}
-use Rattle.mv_core.specs.Chains.{IsLater}
-use Rattle.mv_core.specs.EnterSteps.{MayLoadLow}
-use Rattle.mv_core.specs.Rings.{slot_at, index_of}
-use Rattle.mv_core.specs.ReclaimSteps.{FoundEmpty}
-use Rattle.mv_core.specs.Known.{Known}
-use Rattle.mv_core.proofs.history.Fronts.{begins_by, begins_long}
-use Rattle.reader_marks.specs.declared.scanning.Watermark.{Watermark}
+use Rattle.seat_log.specs.mv_core.declared.ring.Ring.{Ring}
+use Rattle.seat_log.specs.mv_core.declared.view.View.{View}
+use Rattle.seat_log.specs.mv_core.declared.view.Phase.TheVariants.{Outside}
+use Rattle.seat_log.specs.mv_core.declared.view.Walk.TheVariants.{Nowhere}
+use Rattle.seat_log.specs.mv_core.Chains.{IsLater}
+use Rattle.seat_log.specs.mv_core.EnterSteps.{MayLoadLow}
+use Rattle.seat_log.specs.mv_core.Rings.{slot_at, index_of}
+use Rattle.seat_log.specs.mv_core.ReclaimSteps.{FoundEmpty}
+use Rattle.seat_log.specs.mv_core.Known.{Known}
+use Rattle.seat_log.proofs.mv_core_lemmas.history.Fronts.{begins_by, begins_long}
+use Rattle.seat_log.specs.reader_marks.declared.scanning.Watermark.{Watermark}
 use Rattle.seat_log.specs.declared.version.Note.{Note}
 use Rattle.seat_log.specs.Notes.{Noted, retired, back_noted}
 use Rattle.seat_log.specs.Stands.{version_of, Stands}

@@ -10,18 +10,18 @@ use Rattle.mv_layout.specs.declared.Config.{Config}
 use Rattle.mv_layout.specs.declared.Place.TheVariants.{Mark, Head}
 use Rattle.mv_layout.specs.Places.{place_of}
 use Rattle.mv_layout.specs.Words.{link_seat_of}
-use Rattle.mv_core.specs.declared.view.View.{View}
-use Rattle.mv_core.specs.declared.view.EmptyHead.{EmptyHead}
-use Rattle.mv_core.specs.declared.view.Phase.TheVariants.{Outside}
-use Rattle.mv_core.specs.declared.view.Walk.TheVariants.{Nowhere}
-use Rattle.mv_core.specs.HistoryFacts.{BeginsWith}
-use Rattle.mv_core.specs.EnterSteps.{MayLoadLow, mark_cleared}
-use Rattle.mv_core.specs.ReclaimSteps.{FoundEmpty}
-use Rattle.mv_core.specs.WalkSteps.{empty_too, head_loaded}
-use Rattle.mv_core.specs.Views.{time_in, no_clocks}
-use Rattle.mv_core.proofs.history.Fronts.{begins_by}
-use Rattle.reader_marks.specs.Sections.{IsEnterStep}
-use Rattle.reader_marks.proofs.EnterKinds.{enter_kind}
+use Rattle.seat_log.specs.mv_core.declared.view.View.{View}
+use Rattle.seat_log.specs.mv_core.declared.view.EmptyHead.{EmptyHead}
+use Rattle.seat_log.specs.mv_core.declared.view.Phase.TheVariants.{Outside}
+use Rattle.seat_log.specs.mv_core.declared.view.Walk.TheVariants.{Nowhere}
+use Rattle.seat_log.specs.mv_core.HistoryFacts.{BeginsWith}
+use Rattle.seat_log.specs.mv_core.EnterSteps.{MayLoadLow, mark_cleared}
+use Rattle.seat_log.specs.mv_core.ReclaimSteps.{FoundEmpty}
+use Rattle.seat_log.specs.mv_core.WalkSteps.{empty_too, head_loaded}
+use Rattle.seat_log.specs.mv_core.Views.{time_in, no_clocks}
+use Rattle.seat_log.proofs.mv_core_lemmas.history.Fronts.{begins_by}
+use Rattle.seat_log.specs.reader_marks.Sections.{IsEnterStep}
+use Rattle.seat_log.proofs.reader_marks_lemmas.EnterKinds.{enter_kind}
 use Rattle.seat_log.specs.Notes.{Noted}
 use Rattle.seat_log.specs.Stands.{is_free, is_won_cut, Stands}
 use Rattle.seat_log.proofs.BuildsOn.{unpassed}

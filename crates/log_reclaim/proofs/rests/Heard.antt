@@ -7,15 +7,15 @@ use Rattle.mv_layout.specs.declared.Config.{Config}
 use Rattle.mv_layout.specs.declared.Place.TheVariants.{Clock, Head, Mark}
 use Rattle.mv_layout.specs.Places.{place_of}
 use Rattle.mv_layout.specs.Words.{clock_time_of, link_of}
-use Rattle.mv_core.specs.declared.view.View.{View}
-use Rattle.mv_core.specs.declared.view.Section.{Section}
-use Rattle.mv_core.specs.EnterSteps.{mark_cleared}
-use Rattle.mv_core.specs.WalkSteps.{head_loaded}
-use Rattle.mv_core.specs.SeatSteps.{grace_loaded}
-use Rattle.commit_clock.specs.Hears.{TellsTime, FindsUpTo, Hears}
-use Rattle.commit_clock.proofs.Hearing.{hears_one, hears_on, hears_quiet}
-use Rattle.reader_marks.specs.declared.scanning.Watermark.{Watermark}
-use Rattle.reader_marks.specs.Scans.{Scans, scan_step, mark_steps, grace_step}
+use Rattle.seat_log.specs.mv_core.declared.view.View.{View}
+use Rattle.seat_log.specs.mv_core.declared.view.Section.{Section}
+use Rattle.seat_log.specs.mv_core.EnterSteps.{mark_cleared}
+use Rattle.seat_log.specs.mv_core.WalkSteps.{head_loaded}
+use Rattle.seat_log.specs.mv_core.SeatSteps.{grace_loaded}
+use Rattle.seat_log.specs.commit_clock.Hears.{TellsTime, FindsUpTo, Hears}
+use Rattle.seat_log.proofs.commit_clock_lemmas.Hearing.{hears_one, hears_on, hears_quiet}
+use Rattle.seat_log.specs.reader_marks.declared.scanning.Watermark.{Watermark}
+use Rattle.seat_log.specs.reader_marks.Scans.{Scans, scan_step, mark_steps, grace_step}
 use Rattle.seat_log.specs.declared.version.Note.{Note}
 use Rattle.seat_log.specs.Notes.{Noted}
 use Rattle.log_reclaim.specs.declared.writing_back.Back.{Back}

@@ -16,20 +16,20 @@ use Rattle.mv_layout.specs.declared.Config.{Config}
 use Rattle.mv_layout.specs.declared.Place.TheVariants.{Clock}
 use Rattle.mv_layout.specs.Places.{place_of}
 use Rattle.mv_layout.specs.Words.{clock_time_of}
-use Rattle.mv_core.specs.declared.view.View.{View}
-use Rattle.mv_core.specs.declared.view.Past.{Past}
-use Rattle.mv_core.specs.declared.view.Phase.{Phase}
-use Rattle.mv_core.specs.declared.view.Phase.TheVariants.{Outside}
-use Rattle.mv_core.specs.declared.view.Walk.TheVariants.{Nowhere}
-use Rattle.mv_core.specs.HistoryFacts.{BeginsWith}
-use Rattle.mv_core.specs.EnterSteps.{IsWhole, MayLoadLow, check_loaded}
-use Rattle.mv_core.specs.NameSteps.{MayNameRest, rest_word, rest_named, rest_lost}
-use Rattle.mv_core.specs.Known.{Known}
-use Rattle.mv_core.proofs.history.Fronts.{begins_by, begins_long}
-use Rattle.commit_clock.specs.Helps.{HasLoaded, IsHelpStep, Helps}
-use Rattle.commit_clock.proofs.HelpedPhase.{still_outside}
-use Rattle.commit_clock.proofs.HelpKinds.{help_kind}
-use Rattle.commit_clock.specs.Names.{IsLost}
+use Rattle.seat_log.specs.mv_core.declared.view.View.{View}
+use Rattle.seat_log.specs.mv_core.declared.view.Past.{Past}
+use Rattle.seat_log.specs.mv_core.declared.view.Phase.{Phase}
+use Rattle.seat_log.specs.mv_core.declared.view.Phase.TheVariants.{Outside}
+use Rattle.seat_log.specs.mv_core.declared.view.Walk.TheVariants.{Nowhere}
+use Rattle.seat_log.specs.mv_core.HistoryFacts.{BeginsWith}
+use Rattle.seat_log.specs.mv_core.EnterSteps.{IsWhole, MayLoadLow, check_loaded}
+use Rattle.seat_log.specs.mv_core.NameSteps.{MayNameRest, rest_word, rest_named, rest_lost}
+use Rattle.seat_log.specs.mv_core.Known.{Known}
+use Rattle.seat_log.proofs.mv_core_lemmas.history.Fronts.{begins_by, begins_long}
+use Rattle.seat_log.specs.commit_clock.Helps.{HasLoaded, IsHelpStep, Helps}
+use Rattle.seat_log.proofs.commit_clock_lemmas.HelpedPhase.{still_outside}
+use Rattle.seat_log.proofs.commit_clock_lemmas.HelpKinds.{help_kind}
+use Rattle.seat_log.specs.commit_clock.Names.{IsLost}
 use Rattle.seat_log.specs.Notes.{Noted, rest_noted}
 use Rattle.seat_log.specs.Stands.{Stands}
 use Rattle.seat_log.proofs.PlainSteps.{LeavesLog, kinds_leave, help_leaves, stands_left}

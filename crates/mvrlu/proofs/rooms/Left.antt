@@ -9,12 +9,12 @@ use Rattle.mv_history.specs.declared.StepKind.TheVariants.{NameCommit}
 use Rattle.mv_history.specs.Trail.{is_commit_exchange, commit_exchanges}
 use Rattle.mv_history.specs.Calls.{Prepares}
 use Rattle.mv_layout.specs.declared.Config.{Config}
-use Rattle.mv_core.specs.declared.view.View.{View}
-use Rattle.mv_core.specs.Rings.{spare_count}
-use Rattle.mv_core.specs.Known.{Known}
-use Rattle.mv_core.proofs.logs.Counts.{one_if}
-use Rattle.seat_log.specs.Notes.{Noted}
-use Rattle.seat_log.specs.Stands.{is_free, Stands}
+use Rattle.object_lock.specs.mv_core.declared.view.View.{View}
+use Rattle.object_lock.specs.mv_core.Rings.{spare_count}
+use Rattle.object_lock.specs.mv_core.Known.{Known}
+use Rattle.object_lock.proofs.mv_core_lemmas.logs.Counts.{one_if}
+use Rattle.object_lock.specs.seat_log.Notes.{Noted}
+use Rattle.object_lock.specs.seat_log.Stands.{is_free, Stands}
 use Rattle.log_reclaim.specs.Parts.{IsReclaimKind, Reclaims, Shrinks, grace_load}
 use Rattle.log_reclaim.specs.Rounds.{FreesFirst}
 use Rattle.mvrlu.specs.Placed.{Placed, seat_from, IsIdle}

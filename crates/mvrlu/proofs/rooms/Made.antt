@@ -12,9 +12,9 @@ use Rattle.mv_history.specs.declared.answers.Room.{Room}
 use Rattle.mv_history.specs.declared.answers.Room.TheVariants.{Enough, Short}
 use Rattle.mv_layout.specs.declared.Config.{Config}
 use Rattle.mv_layout.specs.Limits.{Checked}
-use Rattle.mv_core.specs.declared.shared.Shared.{Shared}
-use Rattle.mv_core.specs.Passes.{config_of}
-use Rattle.seat_log.specs.Stands.{Stands}
+use Rattle.object_lock.specs.mv_core.declared.shared.Shared.{Shared}
+use Rattle.object_lock.specs.mv_core.Passes.{config_of}
+use Rattle.object_lock.specs.seat_log.Stands.{Stands}
 use Rattle.log_reclaim.specs.declared.rounds.Tidy.{Tidy}
 use Rattle.log_reclaim.specs.Holders.{TidyHolds, HeldSo}
 use Rattle.mvrlu.specs.Placed.{Placed, seat_from, IsIdle, Fits}

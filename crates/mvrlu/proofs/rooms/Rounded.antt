@@ -4,10 +4,10 @@ use Rattle.mv_history.specs.State.{State, Writes}
 use Rattle.mv_history.specs.declared.Step.{Step}
 use Rattle.mv_history.specs.Trail.{clock_exchanges}
 use Rattle.mv_layout.specs.declared.Config.{Config}
-use Rattle.mv_core.specs.declared.view.View.{View}
-use Rattle.mv_core.specs.Known.{Known}
-use Rattle.seat_log.specs.Notes.{Noted}
-use Rattle.seat_log.specs.Stands.{Stands}
+use Rattle.object_lock.specs.mv_core.declared.view.View.{View}
+use Rattle.object_lock.specs.mv_core.Known.{Known}
+use Rattle.object_lock.specs.seat_log.Notes.{Noted}
+use Rattle.object_lock.specs.seat_log.Stands.{Stands}
 use Rattle.log_reclaim.specs.declared.rounds.Tidy.{Tidy}
 use Rattle.log_reclaim.specs.Parts.{Reclaims, Shrinks}
 use Rattle.log_reclaim.specs.Holders.{RoundHolds, HeldSo}

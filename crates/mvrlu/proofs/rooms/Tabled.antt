@@ -4,9 +4,9 @@ use Rattle.std.proofs.Math.Logic.{∥∥₁_elim}
 use Rattle.std.proofs.Props.{props}
 use Rattle.mv_history.specs.State.{State, Writes}
 use Rattle.mv_history.specs.declared.answers.LogTable.{LogTable}
-use Rattle.mv_core.specs.Rings.{held_count}
-use Rattle.mv_core.proofs.kinds.entering.LoadTime.{holds_none}
-use Rattle.seat_log.specs.Tables.{table_of, Counts}
+use Rattle.object_lock.specs.mv_core.Rings.{held_count}
+use Rattle.object_lock.proofs.mv_core_lemmas.kinds.entering.LoadTime.{holds_none}
+use Rattle.object_lock.specs.seat_log.Tables.{table_of, Counts}
 use Rattle.mvrlu.specs.Placed.{Placed, seat_from, IsIdle}
 use Rattle.mvrlu.specs.Holding.{IsSeatTable}
 

@@ -8,11 +8,11 @@ use Rattle.mv_history.specs.declared.Entry.{Entry}
 use Rattle.mv_history.specs.declared.Step.{Step}
 use Rattle.mv_history.specs.State.{commits_of, rests_of}
 use Rattle.mv_layout.specs.declared.Config.{Config}
-use Rattle.mv_core.specs.declared.view.View.{View}
-use Rattle.mv_core.specs.declared.view.Past.{Past}
-use Rattle.mv_core.specs.declared.view.Note.{Note}
-use Rattle.mv_core.specs.HistoryFacts.{BeginsWith}
-use Rattle.mv_core.specs.SeatSteps.{joined, note_of, AreJoined}
+use Rattle.object_lock.specs.mv_core.declared.view.View.{View}
+use Rattle.object_lock.specs.mv_core.declared.view.Past.{Past}
+use Rattle.object_lock.specs.mv_core.declared.view.Note.{Note}
+use Rattle.object_lock.specs.mv_core.HistoryFacts.{BeginsWith}
+use Rattle.object_lock.specs.mv_core.SeatSteps.{joined, note_of, AreJoined}
 use Rattle.mvrlu.specs.Joined.{IsOwn, IsNoted, IsKept}
 
 pub begins_itself : (h : List Entry) → BeginsWith h h

@@ -11,16 +11,16 @@ use Rattle.mv_history.specs.Laws.{IsSeat-prop}
 use Rattle.mv_history.specs.Meaning.{IsSeat}
 use Rattle.mv_history.proofs.Histories.{IsLegal-front}
 use Rattle.mv_layout.specs.declared.Config.{Config}
-use Rattle.mv_core.specs.declared.view.View.{View}
-use Rattle.mv_core.specs.declared.view.Section.{Section}
-use Rattle.mv_core.specs.Known.{Known}
-use Rattle.mv_core.specs.Passes.{seat_meant}
-use Rattle.mv_core.specs.Views.{time_in}
-use Rattle.mv_core.specs.EnterSteps.{IsWhole, if_none}
-use Rattle.mv_core.specs.WalkSteps.{IsWalking}
-use Rattle.mv_core.specs.SeatSteps.{AreJoined, joined_loaded}
-use Rattle.reader_marks.specs.Sections.{Begins}
-use Rattle.version_chain.specs.Walks.{inside_of, time_at, MayWalk}
+use Rattle.object_lock.specs.mv_core.declared.view.View.{View}
+use Rattle.object_lock.specs.mv_core.declared.view.Section.{Section}
+use Rattle.object_lock.specs.mv_core.Known.{Known}
+use Rattle.object_lock.specs.mv_core.Passes.{seat_meant}
+use Rattle.object_lock.specs.mv_core.Views.{time_in}
+use Rattle.object_lock.specs.mv_core.EnterSteps.{IsWhole, if_none}
+use Rattle.object_lock.specs.mv_core.WalkSteps.{IsWalking}
+use Rattle.object_lock.specs.mv_core.SeatSteps.{AreJoined, joined_loaded}
+use Rattle.object_lock.specs.reader_marks.Sections.{Begins}
+use Rattle.object_lock.specs.version_chain.Walks.{inside_of, time_at, MayWalk}
 use Rattle.mvrlu.specs.MetSeats.{MetSeat, noted_seat}
 use Rattle.mvrlu.specs.Whole.{IsSound, AreApart, whole_from}
 use Rattle.mvrlu.proofs.whole.Named.{apart_notes}

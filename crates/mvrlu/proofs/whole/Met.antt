@@ -14,16 +14,16 @@ use Rattle.mv_history.specs.State.{State, Writes, maker_of, commits_of, rests_of
 use Rattle.mv_history.specs.Laws.{IsSeat-prop}
 use Rattle.mv_history.specs.Meaning.{IsSeat}
 use Rattle.mv_layout.specs.declared.Config.{Config}
-use Rattle.mv_core.specs.declared.view.View.{View}
-use Rattle.mv_core.specs.declared.view.Section.{Section}
-use Rattle.mv_core.specs.HistoryFacts.{BeginsWith}
-use Rattle.mv_core.specs.Known.{Known}
-use Rattle.mv_core.specs.Passes.{seat_meant}
-use Rattle.mv_core.specs.Views.{time_in}
-use Rattle.mv_core.specs.EnterSteps.{IsWhole}
-use Rattle.mv_core.specs.SeatSteps.{AreJoined, joined_loaded}
-use Rattle.reader_marks.specs.Sections.{Begins}
-use Rattle.version_chain.specs.Walks.{inside_of, time_at}
+use Rattle.object_lock.specs.mv_core.declared.view.View.{View}
+use Rattle.object_lock.specs.mv_core.declared.view.Section.{Section}
+use Rattle.object_lock.specs.mv_core.HistoryFacts.{BeginsWith}
+use Rattle.object_lock.specs.mv_core.Known.{Known}
+use Rattle.object_lock.specs.mv_core.Passes.{seat_meant}
+use Rattle.object_lock.specs.mv_core.Views.{time_in}
+use Rattle.object_lock.specs.mv_core.EnterSteps.{IsWhole}
+use Rattle.object_lock.specs.mv_core.SeatSteps.{AreJoined, joined_loaded}
+use Rattle.object_lock.specs.reader_marks.Sections.{Begins}
+use Rattle.object_lock.specs.version_chain.Walks.{inside_of, time_at}
 use Rattle.mvrlu.specs.declared.domain.Seat.{Seat}
 use Rattle.mvrlu.specs.Joined.{IsKept, AreJoining}
 use Rattle.mvrlu.specs.Meant.{seat_of}

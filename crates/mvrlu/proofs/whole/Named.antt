@@ -9,9 +9,9 @@ use lib.ListN.{get_elem?}
 use Rattle.mv_history.specs.declared.Step.{Step}
 use Rattle.mv_history.specs.declared.StepKind.TheVariants.{JoinSeat, LoadJoined}
 use Rattle.mv_history.specs.Meaning as history
-use Rattle.mv_core.specs.declared.view.View.{View}
-use Rattle.mv_core.specs.declared.view.Note.{Note}
-use Rattle.reader_marks.specs.Sections.{IsEnterStep}
+use Rattle.object_lock.specs.mv_core.declared.view.View.{View}
+use Rattle.object_lock.specs.mv_core.declared.view.Note.{Note}
+use Rattle.object_lock.specs.reader_marks.Sections.{IsEnterStep}
 use Rattle.mvrlu.specs.Joined.{IsOwn, IsNoted, IsKept}
 use Rattle.mvrlu.specs.MetSeats.{MetSeat, met_seat, noted_seat, IsLookStep, MeetsBy}
 use Rattle.mvrlu.specs.Whole.{Whole, IsMetSeat, IsLeftSeat}

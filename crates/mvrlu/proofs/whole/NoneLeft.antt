@@ -8,8 +8,8 @@ use Rattle.mv_history.specs.declared.Entry.{Entry}
 use Rattle.mv_history.specs.declared.Entry.TheVariants.{Rest, Change}
 use Rattle.mv_history.specs.State.{maker_of, commits_of, rests_of}
 use Rattle.mv_history.proofs.Writing.{commits_of-append}
-use Rattle.mv_core.proofs.history.LongerSeen.{rests_of-append}
-use Rattle.mv_core.proofs.kinds.naming.entry.NewEntry.{bool_is}
+use Rattle.object_lock.proofs.mv_core_lemmas.history.LongerSeen.{rests_of-append}
+use Rattle.object_lock.proofs.mv_core_lemmas.kinds.naming.entry.NewEntry.{bool_is}
 use Rattle.mvrlu.proofs.whole.Numbers.{contains_tail}
 
 -- entries of these many seats, none of which made any, are none

@@ -5,7 +5,7 @@ use Rattle.std.specs.Prelude.{All, AllPairs, Contains}
 use Rattle.std.specs.List.{AllByRecursion, IsDistinct, list_any}
 use Rattle.std.proofs.lemmas.List.Elements.{All-contains}
 use Rattle.std.proofs.lemmas.Map.Steps.{length-le_from_distinct_below}
-use Rattle.mv_core.proofs.kinds.naming.entry.NewEntry.{bool_is}
+use Rattle.object_lock.proofs.mv_core_lemmas.kinds.naming.entry.NewEntry.{bool_is}
 
 pub contains_tail : {X : Type 0} (xs : List X) (x y : X) → Contains xs y → Contains (x ∷ xs) y
 contains_tail xs x y (i, lt, e) = (suc i, omega (arith, lt), e)

@@ -9,18 +9,18 @@ use Rattle.mv_history.specs.declared.Protocol.{Ghosts}
 use Rattle.mv_history.specs.State.{state_after, state_at}
 use Rattle.mv_history.specs.Meaning.{words_at}
 use Rattle.mv_layout.specs.declared.Config.{Config}
-use Rattle.mv_core.specs.declared.view.Phase.{Phase}
-use Rattle.mv_core.specs.declared.shared.Pass.{Pass}
-use Rattle.mv_core.specs.declared.shared.Shared.{Shared}
-use Rattle.mv_core.specs.Passes.{view, IsSame, config_of, start_of}
-use Rattle.seat_log.proofs.OwnSlots.{of_still}
+use Rattle.object_lock.specs.mv_core.declared.view.Phase.{Phase}
+use Rattle.object_lock.specs.mv_core.declared.shared.Pass.{Pass}
+use Rattle.object_lock.specs.mv_core.declared.shared.Shared.{Shared}
+use Rattle.object_lock.specs.mv_core.Passes.{view, IsSame, config_of, start_of}
+use Rattle.object_lock.proofs.seat_log_lemmas.OwnSlots.{of_still}
 use Rattle.mv_history.specs.declared.StepKind.{StepKind}
 use Rattle.mv_history.specs.declared.StepKind.TheVariants.{LoadData, LoadMaster}
-use Rattle.mv_core.specs.declared.view.View.{View}
-use Rattle.mv_core.specs.Views.{time_in}
-use Rattle.mv_core.specs.HistoryFacts.{BeginsWith}
-use Rattle.version_chain.specs.Walks.{Walks, IsWalkStep, inside_of, time_at, MayWalk}
-use Rattle.version_chain.specs.Reads.{Reads, words_in}
+use Rattle.object_lock.specs.mv_core.declared.view.View.{View}
+use Rattle.object_lock.specs.mv_core.Views.{time_in}
+use Rattle.object_lock.specs.mv_core.HistoryFacts.{BeginsWith}
+use Rattle.object_lock.specs.version_chain.Walks.{Walks, IsWalkStep, inside_of, time_at, MayWalk}
+use Rattle.object_lock.specs.version_chain.Reads.{Reads, words_in}
 use Rattle.mvrlu.specs.MetSeats.{noted_seat, IsLookStep}
 use Rattle.mvrlu.specs.Whole.{IsStill, IsReading, whole_from, last_state}
 

@@ -1,5 +1,5 @@
 use Rattle.std.proofs.Common.{◌≡◌, subst, arith}
-use Rattle.mv_core.specs.Passes.{view, config_of}
+use Rattle.seat_log.specs.mv_core.Passes.{view, config_of}
 use Rattle.commit_abort.specs.Aborts.{IsAborting}
 use Rattle.seat_log.proofs.OwnSlots.{same_none, same_on, of_still}
 use Rattle.commit_abort.proofs.AbortParts.{abort_begins, none_cost, given_cost, last_cost}

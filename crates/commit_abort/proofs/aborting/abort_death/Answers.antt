@@ -1,7 +1,7 @@
 use Rattle.std.proofs.Common.{refl, sym, ap, ◌∙◌, arith, ℕ, ◌+◌, ◌<◌, None}
-use Rattle.mv_core.specs.declared.ring.Status.TheVariants.{Aborted}
-use Rattle.mv_core.specs.Rings.{index_of}
-use Rattle.mv_core.specs.Passes.{config_of}
+use Rattle.seat_log.specs.mv_core.declared.ring.Status.TheVariants.{Aborted}
+use Rattle.seat_log.specs.mv_core.Rings.{index_of}
+use Rattle.seat_log.specs.mv_core.Passes.{config_of}
 use Rattle.seat_log.specs.Notes.{held_from}
 use Rattle.seat_log.proofs.OwnSlots.{same_none}
 use Rattle.commit_abort.proofs.aborting.abort_death.Goals as goal

@@ -1,4 +1,4 @@
-use Rattle.mv_core.specs.Passes.{view, config_of}
+use Rattle.seat_log.specs.mv_core.Passes.{view, config_of}
 use Rattle.commit_abort.proofs.AbortParts.{end_may, abort_ends}
 use Rattle.commit_abort.proofs.aborting.abort_end.Goals as goal
 

@@ -1,6 +1,6 @@
 use Rattle.std.proofs.Common.{◌+◌}
-use Rattle.mv_core.specs.Passes.{view, config_of}
-use Rattle.mv_core.specs.Rings.{index_of}
+use Rattle.seat_log.specs.mv_core.Passes.{view, config_of}
+use Rattle.seat_log.specs.mv_core.Rings.{index_of}
 use Rattle.commit_abort.specs.Aborts.{held_in}
 use Rattle.commit_abort.proofs.aborting.abort_step.Given as goal
 

@@ -1,7 +1,7 @@
 use Rattle.std.proofs.Common.{◌<◌, refl, sym, ap, ◌∙◌, arith}
-use Rattle.mv_core.specs.declared.view.View.{View}
+use Rattle.seat_log.specs.mv_core.declared.view.View.{View}
 use Rattle.mv_layout.specs.Words.{clock_time_of}
-use Rattle.mv_core.specs.Passes.{view, config_of}
+use Rattle.seat_log.specs.mv_core.Passes.{view, config_of}
 use Rattle.seat_log.proofs.OwnSlots.{same_on, of_still}
 use Rattle.commit_abort.proofs.Tried.{may_load, end_cost, at_end, stands_first, may_name, just_named}
 use Rattle.commit_abort.proofs.TriedEnds.{committed, overtaken, stands_lost}

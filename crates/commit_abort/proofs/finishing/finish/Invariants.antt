@@ -1,5 +1,5 @@
 use Rattle.std.proofs.Common.{◌+◌, ◌≤◌}
-use Rattle.mv_core.specs.Passes.{view, IsOf, IsSame, config_of}
+use Rattle.seat_log.specs.mv_core.Passes.{view, IsOf, IsSame, config_of}
 use Rattle.commit_abort.specs.Finishes.{IsFinishing}
 use Rattle.commit_abort.proofs.finishing.finish.Given as goal
 

@@ -1,4 +1,4 @@
-use Rattle.mv_core.specs.Passes.{view, config_of}
+use Rattle.seat_log.specs.mv_core.Passes.{view, config_of}
 use Rattle.commit_abort.proofs.FinishParts.{end_may, finish_ends}
 use Rattle.commit_abort.proofs.finishing.finish_end.Goals as goal
 

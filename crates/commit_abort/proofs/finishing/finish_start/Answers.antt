@@ -1,5 +1,5 @@
 use Rattle.std.proofs.Common.{rules, ◌-◌, arith}
-use Rattle.mv_core.specs.Passes.{view, config_of}
+use Rattle.seat_log.specs.mv_core.Passes.{view, config_of}
 use Rattle.commit_abort.proofs.Finished.{first_is, may_stamp}
 use Rattle.commit_abort.proofs.FinishParts.{finish_begins}
 use Rattle.commit_abort.proofs.finishing.finish_start.Goals as goal

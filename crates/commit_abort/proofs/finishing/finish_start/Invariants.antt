@@ -1,5 +1,5 @@
-use Rattle.mv_core.specs.Passes.{view}
-use Rattle.reader_marks.specs.Sections.{section_in}
+use Rattle.seat_log.specs.mv_core.Passes.{view}
+use Rattle.seat_log.specs.reader_marks.Sections.{section_in}
 use Rattle.commit_abort.proofs.finishing.finish_start.Given as goal
 
 abbrev pub ghost-stamp_own : goal.ghost-stamp_own

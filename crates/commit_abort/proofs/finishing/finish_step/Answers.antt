@@ -1,6 +1,6 @@
 use Rattle.std.proofs.Common.{rules, ◌≡◌, ◌+◌, ◌-◌, sym, subst, arith}
-use Rattle.mv_core.specs.Rings.{index_of}
-use Rattle.mv_core.specs.Passes.{view, config_of}
+use Rattle.seat_log.specs.mv_core.Rings.{index_of}
+use Rattle.seat_log.specs.mv_core.Passes.{view, config_of}
 use Rattle.seat_log.specs.Notes.{held_from, IsNoteAt}
 use Rattle.seat_log.proofs.NotedSlots.{note_there}
 use Rattle.commit_abort.specs.Finishes.{above_at, MayTell, TellsOne}

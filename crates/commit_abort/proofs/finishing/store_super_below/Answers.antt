@@ -1,5 +1,5 @@
 use Rattle.std.proofs.Common.{subst}
-use Rattle.mv_core.specs.Passes.{view, config_of}
+use Rattle.seat_log.specs.mv_core.Passes.{view, config_of}
 use Rattle.seat_log.specs.declared.version.Note.{Note}
 use Rattle.commit_abort.specs.Finishes.{TellsOne}
 use Rattle.commit_abort.proofs.FinishParts.{one_note}

@@ -1,5 +1,5 @@
 use Rattle.std.proofs.Common.{rules, [], arith}
-use Rattle.mv_core.specs.Passes.{view, config_of}
+use Rattle.seat_log.specs.mv_core.Passes.{view, config_of}
 use Rattle.log_reclaim.proofs.Idle.{still_of}
 use Rattle.log_reclaim.proofs.FreedAll.{frees_none, frees_more, frees_end}
 use Rattle.log_reclaim.proofs.rounds.free_all.Goals as goal

@@ -1,6 +1,6 @@
 use Rattle.std.proofs.Common.{◌≡◌, ◌+◌, List, length}
 use Rattle.mv_history.specs.declared.Step.{Step}
-use Rattle.mv_core.specs.Passes.{view, IsOf, IsSame, config_of}
+use Rattle.seat_log.specs.mv_core.Passes.{view, IsOf, IsSame, config_of}
 use Rattle.seat_log.specs.Stands.{Stands}
 use Rattle.log_reclaim.proofs.FreedAll.{FreesSome}
 use Rattle.log_reclaim.proofs.rounds.free_all.Given as goal

@@ -1,6 +1,6 @@
 use Rattle.std.proofs.Common.{◌≡◌, sym, subst, false, Option, None}
 use Rattle.mv_history.specs.declared.answers.Holder.{Holder}
-use Rattle.mv_core.specs.Passes.{view, config_of}
+use Rattle.seat_log.specs.mv_core.Passes.{view, config_of}
 use Rattle.log_reclaim.specs.declared.rounds.Scanned.{Scanned}
 use Rattle.log_reclaim.specs.Sweeps.{SweepsSo}
 use Rattle.log_reclaim.specs.Rounds.{FreesFirst, IsHolder}

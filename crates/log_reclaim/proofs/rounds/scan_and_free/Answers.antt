@@ -1,6 +1,6 @@
 use Rattle.std.proofs.Common.{ℕ, ◌<◌, ◌++◌, subst, length}
-use Rattle.mv_core.specs.Passes.{view, config_of}
-use Rattle.commit_clock.proofs.Hearing.{hears_on}
+use Rattle.seat_log.specs.mv_core.Passes.{view, config_of}
+use Rattle.seat_log.proofs.commit_clock_lemmas.Hearing.{hears_on}
 use Rattle.log_reclaim.proofs.rests.Heard.{heard_scan, heard_freed}
 use Rattle.log_reclaim.proofs.ScanParts.{steps_of, scan_stands}
 use Rattle.log_reclaim.proofs.Sweeping.{may_settle, sweeps}

@@ -1,10 +1,10 @@
 use Rattle.std.proofs.Common.{arith, [], ◌∷◌, ◌++◌, sym, ◌∙◌, ap, length}
-use Rattle.mv_core.specs.Passes.{view, config_of}
+use Rattle.seat_log.specs.mv_core.Passes.{view, config_of}
 use Rattle.log_reclaim.proofs.Idle.{still_of}
 use Rattle.log_reclaim.specs.Parts.{grace_load}
 use Rattle.log_reclaim.proofs.ScanParts.{grace_makes, grace_stands, grace_may}
 use Rattle.log_reclaim.proofs.FirstFrees.{frees_only, frees_then, grace_plain, sweeps_all, sweeps_then, frees_shrinks}
-use Rattle.mv_core.specs.declared.view.View.{View}
+use Rattle.seat_log.specs.mv_core.declared.view.View.{View}
 use Rattle.seat_log.proofs.OwnSlots.{same_on, of_still}
 use Rattle.log_reclaim.proofs.Reclaiming.{reclaims_may}
 use Rattle.log_reclaim.proofs.Lengths.{one_longer, freed_longer, emptied_bound, swept_bound}

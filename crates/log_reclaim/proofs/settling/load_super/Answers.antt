@@ -1,5 +1,5 @@
 use Rattle.std.proofs.Common.{◌<◌, arith}
-use Rattle.mv_core.specs.Passes.{view, config_of}
+use Rattle.seat_log.specs.mv_core.Passes.{view, config_of}
 use Rattle.log_reclaim.proofs.looks.Supers.{may_super, may_retire, super_stands, super_stands_none, loads_none, loads_some, empty_is}
 use Rattle.log_reclaim.proofs.settling.load_super.Goals as goal
 

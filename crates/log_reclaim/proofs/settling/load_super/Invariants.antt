@@ -1,5 +1,5 @@
-use Rattle.mv_core.specs.Passes.{view, config_of}
-use Rattle.mv_core.specs.Rings.{slot_at, index_of}
+use Rattle.seat_log.specs.mv_core.Passes.{view, config_of}
+use Rattle.seat_log.specs.mv_core.Rings.{slot_at, index_of}
 use Rattle.seat_log.specs.Stands.{version_of}
 use Rattle.seat_log.specs.Builds.{note_in}
 use Rattle.log_reclaim.proofs.settling.load_super.Given as goal

@@ -1,12 +1,12 @@
 use Rattle.std.proofs.Common.{◌≡◌, false, List, [], refl, sym, subst, ⊎_elim, arith, length}
 use Rattle.mv_history.specs.declared.Step.{Step}
-use Rattle.mv_core.specs.declared.view.View.{View}
-use Rattle.mv_core.specs.Passes.{view, config_of}
+use Rattle.seat_log.specs.mv_core.declared.view.View.{View}
+use Rattle.seat_log.specs.mv_core.Passes.{view, config_of}
 use Rattle.seat_log.specs.Notes.{Noted}
 use Rattle.log_reclaim.specs.declared.settling.Found.{Found}
 use Rattle.log_reclaim.specs.Tries.{LoadsSuper}
 use Rattle.log_reclaim.specs.Sweeps.{found_set, SettlesOne}
-use Rattle.commit_clock.proofs.Hearing.{hears_none, hears_on}
+use Rattle.seat_log.proofs.commit_clock_lemmas.Hearing.{hears_none, hears_on}
 use Rattle.log_reclaim.proofs.rests.Heard.{heard_super}
 use Rattle.log_reclaim.proofs.looks.OneNote.{untimed_same, loads_is, log_same, tries_is, may_try, knows_still}
 use Rattle.log_reclaim.proofs.looks.OneLook.{settles_timed, settles_found, settles_unbacked, settles_tried}

@@ -1,6 +1,6 @@
 use Rattle.std.proofs.Common.{rules, ◌+◌, max, refl, sym, subst, arith, ◌++◌, []}
-use Rattle.mv_core.specs.Passes.{view, config_of}
-use Rattle.commit_clock.proofs.Hearing.{hears_none, hears_on, hears_more}
+use Rattle.seat_log.specs.mv_core.Passes.{view, config_of}
+use Rattle.seat_log.proofs.commit_clock_lemmas.Hearing.{hears_none, hears_on, hears_more}
 use Rattle.log_reclaim.specs.Sweeps.{Settles}
 use Rattle.log_reclaim.proofs.looks.EachLook.{settles_first, settles_next, settles_may, settles_table}
 use Rattle.log_reclaim.proofs.settling.settle_all.Goals as goal

@@ -1,8 +1,8 @@
 use Rattle.std.proofs.Common.{◌+◌, ◌*◌, ◌≤◌, List, length}
 use Rattle.mv_history.specs.declared.Step.{Step}
-use Rattle.mv_core.specs.Passes.{view, IsOf, IsSame, config_of}
+use Rattle.seat_log.specs.mv_core.Passes.{view, IsOf, IsSame, config_of}
 use Rattle.seat_log.specs.Stands.{Stands}
-use Rattle.commit_clock.specs.Hears.{Hears}
+use Rattle.seat_log.specs.commit_clock.Hears.{Hears}
 use Rattle.log_reclaim.specs.Sweeps.{Settles}
 use Rattle.log_reclaim.proofs.settling.settle_all.Given as goal
 

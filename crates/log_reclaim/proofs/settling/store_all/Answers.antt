@@ -1,8 +1,8 @@
 use Rattle.std.proofs.Common.{rules, ◌≡◌, ◌+◌, length, ap, ◌∙◌, arith}
 use Rattle.std.proofs.lemmas.List.{length-append}
-use Rattle.mv_core.specs.declared.view.View.{View}
-use Rattle.mv_core.specs.Passes.{view, config_of}
-use Rattle.commit_clock.proofs.Hearing.{hears_on}
+use Rattle.seat_log.specs.mv_core.declared.view.View.{View}
+use Rattle.seat_log.specs.mv_core.Passes.{view, config_of}
+use Rattle.seat_log.proofs.commit_clock_lemmas.Hearing.{hears_on}
 use Rattle.log_reclaim.proofs.rests.Heard.{heard_stored}
 use Rattle.log_reclaim.proofs.looks.StoringAll.{stored_more, stands_stored, stores_all}
 use Rattle.log_reclaim.proofs.settling.store_all.Goals as goal

@@ -1,5 +1,5 @@
 use Rattle.std.proofs.Common.{◌≡◌, ◌+◌, length}
-use Rattle.mv_core.specs.Passes.{view, IsOf, IsSame, config_of}
+use Rattle.seat_log.specs.mv_core.Passes.{view, IsOf, IsSame, config_of}
 use Rattle.log_reclaim.proofs.looks.StoringAll.{HasStored}
 use Rattle.log_reclaim.proofs.settling.store_all.Given as goal
 

@@ -1,16 +1,16 @@
 use Rattle.std.proofs.Common.{◌≡◌, ◌≢◌, refl, sym, ap, ◌∙◌, subst, arith, Result, Ok, Err, None, ℕ, length}
-use Rattle.mv_core.specs.Passes.{view, config_of}
+use Rattle.seat_log.specs.mv_core.Passes.{view, config_of}
 use Rattle.log_reclaim.specs.declared.settling.Tried.{Tried}
 use Rattle.log_reclaim.specs.declared.writing_back.Back.{Back}
 use Rattle.log_reclaim.specs.declared.writing_back.NoBack.{NoBack}
 use Rattle.log_reclaim.specs.declared.writing_back.NoBack.TheVariants.{Young, Gone, Above}
 use Rattle.log_reclaim.specs.Backs.{StartsSo}
 use Rattle.log_reclaim.specs.Tries.{LoadsSuper, TriesOne}
-use Rattle.commit_clock.proofs.Hearing.{hears_on, hears_more}
+use Rattle.seat_log.proofs.commit_clock_lemmas.Hearing.{hears_on, hears_more}
 use Rattle.log_reclaim.proofs.rests.Heard.{heard_super}
 use Rattle.log_reclaim.proofs.looks.Visits.{looked_stands, left_stands}
 use Rattle.log_reclaim.proofs.looks.Trying.{tries_young, gone_may, gone_number, gone_empty, tries_gone, tries_own, tries_above, tries_cut, tries_lost}
-use Rattle.mv_core.specs.declared.view.View.{View}
+use Rattle.seat_log.specs.mv_core.declared.view.View.{View}
 use Rattle.seat_log.specs.Stands.{Stands}
 use Rattle.seat_log.proofs.OwnSlots.{same_on, of_still}
 use Rattle.log_reclaim.proofs.Lengths.{one_longer, two_bounds, more_bound, gone_bound}

@@ -1,9 +1,9 @@
 use Rattle.std.proofs.Common.{rules, ◌≡◌, false, subst, sym, ◌∙◌, inl, inr, ap, length}
-use Rattle.mv_core.specs.Passes.{view, config_of}
+use Rattle.seat_log.specs.mv_core.Passes.{view, config_of}
 use Rattle.log_reclaim.specs.Tidies.{IsAnyAbove}
 use Rattle.log_reclaim.proofs.Idle.{still_of}
 use Rattle.log_reclaim.proofs.rests.Resting.{rests_none, stands_helped, rests_at_end, room, stands_done, stands_lost, rests_done, rests_lost}
-use Rattle.mv_core.specs.declared.view.View.{View}
+use Rattle.seat_log.specs.mv_core.declared.view.View.{View}
 use Rattle.seat_log.proofs.OwnSlots.{same_none, same_on, of_still}
 use Rattle.log_reclaim.proofs.Lengths.{one_longer, helped_longer, none_more, helped_bound, rested_bound}
 use Rattle.log_reclaim.proofs.tidying.rest_if_due.Goals as goal

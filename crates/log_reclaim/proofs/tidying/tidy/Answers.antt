@@ -1,5 +1,5 @@
 use Rattle.std.proofs.Common.{◌+◌, ◌<◌, [], ◌∷◌, ◌++◌, length, refl, sym, ap, ◌∙◌, subst, arith}
-use Rattle.mv_core.specs.Passes.{view, config_of}
+use Rattle.seat_log.specs.mv_core.Passes.{view, config_of}
 use Rattle.log_reclaim.specs.Parts.{grace_load}
 use Rattle.log_reclaim.specs.Tidies.{TidiesLeft}
 use Rattle.log_reclaim.proofs.Idle.{still_of}
@@ -9,7 +9,7 @@ use Rattle.log_reclaim.proofs.FirstFrees.{frees_shrinks, frees_again, grace_plai
 use Rattle.log_reclaim.proofs.Tidied.{left_from, left_begins, left_rests, left_shrinks, left_reclaims, left_alone, emptied, no_notes, none_held}
 use Rattle.log_reclaim.proofs.causes.FreshTimes.{left_fresh}
 use Rattle.log_reclaim.proofs.tidying.tidy.Given.{Over}
-use Rattle.mv_core.specs.declared.view.View.{View}
+use Rattle.seat_log.specs.mv_core.declared.view.View.{View}
 use Rattle.seat_log.proofs.OwnSlots.{same_on, of_still}
 use Rattle.log_reclaim.proofs.Lengths.{one_longer, freed_longer, live_few, whole_bound}
 use Rattle.log_reclaim.proofs.tidying.tidy.Goals as goal

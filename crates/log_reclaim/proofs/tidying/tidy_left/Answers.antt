@@ -1,5 +1,5 @@
 use Rattle.std.proofs.Common.{false, refl, ap, length}
-use Rattle.mv_core.specs.Passes.{view, config_of}
+use Rattle.seat_log.specs.mv_core.Passes.{view, config_of}
 use Rattle.log_reclaim.specs.Tidies.{HeldBy}
 use Rattle.log_reclaim.proofs.Tidied.{held_by_none, held_by_some, table_left}
 use Rattle.log_reclaim.proofs.tidying.tidy_left.Given.{Over}

@@ -1,5 +1,5 @@
 use Rattle.std.proofs.Common.{rules, refl}
-use Rattle.mv_core.specs.Passes.{view, config_of}
+use Rattle.seat_log.specs.mv_core.Passes.{view, config_of}
 use Rattle.log_reclaim.proofs.looks.CutBacks.{may_cut, has_cut, cut_waits, open_cut, has_lost, open_lost}
 use Rattle.log_reclaim.proofs.writing_back.back_cut.Goals as goal
 

@@ -1,4 +1,4 @@
-use Rattle.mv_core.specs.Passes.{view, config_of}
+use Rattle.seat_log.specs.mv_core.Passes.{view, config_of}
 use Rattle.log_reclaim.proofs.looks.Picks.{committed_in}
 use Rattle.log_reclaim.proofs.writing_back.back_cut.Given as goal
 

@@ -1,5 +1,5 @@
 use Rattle.std.proofs.Common.{ap, ◌∙◌}
-use Rattle.mv_core.specs.Passes.{view, config_of}
+use Rattle.seat_log.specs.mv_core.Passes.{view, config_of}
 use Rattle.seat_log.specs.Notes.{back_noted}
 use Rattle.log_reclaim.proofs.looks.CutBacks.{open_timed, may_retire_timed, may_note_timed, cut_at_timed, stands_timed}
 use Rattle.log_reclaim.proofs.writing_back.back_end.Goals as goal

@@ -1,5 +1,5 @@
 use Rattle.std.proofs.Common.{rules, refl}
-use Rattle.mv_core.specs.Passes.{view, config_of}
+use Rattle.seat_log.specs.mv_core.Passes.{view, config_of}
 use Rattle.log_reclaim.proofs.looks.WritingWords.{may_store, stores_word, writing_on}
 use Rattle.log_reclaim.proofs.writing_back.back_word.Goals as goal
 

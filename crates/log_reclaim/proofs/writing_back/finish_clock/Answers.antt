@@ -1,8 +1,8 @@
-use Rattle.mv_core.specs.Passes.{view, config_of}
+use Rattle.seat_log.specs.mv_core.Passes.{view, config_of}
 use Rattle.log_reclaim.proofs.rests.Heard.{heard_cut, heard_uncut}
 use Rattle.log_reclaim.proofs.looks.CutBacks.{stands_lost, ends_uncut}
 use Rattle.std.proofs.Common.{refl, ap, length}
-use Rattle.mv_core.specs.declared.view.View.{View}
+use Rattle.seat_log.specs.mv_core.declared.view.View.{View}
 use Rattle.seat_log.proofs.OwnSlots.{same_on, of_still}
 use Rattle.log_reclaim.proofs.Lengths.{one_longer, uncut_bound, cut_bound}
 use Rattle.log_reclaim.proofs.writing_back.finish_clock.Goals as goal

@@ -1,14 +1,14 @@
 use Rattle.std.proofs.Common.{rules, ◌≡◌, length, sym, ap, ◌∙◌, ◌+◌, ◌<◌, refl, subst}
 use Rattle.mv_layout.specs.declared.Config.{Config}
-use Rattle.mv_core.specs.Passes.{view, config_of}
-use Rattle.reader_marks.specs.Sections.{section_in}
+use Rattle.seat_log.specs.mv_core.Passes.{view, config_of}
+use Rattle.seat_log.specs.reader_marks.Sections.{section_in}
 use Rattle.log_reclaim.proofs.rests.Heard.{heard_looked, heard_left}
 use Rattle.log_reclaim.proofs.looks.Starting.{same_note, place_is, link_there, may_look, object_within, open_still, started, not_started, ok_young}
 use Rattle.log_reclaim.proofs.looks.Starting.{top_young, some_live, place_from, place_small, seat_small}
-use Rattle.mv_core.specs.declared.view.View.{View}
+use Rattle.seat_log.specs.mv_core.declared.view.View.{View}
 use Rattle.seat_log.specs.declared.version.Note.{Note}
 use Rattle.seat_log.proofs.OwnSlots.{same_none, same_on, of_still}
-use Rattle.commit_clock.proofs.Hearing.{hears_none}
+use Rattle.seat_log.proofs.commit_clock_lemmas.Hearing.{hears_none}
 use Rattle.log_reclaim.proofs.Lengths.{none_more, one_longer, entered_longer, looked_bound, left_bound}
 use Rattle.log_reclaim.proofs.writing_back.start_clock.Goals as goal
 

@@ -1,11 +1,11 @@
 use Rattle.std.proofs.Common.{subst, ◌<◌, length, sym, ap, ◌∙◌}
 use Rattle.mv_history.specs.declared.StepKind.TheVariants.{LoadData, LoadMaster}
-use Rattle.mv_core.specs.Passes.{view, config_of}
+use Rattle.object_lock.specs.mv_core.Passes.{view, config_of}
 use Rattle.mvrlu.specs.Whole.{Whole, whole_from, IsStill, last_state}
 use Rattle.mvrlu.proofs.whole.Reads.{Looks, walked, looked, looks_still, reads_last, in_range, reading_on}
 use Rattle.mv_history.specs.Meaning.{words_at}
-use Rattle.version_chain.specs.Reads.{words_in}
-use Rattle.seat_log.proofs.OwnSlots.{same_on, of_still}
+use Rattle.object_lock.specs.version_chain.Reads.{words_in}
+use Rattle.object_lock.proofs.seat_log_lemmas.OwnSlots.{same_on, of_still}
 use Rattle.mvrlu.proofs.closing.read_last.Goals as goal
 
 pub returns-in-Master-clause-still : goal.returns-in-Master-clause-still

@@ -1,10 +1,10 @@
 use Rattle.std.proofs.Common.{rules, ◌≡◌, ℕ, ◌≤◌, length, sym, ap, ◌∙◌, subst}
 use Rattle.mv_history.specs.Calls.{Leaves}
 use Rattle.mv_layout.specs.declared.Config.{Config}
-use Rattle.mv_core.specs.Passes.{view, config_of}
-use Rattle.mv_core.specs.Rings.{own_of}
-use Rattle.seat_log.specs.Notes.{Noted}
-use Rattle.seat_log.specs.Stands.{Stands}
+use Rattle.object_lock.specs.mv_core.Passes.{view, config_of}
+use Rattle.object_lock.specs.mv_core.Rings.{own_of}
+use Rattle.object_lock.specs.seat_log.Notes.{Noted}
+use Rattle.object_lock.specs.seat_log.Stands.{Stands}
 use Rattle.object_lock.proofs.OwnNotes.{own_long}
 use Rattle.commit_abort.specs.Aborts.{abort_cost}
 use Rattle.mvrlu.specs.Placed.{Placed, placed, seat_from, section_from, Fits}

@@ -5,11 +5,11 @@ use Rattle.mv_history.specs.Drift.{IsFit}
 use Rattle.mv_history.specs.Meaning.{snapshot_of, IsWorn}
 use Rattle.mv_history.specs.Calls.{Commits, IsAsBefore, Overtakes}
 use Rattle.mv_layout.specs.declared.Config.{Config}
-use Rattle.mv_core.specs.declared.view.View.{View}
-use Rattle.mv_core.specs.Passes.{view, config_of, home_of}
-use Rattle.seat_log.specs.Notes.{Noted}
-use Rattle.seat_log.specs.Stands.{Stands}
-use Rattle.version_chain.specs.Walks.{section_in}
+use Rattle.object_lock.specs.mv_core.declared.view.View.{View}
+use Rattle.object_lock.specs.mv_core.Passes.{view, config_of, home_of}
+use Rattle.object_lock.specs.seat_log.Notes.{Noted}
+use Rattle.object_lock.specs.seat_log.Stands.{Stands}
+use Rattle.object_lock.specs.version_chain.Walks.{section_in}
 use Rattle.object_lock.proofs.OwnNotes.{own_long}
 use Rattle.commit_abort.specs.Commits as core
 use Rattle.mvrlu.specs.Placed.{Placed, placed, seat_from, section_from, Fits}

@@ -1,5 +1,5 @@
 use Rattle.std.proofs.Common.{◌≡◌, sym, ap, ◌∙◌, refl, subst}
-use Rattle.mv_core.specs.Passes.{config_of}
+use Rattle.object_lock.specs.mv_core.Passes.{config_of}
 use Rattle.mvrlu.specs.Placed.{Placed, placed, Fits}
 use Rattle.mvrlu.specs.Grace.{TellsGrace}
 use Rattle.mvrlu.proofs.Names.{config_inside, fits_pass, fits_on}

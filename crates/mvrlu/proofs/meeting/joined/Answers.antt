@@ -1,7 +1,7 @@
 use Rattle.std.proofs.Common.{List, sym, ap, ◌∙◌, subst, arith, length, length-append, [], ◌∷◌}
 use Rattle.std.proofs.lemmas.List.{nil_from_length}
-use Rattle.mv_core.specs.EnterSteps.{MayLoadLow}
-use Rattle.mv_core.specs.Passes.{view, config_of}
+use Rattle.object_lock.specs.mv_core.EnterSteps.{MayLoadLow}
+use Rattle.object_lock.specs.mv_core.Passes.{view, config_of}
 use Rattle.mvrlu.specs.declared.domain.Seat.{Seat}
 use Rattle.mvrlu.specs.Joined.{AreJoining}
 use Rattle.mvrlu.specs.Placed.{Fits}

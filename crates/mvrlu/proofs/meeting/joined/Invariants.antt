@@ -1,7 +1,7 @@
 use Rattle.std.proofs.Common.{◌≡◌, ◌+◌, length, All}
 use Rattle.std.specs.Vec.{vec_len}
-use Rattle.mv_core.specs.EnterSteps.{MayLoadLow}
-use Rattle.mv_core.specs.Passes.{view, IsOf}
+use Rattle.object_lock.specs.mv_core.EnterSteps.{MayLoadLow}
+use Rattle.object_lock.specs.mv_core.Passes.{view, IsOf}
 use Rattle.mvrlu.specs.Joined.{AreJoining}
 use Rattle.mvrlu.specs.Placed.{Fits}
 use Rattle.mvrlu.proofs.meeting.joined.Given as goal

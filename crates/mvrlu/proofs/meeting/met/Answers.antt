@@ -1,5 +1,5 @@
 use Rattle.std.proofs.Common.{ℕ, ◌<◌, sym, ◌∙◌, subst, arith}
-use Rattle.mv_core.specs.Passes.{view, config_of}
+use Rattle.object_lock.specs.mv_core.Passes.{view, config_of}
 use Rattle.mvrlu.proofs.whole.Loads.{HasRead, has_read}
 use Rattle.mvrlu.proofs.whole.Met.{has_met}
 use Rattle.mvrlu.proofs.meeting.met.Goals as goal

@@ -1,6 +1,6 @@
 use Rattle.std.proofs.Common.{◌≡◌, ◌+◌, ◌≤◌}
 use Rattle.std.specs.Vec.{vec_len, vec_capacity}
-use Rattle.mv_core.specs.Passes.{config_of}
+use Rattle.object_lock.specs.mv_core.Passes.{config_of}
 use Rattle.mvrlu.specs.Readiness.{AreReady, AreSeats}
 use Rattle.mvrlu.proofs.opening.all_seated.Given as goal
 

@@ -1,7 +1,7 @@
 use Rattle.std.proofs.Common.{◌≡◌, ℕ, ◌<◌, length, sym, ◌∙◌, subst, arith}
 use Rattle.mv_layout.specs.declared.Config.{Config}
-use Rattle.mv_core.specs.Passes.{config_of}
-use Rattle.seat_log.specs.Notes.{nothing_noted}
+use Rattle.object_lock.specs.mv_core.Passes.{config_of}
+use Rattle.object_lock.specs.seat_log.Notes.{nothing_noted}
 use Rattle.mvrlu.specs.declared.places.Place.{Place}
 use Rattle.mvrlu.specs.Readiness.{IsNewPass, AreReady}
 use Rattle.mvrlu.proofs.Started.{new_front, new_last, ready_next}

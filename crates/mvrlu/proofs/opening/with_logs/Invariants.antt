@@ -1,6 +1,6 @@
 use Rattle.std.proofs.Common.{◌≡◌, ◌+◌}
 use Rattle.std.specs.Vec.{vec_len}
-use Rattle.mv_core.specs.Passes.{AreNew, config_of}
+use Rattle.object_lock.specs.mv_core.Passes.{AreNew, config_of}
 use Rattle.mvrlu.specs.Readiness.{AreReady}
 use Rattle.mvrlu.proofs.opening.with_logs.Given as goal
 

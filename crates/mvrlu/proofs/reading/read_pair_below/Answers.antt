@@ -2,9 +2,9 @@ use Rattle.std.proofs.Common.{◌≡◌, ℕ, ◌+◌, List, get_or, refl, ap, �
 use Rattle.mv_history.specs.declared.StepKind.TheVariants.{LoadData, LoadMaster}
 use Rattle.mv_history.specs.Meaning.{snapshot_of, words_at}
 use Rattle.mv_layout.specs.declared.Config.{Config}
-use Rattle.mv_core.specs.declared.view.View.{View}
-use Rattle.mv_core.specs.Passes.{view, config_of}
-use Rattle.version_chain.specs.Reads.{words_in}
+use Rattle.object_lock.specs.mv_core.declared.view.View.{View}
+use Rattle.object_lock.specs.mv_core.Passes.{view, config_of}
+use Rattle.object_lock.specs.version_chain.Reads.{words_in}
 use Rattle.mvrlu.specs.Placed.{Placed, placed, section_from, seat_from, Fits}
 use Rattle.mvrlu.specs.Standing.{Stays}
 use Rattle.mvrlu.proofs.Names.{config_inside, fits_pass, fits_on, range_of}
@@ -13,7 +13,7 @@ use Rattle.mvrlu.proofs.LockMeant.{snapshot_words}
 use Rattle.mvrlu.proofs.ReadMeant.{Looks, walked, looked, look_continues, look_stays, look_busy, look_bound}
 use Rattle.mvrlu.proofs.Behind.{lent_busy, lent_view}
 use Rattle.mvrlu.specs.Bounds.{MakesAtMost, pair_most}
-use Rattle.seat_log.proofs.OwnSlots.{same_on, of_still}
+use Rattle.object_lock.proofs.seat_log_lemmas.OwnSlots.{same_on, of_still}
 use Rattle.mvrlu.proofs.reading.read_pair_below.Goals as goal
 
 pub invariant_of-busy : goal.invariant_of-busy

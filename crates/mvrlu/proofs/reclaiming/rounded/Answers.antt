@@ -1,5 +1,5 @@
 use Rattle.std.proofs.Common.{◌≡◌, sym, ap, ◌∙◌, subst}
-use Rattle.mv_core.specs.Passes.{config_of, view}
+use Rattle.object_lock.specs.mv_core.Passes.{config_of, view}
 use Rattle.mvrlu.specs.Placed.{Placed, placed, Fits}
 use Rattle.mvrlu.specs.Holding.{Rounds}
 use Rattle.mvrlu.proofs.Names.{fits_config, fits_pass, fits_on}
@@ -7,8 +7,8 @@ use Rattle.mvrlu.proofs.Lawful.{seat_lawful}
 use Rattle.mvrlu.proofs.rooms.Rounded.{has_rounded, rounded_idle, rounds}
 use Rattle.mvrlu.proofs.Behind.{lent_idle, lent_view}
 use Rattle.mv_layout.specs.declared.Config.{Config}
-use Rattle.seat_log.specs.Notes.{Noted}
-use Rattle.seat_log.specs.Stands.{Stands}
+use Rattle.object_lock.specs.seat_log.Notes.{Noted}
+use Rattle.object_lock.specs.seat_log.Stands.{Stands}
 use Rattle.mvrlu.proofs.reclaiming.rounded.Goals as goal
 
 pub invariant_of-idle : goal.invariant_of-idle

@@ -1,14 +1,14 @@
 use Rattle.std.proofs.Common.{◌≡◌, sym, ap, ◌∙◌, subst}
 use Rattle.mv_layout.specs.declared.Config.{Config}
-use Rattle.mv_core.specs.Passes.{config_of, view}
+use Rattle.object_lock.specs.mv_core.Passes.{config_of, view}
 use Rattle.mvrlu.specs.Placed.{Placed, placed, seat_from, IsIdle, Fits}
 use Rattle.mvrlu.specs.Holding.{Tidies, TidiesAlone}
 use Rattle.mvrlu.proofs.Names.{fits_config, fits_pass, fits_on}
 use Rattle.mvrlu.proofs.Lawful.{seat_lawful}
 use Rattle.mvrlu.proofs.rooms.Tidied.{has_tidied, tidied_idle, tidies, tidies_alone}
 use Rattle.mvrlu.proofs.Behind.{lent_idle, lent_view}
-use Rattle.seat_log.specs.Notes.{Noted}
-use Rattle.seat_log.specs.Stands.{Stands}
+use Rattle.object_lock.specs.seat_log.Notes.{Noted}
+use Rattle.object_lock.specs.seat_log.Stands.{Stands}
 use Rattle.mvrlu.proofs.reclaiming.tidied.Goals as goal
 
 pub invariant_of-idle : goal.invariant_of-idle

@@ -1,7 +1,7 @@
 use Rattle.std.proofs.Common.{List, ℕ, refl, subst}
-use Rattle.mv_core.specs.Passes.{view, config_of}
-use Rattle.mv_core.specs.LockSteps.{LockTold, OneMoreWrite}
-use Rattle.mv_core.specs.Swaps.{found_by}
+use Rattle.seat_log.specs.mv_core.Passes.{view, config_of}
+use Rattle.seat_log.specs.mv_core.LockSteps.{LockTold, OneMoreWrite}
+use Rattle.seat_log.specs.mv_core.Swaps.{found_by}
 use Rattle.object_lock.proofs.MayLocks.{may_lock, stored_are, first_is}
 use Rattle.object_lock.proofs.locking.exchange.Goals as goal
 

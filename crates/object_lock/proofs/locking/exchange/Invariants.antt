@@ -1,4 +1,4 @@
-use Rattle.mv_core.specs.Passes.{view, config_of}
+use Rattle.seat_log.specs.mv_core.Passes.{view, config_of}
 use Rattle.seat_log.specs.Builds.{build_at}
 use Rattle.version_chain.specs.Walks.{section_in}
 use Rattle.object_lock.specs.Locks.{stored_words}

@@ -1,5 +1,5 @@
 use Rattle.std.proofs.Common.{refl, ap, ◌∙◌}
-use Rattle.mv_core.specs.Passes.{view, config_of}
+use Rattle.seat_log.specs.mv_core.Passes.{view, config_of}
 use Rattle.object_lock.proofs.Holding.{cleared_may, cleared_is, cleared_lock, again_won, again_may, again_stands, again_first, again_lost}
 use Rattle.seat_log.specs.Notes.{Noted}
 use Rattle.seat_log.proofs.OwnSlots.{same_on, of_still}

@@ -1,5 +1,5 @@
 use Rattle.std.proofs.Common.{refl, ap}
-use Rattle.mv_core.specs.Passes.{view, config_of}
+use Rattle.seat_log.specs.mv_core.Passes.{view, config_of}
 use Rattle.object_lock.proofs.Built.{then_is, then_master, then_again, one_few}
 use Rattle.object_lock.proofs.Holding.{won_outcome, lost_may, lost_stands, came_first, lost_all}
 use Rattle.seat_log.specs.Notes.{Noted}

@@ -1,5 +1,5 @@
 use Rattle.std.proofs.Common.{refl}
-use Rattle.mv_core.specs.Passes.{view, config_of}
+use Rattle.seat_log.specs.mv_core.Passes.{view, config_of}
 use Rattle.object_lock.proofs.Looks.{none_tried}
 use Rattle.object_lock.proofs.Locked.{held_none, held_some}
 use Rattle.object_lock.proofs.locking.lock_start.Goals as goal

@@ -1,7 +1,7 @@
 use Rattle.std.proofs.Common.{◌≡◌, ◌≢◌, ◌<◌, refl, sym, ap, ◌∙◌, arith}
 use Rattle.std.specs.Prelude.{unwrap_or}
 use Rattle.mv_layout.specs.declared.Config.{Config}
-use Rattle.mv_core.specs.Passes.{view, config_of}
+use Rattle.seat_log.specs.mv_core.Passes.{view, config_of}
 use Rattle.object_lock.proofs.OwnNotes.{unheld_is}
 use Rattle.object_lock.proofs.Looks.{none_tried}
 use Rattle.object_lock.proofs.Outcomes.{tries_on}

@@ -1,4 +1,4 @@
-use Rattle.mv_core.specs.Passes.{view, config_of}
+use Rattle.seat_log.specs.mv_core.Passes.{view, config_of}
 use Rattle.version_chain.proofs.Going.{may_looked}
 use Rattle.object_lock.proofs.Looks.{looked_at}
 use Rattle.object_lock.proofs.top.stamp_at.Goals as goal

@@ -2,7 +2,7 @@ use Rattle.std.proofs.Common.{◌≡◌, ℕ, ◌+◌, ◌<◌, ◌^◌, [], ref
 use Rattle.mv_history.specs.declared.StepKind.TheVariants.{LoadData, LoadMaster}
 use Rattle.std.specs.Prelude.{unwrap_or}
 use Rattle.mv_layout.specs.Words.{link_of}
-use Rattle.mv_core.specs.Passes.{view, config_of}
+use Rattle.seat_log.specs.mv_core.Passes.{view, config_of}
 use Rattle.version_chain.specs.Walks.{section_in}
 use Rattle.object_lock.proofs.Looks.{held_elsewhere, version_there, stands_to_lock, stands_at_lock, words_there}
 use Rattle.object_lock.proofs.Looks.{head_tries, looked_tries, tries_read, stands_top}
@@ -10,8 +10,8 @@ use Rattle.object_lock.proofs.Looks.{later_commit, head_bound, master_bound, loo
 use mathlib.Core.Logic.{dite}
 use native.Mathlib.Decide.{dec_lt}
 use Rattle.object_lock.specs.Tops.{Tries, FoundHeld}
-use Rattle.mv_core.specs.declared.view.View.{View}
-use Rattle.mv_core.specs.declared.view.Passed.TheVariants.{Nothing}
+use Rattle.seat_log.specs.mv_core.declared.view.View.{View}
+use Rattle.seat_log.specs.mv_core.declared.view.Passed.TheVariants.{Nothing}
 use Rattle.version_chain.specs.Reads.{words_in}
 use Rattle.seat_log.proofs.OwnSlots.{same_on, of_still}
 use Rattle.version_chain.proofs.Going.{may_started}

@@ -1,4 +1,4 @@
-use Rattle.mv_core.specs.Passes.{view}
+use Rattle.seat_log.specs.mv_core.Passes.{view}
 use Rattle.version_chain.specs.Walks.{section_in}
 use Rattle.object_lock.proofs.top.top_of.Given as goal
 

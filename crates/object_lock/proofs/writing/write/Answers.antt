@@ -1,6 +1,6 @@
 use Rattle.std.proofs.Common.{ap, subst, sym}
-use Rattle.mv_core.specs.declared.view.View.{View}
-use Rattle.mv_core.specs.Passes.{view, config_of}
+use Rattle.seat_log.specs.mv_core.declared.view.View.{View}
+use Rattle.seat_log.specs.mv_core.Passes.{view, config_of}
 use Rattle.object_lock.specs.Writes.{Stores}
 use Rattle.object_lock.proofs.Holding.{may_same}
 use Rattle.object_lock.proofs.Locked.{touched_is}

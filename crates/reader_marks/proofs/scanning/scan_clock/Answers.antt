@@ -4,8 +4,8 @@ use Rattle.std.specs.Prelude.{All}
 use Rattle.mv_history.specs.declared.Entry.{Entry}
 use Rattle.mv_history.specs.State.{maker_of}
 use Rattle.mv_layout.specs.declared.Config.{Config}
-use Rattle.mv_core.specs.declared.view.View.{View}
-use Rattle.mv_core.specs.Passes.{view, config_of}
+use Rattle.commit_clock.specs.mv_core.declared.view.View.{View}
+use Rattle.commit_clock.specs.mv_core.Passes.{view, config_of}
 use Rattle.reader_marks.specs.declared.scanning.Lowest.{Lowest}
 use Rattle.reader_marks.specs.Lowering.{Looks}
 use Rattle.reader_marks.proofs.Looking.{looks_first, may_look, looks_own, looks_other, scans, scan_cost, scan_known}

@@ -1,7 +1,7 @@
 use Rattle.std.proofs.Common.{◌<◌}
 use Rattle.std.specs.Prelude.{All}
 use Rattle.mv_history.specs.State.{maker_of}
-use Rattle.mv_core.specs.Passes.{view, IsSame, config_of}
+use Rattle.commit_clock.specs.mv_core.Passes.{view, IsSame, config_of}
 use Rattle.reader_marks.specs.Lowering.{Looks}
 use Rattle.reader_marks.proofs.scanning.scan_clock.Given as goal
 

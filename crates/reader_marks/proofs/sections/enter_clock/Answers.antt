@@ -1,6 +1,6 @@
 use Rattle.std.proofs.Common.{◌+◌, length, sym, ap, ◌∙◌, arith}
-use Rattle.mv_core.specs.declared.view.View.{View}
-use Rattle.mv_core.specs.Passes.{view, config_of}
+use Rattle.commit_clock.specs.mv_core.declared.view.View.{View}
+use Rattle.commit_clock.specs.mv_core.Passes.{view, config_of}
 use Rattle.reader_marks.proofs.EnterHears.{time_seen, hears_entered}
 use Rattle.reader_marks.proofs.Entered.{begins, last_found}
 use Rattle.reader_marks.proofs.sections.enter_clock.Goals as goal

@@ -1,5 +1,5 @@
 use Rattle.std.proofs.Common.{ap}
-use Rattle.mv_core.specs.declared.view.View.{View}
+use Rattle.commit_clock.specs.mv_core.declared.view.View.{View}
 use Rattle.reader_marks.proofs.sections.enter_mark.Goals as goal
 
 pub returns-clause-next : goal.returns-clause-next

@@ -1,7 +1,7 @@
 use Rattle.std.proofs.Common.{[], sym, subst}
 use Rattle.std.specs.Prelude.{Contains}
 use Rattle.std.proofs.lemmas.List.Elements.{Contains-push}
-use Rattle.mv_core.specs.declared.view.View.{View}
+use Rattle.commit_clock.specs.mv_core.declared.view.View.{View}
 use Rattle.reader_marks.proofs.sections.enter_time.Goals as goal
 
 pub returns-clause-view : goal.returns-clause-view

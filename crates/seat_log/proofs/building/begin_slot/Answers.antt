@@ -1,4 +1,4 @@
-use Rattle.mv_core.specs.Passes.{view, config_of}
+use Rattle.reader_marks.specs.mv_core.Passes.{view, config_of}
 use Rattle.seat_log.proofs.MayBuild.{is_begun_first, is_begun_later}
 use Rattle.seat_log.proofs.building.begin_slot.Goals as goal
 

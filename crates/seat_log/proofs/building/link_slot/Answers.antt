@@ -1,4 +1,4 @@
-use Rattle.mv_core.specs.Passes.{view, config_of}
+use Rattle.reader_marks.specs.mv_core.Passes.{view, config_of}
 use Rattle.std.proofs.Common.{◌==◌}
 use Rattle.seat_log.proofs.OwnSlots.{own_still, of_still, same_on}
 use Rattle.seat_log.proofs.MayBuild.{is_linked, link_cost}

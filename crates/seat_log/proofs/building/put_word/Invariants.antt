@@ -1,4 +1,4 @@
-use Rattle.mv_core.specs.Passes.{view, config_of}
+use Rattle.reader_marks.specs.mv_core.Passes.{view, config_of}
 use Rattle.seat_log.specs.Builds.{version_at}
 use Rattle.seat_log.proofs.building.put_word.Given as goal
 

@@ -1,4 +1,4 @@
-use Rattle.mv_core.specs.Passes.{view, config_of}
+use Rattle.reader_marks.specs.mv_core.Passes.{view, config_of}
 use Rattle.seat_log.proofs.MayBuild.{may_store, first_stays, may_on, is_next}
 use Rattle.seat_log.proofs.building.store_next.Goals as goal
 

@@ -1,5 +1,5 @@
 use Rattle.std.proofs.Common.{refl, ◌∙◌, arith}
-use Rattle.mv_core.specs.Passes.{view, config_of}
+use Rattle.reader_marks.specs.mv_core.Passes.{view, config_of}
 use Rattle.seat_log.proofs.MayBuild.{no_words, is_more}
 use Rattle.seat_log.proofs.OwnSlots.{own_still}
 use Rattle.seat_log.proofs.building.store_words.Goals as goal

@@ -1,5 +1,5 @@
 use Rattle.std.proofs.Common.{◌≡◌, ◌+◌}
-use Rattle.mv_core.specs.Passes.{view, IsOwnSlot, IsSame, config_of}
+use Rattle.reader_marks.specs.mv_core.Passes.{view, IsOwnSlot, IsSame, config_of}
 use Rattle.seat_log.specs.Builds.{words_stored, MayBuild}
 use Rattle.seat_log.proofs.building.store_words.Given as goal
 

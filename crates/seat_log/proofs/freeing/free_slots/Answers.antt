@@ -1,5 +1,5 @@
 use Rattle.std.proofs.Common.{refl, ◌∙◌, arith}
-use Rattle.mv_core.specs.Passes.{view, config_of}
+use Rattle.reader_marks.specs.mv_core.Passes.{view, config_of}
 use Rattle.seat_log.proofs.FreedLogs.{none_freed, one_freed}
 use Rattle.seat_log.proofs.freeing.free_slots.Goals as goal
 

@@ -1,5 +1,5 @@
 use Rattle.std.proofs.Common.{◌≡◌, ◌+◌}
-use Rattle.mv_core.specs.Passes.{view, IsSame, config_of}
+use Rattle.reader_marks.specs.mv_core.Passes.{view, IsSame, config_of}
 use Rattle.seat_log.specs.Frees.{slots_freed}
 use Rattle.seat_log.proofs.freeing.free_slots.Given as goal
 

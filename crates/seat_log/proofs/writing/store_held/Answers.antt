@@ -1,5 +1,5 @@
 use Rattle.std.proofs.Common.{◌≡◌, ℕ, refl, ◌∙◌, subst, arith}
-use Rattle.mv_core.specs.Passes.{view, config_of}
+use Rattle.reader_marks.specs.mv_core.Passes.{view, config_of}
 use Rattle.seat_log.specs.Stands.{Stands}
 use Rattle.seat_log.specs.Notes.{some_noted}
 use Rattle.seat_log.proofs.AllWords.{none_noted, none_put, one_put, held_so, open_so, one_noted}

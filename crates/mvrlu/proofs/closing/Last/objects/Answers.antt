@@ -2,7 +2,7 @@ use Rattle.std.proofs.Common.{[], length, sym, ap, ◌∙◌}
 use Rattle.mv_history.proofs.Writing.{length-state_after}
 use Rattle.mv_layout.specs.declared.Config.{Config}
 use Rattle.mvrlu.specs.Whole.{Whole, last_state, whole_from}
-use Rattle.mv_core.specs.Passes.{view, config_of}
+use Rattle.object_lock.specs.mv_core.Passes.{view, config_of}
 use Rattle.mvrlu.proofs.closing.Last.objects.Goals as goal
 
 pub returns : goal.returns

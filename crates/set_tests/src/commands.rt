@@ -2,7 +2,7 @@
 ghost use Rattle.std.specs.Prelude.{◌≡◌, ◌<◌, ◌≤◌, length, IfOk};
 ghost use Rattle.set_script.specs.Objects.{most_objects};
 
-use crate::asked::Ask::{Add, Del, Get, Has, Move, Put, Size};
+use crate::asked::Ask::{Add, Del, Get, Has, Move, Next, Put, Size};
 use crate::asked::{Ask, attempt_hinting, command, expect_attempt};
 use mv_history::{Section, Store, WORDS};
 use plain_store::PlainStore;
@@ -164,6 +164,19 @@ fn values_are_put_got_and_moved(rt: HostRuntime) -> Result<(), Fail> {
     let mut hints = Hints::new(rt.alloc(), 4)?;
     let _store = play_with(&rt, open(rt.alloc(), 190, 8)?, &mut hints, &VALUES);
     assert_eq!(rt; hints.len(), 1);
+    Ok(())
+}
+
+// Of the sixteen buckets the one that is asked last has the least key.
+static NEXT_KEY: [Row; 3] = [
+    (Add(10, 16), Reply::Yes, Commit(1)),
+    (Add(10, 15), Reply::Yes, Commit(2)),
+    (Next(10, 0), Reply::Key { key: 15 }, Read(2)),
+];
+
+#[test]
+fn the_next_key_of_a_table_may_be_in_its_last_bucket(rt: HostRuntime) -> Result<(), Fail> {
+    let _store = play(&rt, open(rt.alloc(), 182, 2)?, &NEXT_KEY);
     Ok(())
 }
 

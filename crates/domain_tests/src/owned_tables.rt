@@ -61,20 +61,8 @@ fn ask_of_two(rt: &impl Abort, seat: GrowSeat, time: u64) -> GrowSeat {
         Reply::Key { key: 9 },
         place,
     );
-    let seat = expect(
-        rt,
-        seat,
-        GrowCommand::Next { key: 10 },
-        Reply::NoKey,
-        place,
-    );
-    expect(
-        rt,
-        seat,
-        GrowCommand::Size,
-        Reply::Count { count },
-        place,
-    )
+    let seat = expect(rt, seat, GrowCommand::Next { key: 10 }, Reply::NoKey, place);
+    expect(rt, seat, GrowCommand::Size, Reply::Count { count }, place)
 }
 
 #[test]

@@ -1,6 +1,6 @@
 //! Worked cases of a domain, over the public calls of `mvrlu` alone: opening one, with each fault of its
 //! numbers; sections of its seats, what holds their logs, and their meeting, by schedules; and that its
-//! seats, handles and sections may go to threads; and over those of `object_seats` and `set_seats`. The
+//! seats, handles and sections may go to threads; and over those of `object_seats`, `set_seats` and `grow_seats`. The
 //! accounts of `accounts` run here too, over a plain store, and the updates and records of `mv_client`.
 //!
 //! **The model.** A schedule is a value: its name, the numbers of a domain, its turns, each with the number
@@ -37,6 +37,8 @@ mod owned_rows;
 mod owned_seats;
 #[cfg(test)]
 mod owned_sets;
+#[cfg(test)]
+mod owned_tables;
 #[cfg(test)]
 mod playing;
 #[cfg(test)]

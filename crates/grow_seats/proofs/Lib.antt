@@ -1,0 +1,3 @@
+pub mod NewSeats
+pub mod Outcomes
+pub mod Staying

@@ -1,0 +1,5 @@
+use Rattle.mvrlu_c.proofs.TableTelling.{told_back}
+use Rattle.mvrlu_c.proofs.table_calls.mvrlu_raw_table_size.Goals as goal
+
+pub returns : goal.returns
+returns c = record { tells = told_back _ _ _ _ _ _ c.attempt.ensures.tells }

@@ -103,6 +103,7 @@ int main(void) {
             status = mvrlu_table_add(&table[0], key, NULL);
         } while (mvrlu_may_retry(status));
         if (status != MVRLU_OK) fail("an add", key);
+        if (key % 2 == 1) splits += mvrlu_table_split(&table[0], NULL) == MVRLU_OK;
     }
     for (uint32_t i = 0; i < THREADS; i++) {
         workers[i] = (worker){&table[i], i, 0, 0, 0};

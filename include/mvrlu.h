@@ -1,7 +1,8 @@
-/* mvrlu.h: data in memory that threads share, read and written in multi-version sections. It has two halves:
+/* mvrlu.h: data in memory that threads share, read and written in multi-version sections. It has three parts:
  *
  * - objects of six 64-bit words, of which a program builds structures of its own (mvrlu_seat);
- * - thirty sets of 32-bit keys with 64-bit values: ten lists, ten hash tables, ten trees (mvrlu_sets), further below.
+ * - thirty sets of 32-bit keys with 64-bit values: ten lists, ten hash tables, ten trees (mvrlu_sets), further below;
+ * - a hash table of 32-bit keys that grows up to 1,048,576 buckets (mvrlu_table), at the end.
  *
  * Objects. A domain has up to 16,777,216 objects, all words 0 at first, and up to 64 seats. A thread uses a seat: it enters a section,
  * and all its reads see the one state of that moment, whatever others commit meanwhile. Readers and writers never wait for
@@ -33,9 +34,9 @@
  * Isolation. It is snapshot isolation: two sections that lock different objects may both commit though each read what the
  * other wrote (write skew). Lock what a commit depends on; a locked object that is not written keeps its words.
  *
- * Threads. A seat, of objects or of the sets, is used by one thread at a time, and different seats of a domain by different threads at once. A seat may
- * go to another thread where that is ordered (a lock, the start or end of a thread, a sequentially consistent atomic). A
- * second call on a seat that is in a call answers MVRLU_IN_USE and does nothing, unless MVRLU_UNCHECKED is defined before
+ * Threads. A seat, of objects, of the sets or of a table, is used by one thread at a time, and different seats of a domain by different threads
+ * at once. A seat may go to another thread where that is ordered (a lock, the start or end of a thread, a sequentially consistent
+ * atomic). A second call on a seat that is in a call answers MVRLU_IN_USE and does nothing, unless MVRLU_UNCHECKED is defined before
  * this header is included.
  *
  * Ownership. The caller owns the 128 bytes of a seat and neither copies nor changes them while it is open; a copy answers
@@ -65,7 +66,7 @@ extern "C" {
 /* ---- status: 0 or more: the call was made, or the same call may be made again; below 0: nothing was done, and why ---- */
 typedef enum mvrlu_status {
     MVRLU_OK = 0,
-    MVRLU_NO = 1,           /* sets: there is nothing to change, or nothing of what was asked for; close_last: it wasn't the last seat */
+    MVRLU_NO = 1,           /* sets, table: there is nothing to change, or nothing of what was asked for; close_last: it wasn't the last seat */
     MVRLU_AGAIN = 2,        /* another entry came first. Commit again at once; of the sets nothing was done: make the call again */
     MVRLU_BUSY = 3,         /* another seat holds an object. Abort, and begin again later; of the sets nothing was done */
     MVRLU_STALE = 4,        /* an object was written after the section began. Abort, and enter anew; of the sets nothing was done */
@@ -130,7 +131,7 @@ int32_t mvrlu_raw_commit(mvrlu_raw *seat, const uint64_t tag[4], uint64_t *time)
 int32_t mvrlu_raw_abort(mvrlu_raw *seat);
 int32_t mvrlu_raw_leave(mvrlu_raw *seat);
 
-/* Begins a call on a seat, of objects or of the sets: 0, or why it may not be made. */
+/* Begins a call on a seat, of objects, of the sets or of a table: 0, or why it may not be made. */
 static inline int32_t mvrlu_begin_call(const void *seat, uint32_t *in_call, const uint8_t *is_open, const void *const *self) {
 #ifndef MVRLU_UNCHECKED
     if (__atomic_exchange_n(in_call, 1u, __ATOMIC_ACQUIRE) != 0) return MVRLU_IN_USE;
@@ -519,6 +520,135 @@ static inline int32_t mvrlu_sets_block(mvrlu_sets *sets, const mvrlu_command com
 static inline int32_t mvrlu_sets_walk(mvrlu_sets *sets, uint32_t set, uint32_t from, mvrlu_entry entries[], size_t room, mvrlu_walk *walk) {
     if (entries == NULL || walk == NULL) return MVRLU_NULL;
     MVRLU_ON(sets, mvrlu_raw_sets_walk(&sets->raw, set, from, entries, room, walk));
+}
+
+/* ============================================================ a growing table ============================================================
+ *
+ * A domain of a table has one set of 32-bit keys, a hash table that grows by one bucket at a time from 16 up to MVRLU_TABLE_BUCKETS_MAX of
+ * them. Each call is one section, as with the sets, and tells the same reply. A key has no value.
+ *
+ *     static mvrlu_table table[4];                                                       // zeroed memory is a closed seat
+ *     mvrlu_table_options options = MVRLU_TABLE_OPTIONS_INIT;
+ *     if (mvrlu_table_open(&options, table, 4) != MVRLU_OK) ...
+ *     ... hand &table[i] to thread i ...
+ *     do status = mvrlu_table_add(own, key, &reply); while (mvrlu_may_retry(status));
+ *     if (status == MVRLU_OK && ++added % 2 == 0) mvrlu_table_split(own, NULL);          // as many buckets as half the keys
+ *
+ * It grows where the caller splits: behind each second key that was added, as here, a bucket has two keys in the mean. A split that was given
+ * up may be left to the next one.
+ *
+ * What is proved of each call (docs/CONTRACTS.md): its status and its reply are those of a sequential set in the state just before the commit of
+ * the time that is told, or in the state of the time that it read; a split is one commit, which leaves the keys as they are and makes one bucket
+ * more; a status that says that nothing was done made no entry.
+ */
+
+#define MVRLU_TABLE_BUCKETS_MAX 1048576u
+#define MVRLU_TABLE_OBJECTS_MIN 1048578u
+#define MVRLU_TABLE_OBJECTS_MAX 16777216u
+#define MVRLU_TABLE_SLOTS_MIN 65u
+
+/* Of the objects 1,048,577 are the table itself and the heads of its buckets, and the others nodes: a key takes one. */
+typedef struct mvrlu_table_options {
+    uint32_t size;    /* sizeof(mvrlu_table_options) */
+    uint32_t objects; /* MVRLU_TABLE_OBJECTS_MIN to MVRLU_TABLE_OBJECTS_MAX */
+    uint32_t slots;   /* versions in the log of each seat, MVRLU_TABLE_SLOTS_MIN to MVRLU_SLOTS_MAX; a split takes up to 64 */
+    uint64_t opening_time; /* the time of the opening state, 0 to MVRLU_TIME_MAX */
+} mvrlu_table_options;
+#define MVRLU_TABLE_OPTIONS_INIT { sizeof(mvrlu_table_options), 2097152u, 1024u, 0u }
+
+/* What the library owns of a seat of a table. */
+typedef struct mvrlu_table_raw { uint8_t is_open; void *at; } mvrlu_table_raw;
+typedef struct mvrlu_table { mvrlu_table_raw raw; const void *self; uint32_t in_call; uint8_t apart[100]; } mvrlu_table;
+
+/* The calls of the library itself, which test neither null pointers nor a second thread: use the calls below. */
+int32_t mvrlu_raw_table_open(const mvrlu_table_options *options, mvrlu_table_raw table[], size_t count);
+int32_t mvrlu_raw_table_close(mvrlu_table_raw *table, uint64_t *last);
+int32_t mvrlu_raw_table_tidy(mvrlu_table_raw *table, uint32_t *live);
+int32_t mvrlu_raw_table_counts(mvrlu_table_raw *table, mvrlu_counts *counts);
+int32_t mvrlu_raw_table_add(mvrlu_table_raw *table, uint32_t key, mvrlu_reply *reply);
+int32_t mvrlu_raw_table_del(mvrlu_table_raw *table, uint32_t key, mvrlu_reply *reply);
+int32_t mvrlu_raw_table_has(mvrlu_table_raw *table, uint32_t key, mvrlu_reply *reply);
+int32_t mvrlu_raw_table_next(mvrlu_table_raw *table, uint32_t key, mvrlu_reply *reply);
+int32_t mvrlu_raw_table_size(mvrlu_table_raw *table, mvrlu_reply *reply);
+int32_t mvrlu_raw_table_split(mvrlu_table_raw *table, mvrlu_reply *reply);
+
+/* Opens a domain of an empty table of 16 buckets, with a seat for each of `table`: all of them or none. Seat i has number i. Every seat
+ * must be closed (zeroed memory). MVRLU_BAD_NUMBER, MVRLU_IN_USE, MVRLU_NO_MEMORY, MVRLU_NULL. */
+static inline int32_t mvrlu_table_open(const mvrlu_table_options *options, mvrlu_table table[], size_t count) {
+    mvrlu_table_raw raw[MVRLU_SEATS_MAX];
+    size_t i;
+    int32_t status;
+    if (options == NULL || table == NULL) return MVRLU_NULL;
+    if (options->size != sizeof(mvrlu_table_options) || count < 1 || count > MVRLU_SEATS_MAX) return MVRLU_BAD_NUMBER;
+    for (i = 0; i < count; i++) {
+        if (table[i].raw.is_open) return MVRLU_IN_USE;
+        raw[i].is_open = 0;
+        raw[i].at = NULL;
+    }
+    status = mvrlu_raw_table_open(options, raw, count);
+    if (status != MVRLU_OK) return status;
+    for (i = 0; i < count; i++) {
+        table[i].raw = raw[i];
+        table[i].self = &table[i];
+        table[i].in_call = 0;
+    }
+    return MVRLU_OK;
+}
+
+/* Closes a seat, and tells whether it was the last one of its domain, with the time of the last entry, as mvrlu_close_last does. */
+static inline int32_t mvrlu_table_close_last(mvrlu_table *table, uint64_t *last) {
+    uint64_t unused = 0;
+    MVRLU_ON(table, mvrlu_raw_table_close(&table->raw, last == NULL ? &unused : last));
+}
+
+/* Closes a seat, and tells only that it is closed: MVRLU_OK. */
+static inline int32_t mvrlu_table_close(mvrlu_table *table) {
+    int32_t status = mvrlu_table_close_last(table, NULL);
+    return status == MVRLU_NO ? MVRLU_OK : status;
+}
+
+/* Reclaims what nobody reads any more of the seat's log. `live`: how many slots are live afterwards. */
+static inline int32_t mvrlu_table_tidy(mvrlu_table *table, uint32_t *live) {
+    if (live == NULL) return MVRLU_NULL;
+    MVRLU_ON(table, mvrlu_raw_table_tidy(&table->raw, live));
+}
+
+/* Tells the counts of the seat's log. */
+static inline int32_t mvrlu_table_counts(mvrlu_table *table, mvrlu_counts *counts) {
+    if (counts == NULL) return MVRLU_NULL;
+    MVRLU_ON(table, mvrlu_raw_table_counts(&table->raw, counts));
+}
+
+/* Puts the key into the table. MVRLU_NO: it has it already. MVRLU_FULL: no node is left. */
+static inline int32_t mvrlu_table_add(mvrlu_table *table, uint32_t key, mvrlu_reply *reply) {
+    MVRLU_REPLIES(table, reply, mvrlu_raw_table_add(&table->raw, key, told_));
+}
+
+/* Takes the key out of the table. MVRLU_NO: it isn't there. */
+static inline int32_t mvrlu_table_del(mvrlu_table *table, uint32_t key, mvrlu_reply *reply) {
+    MVRLU_REPLIES(table, reply, mvrlu_raw_table_del(&table->raw, key, told_));
+}
+
+/* Asks whether the table has the key: MVRLU_OK, or MVRLU_NO. */
+static inline int32_t mvrlu_table_has(mvrlu_table *table, uint32_t key, mvrlu_reply *reply) {
+    MVRLU_REPLIES(table, reply, mvrlu_raw_table_has(&table->raw, key, told_));
+}
+
+/* Asks for the least key of the table that is not below `key`. MVRLU_NO: there is none. It searches every bucket. */
+static inline int32_t mvrlu_table_next(mvrlu_table *table, uint32_t key, mvrlu_reply *reply) {
+    MVRLU_REPLIES(table, reply, mvrlu_raw_table_next(&table->raw, key, told_));
+}
+
+/* Asks how many keys the table has. It reads every one of them. */
+static inline int32_t mvrlu_table_size(mvrlu_table *table, mvrlu_reply *reply) {
+    MVRLU_REPLIES(table, reply, mvrlu_raw_table_size(&table->raw, told_));
+}
+
+/* Tries to split the bucket that is next, by one commit, which leaves the keys as they are: there is one bucket more then. MVRLU_NO, with no time
+ * told: there are MVRLU_TABLE_BUCKETS_MAX buckets, and `value` is 0; or the bucket has more than 61 keys, which one commit can't write, and
+ * `value` is their number. It can be split once keys of it were taken out. */
+static inline int32_t mvrlu_table_split(mvrlu_table *table, mvrlu_reply *reply) {
+    MVRLU_REPLIES(table, reply, mvrlu_raw_table_split(&table->raw, told_));
 }
 
 static inline const char *mvrlu_strerror(int32_t status) {

@@ -37,6 +37,8 @@ calls='calls: '
 sets='sets: '
 moves='moves 200000 beside pairs 100000, none wrong'
 walks='walks 30000, each of one state'
+table='table: '
+grows='grown by '
 bank='transfers 100000, each sum 64000'
 tellers='transfers 200000, each sum 64000'
 list='changes 40000, each walk 64 keys'
@@ -56,6 +58,8 @@ for compiler in gcc clang; do
     expect "calls on sets by $compiler" "$sets" "$compiler" "${strict[@]}" -O2 tests/library/sets_calls.c
     expect "moves by $compiler" "$moves" "$compiler" "${strict[@]}" -O2 tests/library/sets_moves.c
     expect "walks by $compiler" "$walks" "$compiler" "${strict[@]}" -O2 tests/library/sets_walks.c
+    expect "calls on a table by $compiler" "$table" "$compiler" "${strict[@]}" -O2 tests/library/table_calls.c
+    expect "a table that grows by $compiler" "$grows" "$compiler" "${strict[@]}" -O2 tests/library/table_grows.c
 done
 
 # The programs that gcc alone builds.
@@ -76,6 +80,7 @@ by_gcc() {
         watched=("${debug[@]}" "-fsanitize=address,undefined")
         expect "calls under the address sanitizer" "$calls" "${watched[@]}" tests/library/calls.c
         expect "calls on sets under the address sanitizer" "$sets" "${watched[@]}" tests/library/sets_calls.c
+        expect "calls on a table under the address sanitizer" "$table" "${watched[@]}" tests/library/table_calls.c
         expect "grace under the address sanitizer" "$grace" "${watched[@]}" tests/library/grace.c
         expect "closing under the address sanitizer" "$closing" "${watched[@]}" tests/library/closing.c
     fi
@@ -93,6 +98,8 @@ by_gcc() {
             -DHISTORIES=300 tests/library/sets_histories.c
         expect "walks under the thread sanitizer" "walks 3000, " "${watched[@]}" -DROUNDS=500 \
             tests/library/sets_walks.c
+        expect "a table that grows under the thread sanitizer" "$grows" "${watched[@]}" -DKEYS=3000u \
+            tests/library/table_grows.c
         expect "closing under the thread sanitizer" "closed 161 domains" "${watched[@]}" -DROUNDS=100 \
             tests/library/closing.c
     fi
@@ -105,9 +112,14 @@ by_gcc() {
     else
         echo "library: valgrind isn't there, not run"
     fi
-    # A call of the one half on a handle of the other does not compile.
+    # A call of one part on a handle of another does not compile.
     for mixed in 'static mvrlu_sets it; return mvrlu_enter(&it);' \
-        'static mvrlu_seat it; return mvrlu_sets_add(&it, 0, 0, NULL);'; do
+        'static mvrlu_seat it; return mvrlu_sets_add(&it, 0, 0, NULL);' \
+        'static mvrlu_table it; return mvrlu_write(&it, 0, NULL);' \
+        'static mvrlu_table it; return mvrlu_sets_add(&it, 0, 0, NULL);' \
+        'static mvrlu_table it; return mvrlu_raw_sets_add(&it.raw, 0, 0, NULL);' \
+        'static mvrlu_sets it; return mvrlu_table_add(&it, 0, NULL);' \
+        'static mvrlu_seat it; return mvrlu_table_split(&it, NULL);'; do
         printf '#include <mvrlu.h>\nint main(void) { %s }\n' "$mixed" >"$room/mixed.c"
         "${fast[@]}" -c "$room/mixed.c" -o "$room/mixed.o" 2>/dev/null && fail "compiles: $mixed"
     done
@@ -124,7 +136,9 @@ cat >"$room/header.cpp" <<'EOF'
 int main() {
     mvrlu_seat seat = {};
     mvrlu_sets sets = {};
-    return mvrlu_enter(&seat) == MVRLU_CLOSED && mvrlu_sets_has(&sets, 0, 0, NULL) == MVRLU_CLOSED ? 0 : 1;
+    mvrlu_table table = {};
+    return mvrlu_enter(&seat) == MVRLU_CLOSED && mvrlu_sets_has(&sets, 0, 0, NULL) == MVRLU_CLOSED
+        && mvrlu_table_has(&table, 0, NULL) == MVRLU_CLOSED ? 0 : 1;
 }
 EOF
 if command -v g++ >/dev/null; then

@@ -22,7 +22,7 @@ constexpr double nearly = 0.05;  // how far apart the shares of yes may be
 constexpr double enough = 10000; // of how many operations a share says something
 
 const store *const stores[] = {
-    &mvrlu_store, &mvrlu_unchecked_store, &locked_store, &itm_store, &hashed_store,
+    &mvrlu_store, &mvrlu_unchecked_store, &locked_store, &itm_store, &hashed_store, &grown_store,
 #ifdef WITH_URCU
     &urcu_store,
 #endif

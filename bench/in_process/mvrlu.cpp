@@ -106,10 +106,55 @@ struct sets {
     std::uint32_t both[2];
 };
 
+#ifndef MVRLU_UNCHECKED
+/* One table that grows, for rows with no move: what is put into the second set is taken out. */
+struct table {
+    table(const bench::row &row, unsigned threads) : seats(threads) {
+        mvrlu_table_options options = MVRLU_TABLE_OPTIONS_INIT;
+        options.objects = MVRLU_TABLE_BUCKETS_MAX + 1 + 4 * row.size;
+        must(mvrlu_table_open(&options, seats.data(), threads), "mvrlu_table_open");
+    }
+    ~table() {
+        for (mvrlu_table &one : seats) must(mvrlu_table_close(&one), "mvrlu_table_close");
+    }
+
+    struct user {
+        user(table &store, unsigned thread) : seat(&store.seats[thread]) {}
+        bool has(std::uint32_t key) { return answer(mvrlu_table_has(seat, key, &reply), "mvrlu_table_has"); }
+        bool add(std::uint32_t key) {
+            bool added = retry([&] { return mvrlu_table_add(seat, key, &reply); }, "mvrlu_table_add");
+            if (added && ++adds % 2 == 0) mvrlu_table_split(seat, nullptr);
+            return added;
+        }
+        bool del(std::uint32_t key) {
+            return retry([&] { return mvrlu_table_del(seat, key, &reply); }, "mvrlu_table_del");
+        }
+        bool move(std::uint32_t key, bool) { return del(key); }
+        template <class Call>
+        bool retry(const Call &call, const char *name) {
+            std::int32_t status;
+            while (mvrlu_may_retry(status = call())) std::this_thread::yield();
+            return answer(status, name);
+        }
+        bool answer(std::int32_t status, const char *call) {
+            if (status != MVRLU_NO) must(status, call);
+            return status == MVRLU_OK;
+        }
+        mvrlu_table *seat;
+        std::uint64_t adds = 0;
+        mvrlu_reply reply;
+    };
+
+    std::vector<mvrlu_table> seats;
+};
+#endif
+
 } // namespace
 
 #ifdef MVRLU_UNCHECKED
 const bench::store bench::mvrlu_unchecked_store = {"mvrlu, unchecked", [](const row &) { return true; }, run<objects, sets>};
 #else
 const bench::store bench::mvrlu_store = {"mvrlu", [](const row &) { return true; }, run<objects, sets>};
+const bench::store bench::grown_store = {"mvrlu, growing", [](const row &row) { return !is_small(row) && row.moves == 0; },
+                                         run<objects, table>};
 #endif

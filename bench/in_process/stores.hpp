@@ -35,6 +35,8 @@ struct store {
 
 /* The library, by its header as it is, and with MVRLU_UNCHECKED. */
 extern const store mvrlu_store, mvrlu_unchecked_store;
+/* Its table that grows, for the rows of many keys with no move. */
+extern const store grown_store;
 /* An array and std::map under one pthread_rwlock_t. */
 extern const store locked_store;
 /* std::unordered_map under one pthread_rwlock_t, for the rows of many keys. */

@@ -63,6 +63,19 @@ static int32_t open_sets(void) {
     return status;
 }
 
+static int32_t open_table(void) {
+    mvrlu_table table[SEATS];
+    mvrlu_table_options options = MVRLU_TABLE_OPTIONS_INIT;
+    options.objects = MVRLU_TABLE_OBJECTS_MIN;
+    memset(table, 0, sizeof table);
+    int32_t status = mvrlu_table_open(&options, table, SEATS);
+    for (int i = 0; i < SEATS; i++) {
+        int32_t closed = mvrlu_table_close(&table[i]);
+        if (closed != (status == MVRLU_OK ? MVRLU_OK : MVRLU_CLOSED)) fail("a seat of an open that was refused", closed);
+    }
+    return status;
+}
+
 /* A block of three on a new domain, in which only requests behind the opening are refused. */
 static int32_t do_block(void) {
     static const mvrlu_command commands[] = {{MVRLU_ADD, 0, 0, 1, 0}, {MVRLU_PUT, 20, 0, 2, 3}, {MVRLU_HAS, 0, 0, 1, 0}};
@@ -115,8 +128,9 @@ static unsigned long refuse_each(const char *what, int32_t (*made)(void)) {
 int main(void) {
     unsigned long objects = refuse_each("open of objects", open_objects);
     unsigned long sets = refuse_each("open of sets", open_sets);
+    unsigned long tables = refuse_each("open of a table", open_table);
     unsigned long blocks = refuse_each("a block", do_block);
     unsigned long walks = refuse_each("a walk", do_walk);
-    printf("refused requests: %lu of objects, %lu of sets, %lu of a block, %lu of a walk\n", objects, sets, blocks, walks);
-    return objects == 0 || sets == 0 || blocks == 0 || walks == 0;
+    printf("refused requests: %lu of objects, %lu of sets, %lu of a table, %lu of a block, %lu of a walk\n", objects, sets, tables, blocks, walks);
+    return objects == 0 || sets == 0 || tables == 0 || blocks == 0 || walks == 0;
 }

@@ -6,6 +6,9 @@ pub mod SetsOpening
 pub mod SetsTold
 pub mod Counted
 pub mod SetsWalk
+pub mod TableOpening
+pub mod TableReplies
+pub mod TableTold
 pub mod Statuses
 pub mod Told
 pub mod Closing

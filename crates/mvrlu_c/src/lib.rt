@@ -1,20 +1,22 @@
-//! A domain for C: a static library of plain functions, which `mvrlu.h` declares, over objects or over the sets.
+//! A domain for C: a static library of plain functions, which `mvrlu.h` declares, over objects, over the sets or over a growing set.
 //!
-//! **The model.** A `MvrluSeat` is a seat of objects in memory that C owns, and a `MvrluSets` a seat of the sets. Zeroed memory
-//! is a closed one; an open one owns the block with its `ObjectSeat` or its `SetSeat`, which shares the domain with the other seats.
+//! **The model.** A `MvrluSeat` is a seat of objects in memory that C owns, a `MvrluSets` a seat of the sets, and a `MvrluTable` one of
+//! a growing set. Zeroed memory is a closed one; an open one owns the block with its `ObjectSeat`, its `SetSeat` or its `GrowSeat`,
+//! which shares the domain with the other seats.
 //!
-//! **The contract.** Each call tells by its status which answer the call of `object_seats` or of `set_seats` gave, and all
-//! that its clauses say of that answer holds of the seat: `Tells`, `TellsCommand`, `TellsBlock` and `TellsWalk` in specs/ tie the two. The
-//! last handle of a domain to be closed lets all seats meet, and tells the last time (`TellsClose`). A closed seat
+//! **The contract.** Each call tells by its status which answer the call of `object_seats`, of `set_seats` or of `grow_seats` gave, and
+//! all that its clauses say of that answer holds of the seat: `Tells`, `TellsCommand`, `TellsBlock`, `TellsWalk` and `TellsSplit` in specs/
+//! tie the two. The last handle of a domain to be closed lets all seats meet, and tells the last time (`TellsClose`). A closed seat
 //! answers `CLOSED` and stays as it was. A number is one meaning (`status`). Memory is safe whatever the order of the
 //! calls and the numbers given; what no call can see is C's to keep, and `mvrlu.h` says it.
 //!
 //! **Choices.** A seat is 128 bytes, two lines, and what it points to is padded, so that threads write different ones.
-//! Open seats aren't copied: a caller couldn't tell them apart. Seats of objects and of sets are different structs, since no
-//! generic one crosses to C; four functions stand for each. A `std::optional<bool>` is true for a no, so C++
+//! Open seats aren't copied: a caller couldn't tell them apart. Seats of objects, of sets and of a growing set are different structs, since
+//! no generic one crosses to C; four functions stand for each. A `std::optional<bool>` is true for a no, so C++
 //! doesn't answer one.
 //!
-//! It stands on `object_seats` and `set_seats`. `handle` and `sets_handle` have the places where a pointer becomes a block again.
+//! It stands on `object_seats`, `set_seats` and `grow_seats`. `handle`, `sets_handle` and `table_handle` have the places where a pointer
+//! becomes a block again.
 #![tactic(auto)]
 
 mod calls;
@@ -30,5 +32,9 @@ mod sets_opening;
 mod sets_reply;
 mod sets_walk;
 mod status;
+mod table_calls;
+mod table_handle;
+mod table_opening;
+mod table_reply;
 
 pub use handle::MvrluSeat;

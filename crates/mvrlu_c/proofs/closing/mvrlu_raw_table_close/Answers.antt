@@ -1,0 +1,21 @@
+use Rattle.std.proofs.Common.{ap, ◌∙◌, w32, to_z, of_z}
+use Rattle.crossbeam_utils.specs.Padded.{padded_value}
+use Rattle.grow_seats.specs.Commands.{IsTableOpening, IsTableCommit}
+use Rattle.shared_domain.specs.Met.{gathering_of}
+use Rattle.mvrlu_c.specs.Closing.{status_of_close, last_told}
+use Rattle.mvrlu_c.specs.Statuses.{code_of}
+use Rattle.mvrlu_c.proofs.Telling.{reads_back}
+use Rattle.mvrlu_c.proofs.Closes.{tells_close}
+use Rattle.mvrlu_c.proofs.closing.mvrlu_raw_table_close.Goals as goal
+
+pub returns : goal.returns
+returns c =
+    let made = c.close_table-answer in
+    let told = c.of_closed.ensures in
+    let is = ap (λ z. to_z w32 (of_z w32 z)) (c.code.ensures ∙ ap code_of told.status) ∙ reads_back (status_of_close made.result) in
+    record {
+      closed = λ shut. let none = made.ensures.closed shut in
+          (is ∙ ap (λ a. code_of (status_of_close a)) none.0, none.1, told.last ∙ ap (last_told c.args.last.now) none.0);
+      «open» = λ opened. let met = made.ensures.open opened in
+          (met.0, tells_close IsTableOpening IsTableCommit (gathering_of (padded_value c.args.handle.now.state).share) made.result _ _ _ met.1 is told.last);
+    }

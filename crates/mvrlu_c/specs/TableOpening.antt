@@ -1,0 +1,43 @@
+-- What opening a domain of a growing set leaves of the handles of C.
+use Rattle.std.specs.Prelude.{◌≡◌, ◌≢◌, ◌⊎◌, ◌<◌, ℕ, ℤ, true, false, List, map, length, All}
+use Rattle.crossbeam_utils.specs.Padded.{padded_value}
+use Rattle.mv_layout.specs.declared.config.ConfigFault.{ConfigFault}
+use Rattle.mv_layout.specs.Limits.{Checked, FirstUnfit}
+use Rattle.grow_seats.specs.Opening.{AreOpened, HasObjects, config_of}
+use Rattle.grow_seats.specs.declared.opening.OpenGrown.{OpenGrown}
+use Rattle.grow_seats.specs.declared.seat.GrowSeat.{GrowSeat}
+use Rattle.mvrlu_c.specs.declared.table_handle.MvrluTable.{MvrluTable}
+use Rattle.mvrlu_c.specs.declared.table_opening.MvrluTableOptions.{MvrluTableOptions}
+use Rattle.mvrlu_c.specs.declared.status.Status.{Status}
+use Rattle.mvrlu_c.specs.declared.status.Status.TheVariants.{Done, InUse, BadNumber, NoMemory}
+use Rattle.mvrlu_c.specs.Statuses.{code_of}
+
+abbrev pub IsClosed : MvrluTable → Type 0
+IsClosed h = h.is_open ≡ false
+
+abbrev pub IsOpen : MvrluTable → Type 0
+IsOpen h = h.is_open ≡ true
+
+-- the seat behind a handle that is open
+abbrev pub seat_in : MvrluTable → GrowSeat
+seat_in h = padded_value h.state
+
+-- the numbers of the domain of so many seats
+abbrev pub grown_of : MvrluTableOptions → ℕ → OpenGrown
+grown_of o seats = record { seats = seats; objects = o.objects; slots = o.slots; opening_time = o.opening_time }
+
+-- a number is out of its range: the size of the options, the count of seats, that of objects, or another of the domain's
+abbrev pub IsBadNumber : MvrluTableOptions → ℕ → Type 0
+IsBadNumber o seats =
+    (o.size ≢ 24) ⊎ (64 < seats) ⊎ (¬ HasObjects (grown_of o seats)) ⊎ ((fault : ConfigFault) × FirstUnfit (config_of (grown_of o seats)) fault)
+
+-- Opening: all of them or none, and why none.
+abbrev pub OpensAs : MvrluTableOptions → List MvrluTable → List MvrluTable → Status → Type 0
+OpensAs o old new Done = All IsClosed old × All IsOpen new × AreOpened (grown_of o (length old)) (map seat_in new)
+OpensAs o old new InUse = ¬ All IsClosed old × (new ≡ old)
+OpensAs o old new BadNumber = All IsClosed old × (new ≡ old) × IsBadNumber o (length old)
+OpensAs o old new NoMemory = All IsClosed old × (new ≡ old) × Checked (config_of (grown_of o (length old)))
+OpensAs o old new other = ⊥
+
+abbrev pub Opens : MvrluTableOptions → List MvrluTable → List MvrluTable → ℤ → Type 0
+Opens o old new code = (status : Status) × (code ≡ code_of status) × OpensAs o old new status

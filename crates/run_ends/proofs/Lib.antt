@@ -1,0 +1,3 @@
+pub mod SentParts
+pub mod StopStatus
+pub mod Stops

@@ -1,19 +1,19 @@
 -- Runs of scripts of blocks on the sets, each by a seat of its own, and their texts.
 use Rattle.std.specs.Prelude.{ℕ, List, length, Option}
 use Rattle.block_domain.specs.Whole.{BlocksRunOf}
-use Rattle.block_parser.specs.BlockGrammar.{parsed_blocks}
+use Rattle.script_files.specs.block_parser.BlockGrammar.{parsed_blocks}
 use Rattle.block_workers.specs.BlockLinks.{AllLinkedBlocks}
-use Rattle.domain_loan.specs.Shown.{handle_causes}
+use Rattle.run_kinds.specs.domain_loan.Shown.{handle_causes}
 use Rattle.mv_history.specs.Meaning.{Seat}
-use Rattle.mvrlu.specs.declared.closing.Closing.{Closing}
+use Rattle.run_kinds.specs.mvrlu.declared.closing.Closing.{Closing}
 use Rattle.run_kinds.specs.Kinds.{IsRunAlong, IsTextOfRead, Kind, config_of, usual_options}
 use Rattle.run_outside.specs.Outside.{Texts}
 use Rattle.run_report.specs.declared.line.Line.{Line}
 use Rattle.run_report.specs.Text.{text_of_run}
 use Rattle.run_words.specs.declared.request.Options.{Options}
 use Rattle.script_files.specs.Scripts.{AllScripts}
-use Rattle.set_blocks.specs.BlockRules.{IsBlockCommit}
-use Rattle.set_blocks.specs.declared.rules.BlockRules.{BlockRules}
+use Rattle.script_files.specs.set_blocks.BlockRules.{IsBlockCommit}
+use Rattle.script_files.specs.set_blocks.declared.rules.BlockRules.{BlockRules}
 use Rattle.set_script.specs.Catalogue.{Maps}
 use Rattle.set_script.specs.Lawful.{IsOpening}
 use Rattle.set_script.specs.declared.commands.Command.{Command}

@@ -8,13 +8,13 @@ ghost use Rattle.block_run.specs.BlockRuns.{IsTextOfBlocks, block_runs};
 ghost use Rattle.script_files.specs.Scripts.{AnyStop, NoneFails, blocks as by_block};
 
 use block_domain::run_block_domain;
-use mvrlu::Closing;
+use run_kinds::mvrlu::Closing;
 use run_kinds::{USUAL, open_run, ran_or_met};
 use run_outside::{Files, Gate};
 use run_report::{Line, order, render};
 use run_words::Options;
+use script_files::set_blocks::{Block, BlockRules};
 use script_files::{Stop, read_block_scripts};
-use set_blocks::{Block, BlockRules};
 use set_catalog::read_all;
 use set_script::Catalogue;
 use std::alloc::{AllocError, Global};

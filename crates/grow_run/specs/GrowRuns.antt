@@ -1,6 +1,6 @@
 -- Runs of scripts on a growing set, each by a seat of its own, and their texts.
 use Rattle.std.specs.Prelude.{ℕ, List, length, Option}
-use Rattle.domain_loan.specs.Shown.{handle_causes}
+use Rattle.run_kinds.specs.domain_loan.Shown.{handle_causes}
 use Rattle.grow_hash.specs.Grown.{IsGrownOpening}
 use Rattle.grow_hash.specs.GrowRules.{IsGrowCommit}
 use Rattle.grow_hash.specs.Tables.{grow_levels}
@@ -10,7 +10,7 @@ use Rattle.grow_report.specs.Whole.{GrowRunOf}
 use Rattle.grow_script.specs.GrowGrammar.{parsed_grow}
 use Rattle.grow_workers.specs.Links.{AllLinkedTurns}
 use Rattle.mv_history.specs.Meaning.{Seat}
-use Rattle.mvrlu.specs.declared.closing.Closing.{Closing}
+use Rattle.run_kinds.specs.mvrlu.declared.closing.Closing.{Closing}
 use Rattle.run_kinds.specs.Kinds.{IsRunAlong, IsTextOfRead, Kind, config_of, usual_options}
 use Rattle.run_outside.specs.Outside.{Texts}
 use Rattle.run_report.specs.declared.line.Line.{Line}

@@ -15,7 +15,7 @@ use grow_domain::run_grow_domain;
 use grow_hash::{GROW_LEVELS, GrowRules, read_grown, table_of};
 use grow_report::{order_grown, render_grown};
 use mv_history::View;
-use mvrlu::Closing;
+use run_kinds::mvrlu::Closing;
 use run_kinds::{USUAL, open_run, ran_or_met};
 use run_outside::{Files, Gate};
 use run_report::Line;

@@ -6,12 +6,12 @@ use Rattle.run_words.specs.declared.request.Refusal.{Refusal}
 use Rattle.run_words.specs.declared.request.Refusal.TheVariants.{Form, Beyond}
 use Rattle.run_words.specs.Words.{Asks, run, gen, work, block, pool, grow, replay, asked}
 use Rattle.set_script.proofs.Times.{lawful_after}
-use Rattle.set_blocks.proofs.Remaining.{lawful_after as lawful_blocks}
-use Rattle.script_files.specs.declared.stop.Stop.{Stop}
-use Rattle.script_files.specs.declared.stop.Stop.TheVariants.{Read}
-use Rattle.script_files.specs.Reading.{AreTold}
-use Rattle.script_files.specs.Scripts.{AllScripts, AnyStop, IsLong, IsRefused, KindOf, ScriptOf, StopsAt, grammar_of}
-use Rattle.script_files.proofs.Refused.{Spoils, ok_is_no_err, fault_spoils, length_spoils}
+use Rattle.run_ends.proofs.set_blocks_lemmas.Remaining.{lawful_after as lawful_blocks}
+use Rattle.run_ends.specs.script_files.declared.stop.Stop.{Stop}
+use Rattle.run_ends.specs.script_files.declared.stop.Stop.TheVariants.{Read}
+use Rattle.run_ends.specs.script_files.Reading.{AreTold}
+use Rattle.run_ends.specs.script_files.Scripts.{AllScripts, AnyStop, IsLong, IsRefused, KindOf, ScriptOf, StopsAt, grammar_of}
+use Rattle.run_ends.proofs.script_files_lemmas.Refused.{Spoils, ok_is_no_err, fault_spoils, length_spoils}
 use Rattle.run_ends.specs.declared.finish.Closed.{Closed}
 use Rattle.run_ends.specs.declared.finish.Finish.{Finish}
 use Rattle.run_ends.specs.declared.finish.Finish.TheVariants.{Done, Usage, Limit, Stopped, Write}

@@ -7,8 +7,8 @@ use Rattle.run_words.specs.declared.request.Limit.{Limit as LimitOf}
 use Rattle.run_words.specs.declared.request.Refusal.TheVariants.{Form, Beyond}
 use Rattle.run_words.specs.Words.{Asks, asked}
 use Rattle.set_script.specs.Lawful.{IsLawful}
-use Rattle.mvrlu.specs.Meant.{whole_of}
-use Rattle.mvrlu.specs.Whole.{last_state}
+use Rattle.run_ends.specs.mvrlu.Meant.{whole_of}
+use Rattle.run_ends.specs.mvrlu.Whole.{last_state}
 use Rattle.run_ends.specs.declared.finish.Closed.{Closed}
 use Rattle.run_ends.specs.declared.finish.Closed.TheVariants.{No, Sets, Blocks, Grown}
 use Rattle.run_ends.specs.declared.finish.Finish.{Finish}
@@ -16,10 +16,10 @@ use Rattle.run_ends.specs.declared.finish.Finish.TheVariants.{Done, Usage, Limit
 use Rattle.run_ends.specs.declared.finish.Ran.{Ran}
 use Rattle.run_ends.specs.Sent.{Sent}
 use Rattle.run_ends.specs.Status.{IsOrMemory, status_of, closed_of, kind_status, stop_line, line_of}
-use Rattle.script_files.specs.declared.stop.Stop.{Stop}
-use Rattle.script_files.specs.declared.stop.Stop.TheVariants.{Read}
-use Rattle.script_files.specs.Reading.{AreTold}
-use Rattle.script_files.specs.Scripts.{AllScripts, ScriptOf, KindOf, grammar_of, StopsAt, IsRefused, IsLong, AnyStop, IsFirstFailed, NoneFails}
+use Rattle.run_ends.specs.script_files.declared.stop.Stop.{Stop}
+use Rattle.run_ends.specs.script_files.declared.stop.Stop.TheVariants.{Read}
+use Rattle.run_ends.specs.script_files.Reading.{AreTold}
+use Rattle.run_ends.specs.script_files.Scripts.{AllScripts, ScriptOf, KindOf, grammar_of, StopsAt, IsRefused, IsLong, AnyStop, IsFirstFailed, NoneFails}
 use Rattle.mvrlu_run.specs.Told.{IsTextFor, files_of, reading_of}
 use Rattle.grow_hash.specs.Tables.{grow_levels}
 

@@ -2,15 +2,15 @@
 use Rattle.std.specs.Prelude.{◌≡◌, ℕ, List, [], Option}
 use Rattle.block_run.specs.BlockRuns.{IsTextOfBlocks}
 use Rattle.grow_run.specs.GrowRuns.{IsTextOfGrown}
-use Rattle.mvrlu.specs.declared.closing.Closing.{Closing}
+use Rattle.run_ends.specs.mvrlu.declared.closing.Closing.{Closing}
 use Rattle.pool_run.specs.PoolRuns.{IsTextOfPool}
 use Rattle.replay_run.specs.ReplayRuns.{IsTextOfPlan}
 use Rattle.run_ends.specs.declared.finish.Closed.{Closed}
 use Rattle.run_ends.specs.declared.finish.Closed.TheVariants.{No, Sets, Blocks, Grown}
 use Rattle.run_outside.specs.Outside.{Texts}
 use Rattle.run_words.specs.Words.{Asks, run, gen, work, block, pool, grow, replay}
-use Rattle.script_files.specs.declared.scripts.Grammar.TheVariants as grammars
-use Rattle.script_files.specs.Scripts.{Reading, commands, blocks, plans}
+use Rattle.run_ends.specs.script_files.declared.scripts.Grammar.TheVariants as grammars
+use Rattle.run_ends.specs.script_files.Scripts.{Reading, commands, blocks, plans}
 use Rattle.script_gen.specs.Script.{text_of_script}
 use Rattle.script_run.specs.ScriptRuns.{IsTextOfScripts, IsTextOfWork}
 

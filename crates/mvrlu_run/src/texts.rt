@@ -1,7 +1,7 @@
 // The text that is asked for.
 ghost use Rattle.std.specs.Prelude.{IfErr, MatchResult};
 ghost use Rattle.run_words.specs.Words.{IsFit, asks_of};
-ghost use Rattle.script_files.specs.Scripts.{AnyStop, NoneFails};
+ghost use Rattle.run_ends.specs.script_files.Scripts.{AnyStop, NoneFails};
 ghost use Rattle.mvrlu_run.specs.Told.{IsTextFor, files_of, reading_of};
 
 use block_run::make_blocks;
@@ -9,9 +9,9 @@ use grow_run::make_grown;
 use pool_run::make_pool;
 use replay_run::make_replay;
 use run_ends::Closed;
+use run_ends::script_files::Stop;
 use run_outside::{Files, Gate};
 use run_words::Request;
-use script_files::Stop;
 use script_gen::text;
 use script_run::{make_run, work_text};
 use std::alloc::{AllocError, Global};

@@ -1,7 +1,7 @@
 -- What is read of a domain that is left doesn't change its history.
 use Rattle.std.proofs.Common.{◌≡◌, ℕ, List}
-use Rattle.mvrlu.specs.Whole.{Whole, IsStill, last_state}
-use Rattle.domain_lines.specs.Joined.{past_of_whole}
+use Rattle.run_kinds.specs.mvrlu.Whole.{Whole, IsStill, last_state}
+use Rattle.run_kinds.specs.domain_lines.Joined.{past_of_whole}
 use Rattle.run_report.specs.declared.line.Line.{Line}
 use Rattle.set_script.specs.Catalogue.{Maps}
 use Rattle.pool_domain.specs.Whole.{PoolOf}

@@ -1,9 +1,9 @@
 -- Runs of the commands of one script by a pool of seats, and their texts.
 use Rattle.std.specs.Prelude.{ℕ, List, [], ◌∷◌, Option}
 use Rattle.command_pool.specs.Pool.{PoolLinked}
-use Rattle.domain_loan.specs.Shown.{handle_causes}
+use Rattle.run_kinds.specs.domain_loan.Shown.{handle_causes}
 use Rattle.mv_history.specs.Meaning.{Seat}
-use Rattle.mvrlu.specs.declared.closing.Closing.{Closing}
+use Rattle.run_kinds.specs.mvrlu.declared.closing.Closing.{Closing}
 use Rattle.pool_domain.specs.Whole.{PoolOf}
 use Rattle.run_kinds.specs.Kinds.{IsRunAlong, IsTextOfRead, Kind, config_of, usual_options}
 use Rattle.run_outside.specs.Outside.{Texts}

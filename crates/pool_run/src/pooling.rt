@@ -7,8 +7,8 @@ ghost use Rattle.pool_run.specs.PoolRuns.{IsTextOfPool, pool_runs};
 ghost use Rattle.script_files.specs.declared.scripts.Grammar.TheVariants.{Sets};
 ghost use Rattle.script_files.specs.Scripts.{AnyStop, NoneFails, commands as by_command};
 
-use mvrlu::Closing;
 use pool_domain::run_pool_domain;
+use run_kinds::mvrlu::Closing;
 use run_kinds::{USUAL, open_run, ran_or_met};
 use run_outside::{Files, Gate};
 use run_report::{Line, order, render};

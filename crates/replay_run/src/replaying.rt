@@ -4,9 +4,9 @@ ghost use Rattle.replay_run.specs.ReplayRuns.{IsTextOfPlan};
 ghost use Rattle.script_files.specs.Scripts.{AnyStop, NoneFails, plans as by_plan};
 
 use run_outside::Files;
+use script_files::step_replay::replay;
 use script_files::{Stop, read_plan};
 use std::alloc::{AllocError, Global};
-use step_replay::replay;
 
 /// Reads the plan of this one file and makes the text of its replay. An error is why there is none: the file has no plan, or
 /// there is no memory.

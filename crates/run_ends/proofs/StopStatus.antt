@@ -2,10 +2,10 @@
 use Rattle.std.proofs.Common.{◌≡◌, ◌≤◌, ℕ, arith}
 use Rattle.script_parser.specs.declared.faults.FaultKind.{FaultKind}
 use Rattle.script_parser.specs.declared.faults.FaultKind.TheVariants.{Many}
-use Rattle.block_parser.specs.declared.faults.BlockKind.{BlockKind}
-use Rattle.block_parser.specs.declared.faults.BlockKind.TheVariants.{Line, Nested, Stray, Empty, Long, Apart, Unended}
-use Rattle.replay_rules.specs.declared.plan.PlanKind.{PlanKind}
-use Rattle.replay_rules.specs.declared.plan.PlanKind.TheVariants.{Many as PlanMany}
+use Rattle.script_files.specs.block_parser.declared.faults.BlockKind.{BlockKind}
+use Rattle.script_files.specs.block_parser.declared.faults.BlockKind.TheVariants.{Line, Nested, Stray, Empty, Long, Apart, Unended}
+use Rattle.script_files.specs.replay_rules.declared.plan.PlanKind.{PlanKind}
+use Rattle.script_files.specs.replay_rules.declared.plan.PlanKind.TheVariants.{Many as PlanMany}
 use Rattle.script_files.specs.declared.stop.Stop.{Stop}
 use Rattle.script_files.specs.declared.stop.Stop.TheVariants.{Script, BlockScript, Plan, Bytes, Read, Memory}
 use Rattle.run_ends.specs.Status.{block_fault_status, fault_status, plan_fault_status, stop_status}

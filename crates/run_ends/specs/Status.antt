@@ -1,7 +1,7 @@
 -- The status of each way to end, and its line on `err`.
 use Rattle.std.specs.Prelude.{◌≡◌, ◌⊎◌, ℕ, List, [], ◌++◌, codes, decimal}
-use Rattle.block_parser.specs.declared.faults.BlockKind.{BlockKind}
-use Rattle.block_parser.specs.declared.faults.BlockKind.TheVariants.{Line, Nested, Stray, Empty, Long, Apart, Unended}
+use Rattle.script_files.specs.block_parser.declared.faults.BlockKind.{BlockKind}
+use Rattle.script_files.specs.block_parser.declared.faults.BlockKind.TheVariants.{Line, Nested, Stray, Empty, Long, Apart, Unended}
 use Rattle.script_parser.specs.declared.faults.FaultKind.{FaultKind}
 use Rattle.script_parser.specs.declared.faults.FaultKind.TheVariants.{Word, Count, Format, Name, Key, Value, Same, Many}
 use Rattle.run_words.specs.declared.request.Limit.{Limit as LimitOf}
@@ -13,8 +13,8 @@ use Rattle.run_ends.specs.declared.finish.Finish.TheVariants.{Done, Usage, Limit
 use Rattle.script_files.specs.declared.stop.Stop.{Stop}
 use Rattle.script_files.specs.declared.stop.Stop.TheVariants.{Script, BlockScript, Plan, Bytes, Read, Memory}
 use Rattle.script_files.specs.Scripts.{Reading, KindOf, commands, blocks, plans}
-use Rattle.replay_rules.specs.declared.plan.PlanKind.{PlanKind}
-use Rattle.replay_rules.specs.declared.plan.PlanKind.TheVariants.{Word as PlanWord, Count as PlanCount, Number as PlanNumber, Many as PlanMany}
+use Rattle.script_files.specs.replay_rules.declared.plan.PlanKind.{PlanKind}
+use Rattle.script_files.specs.replay_rules.declared.plan.PlanKind.TheVariants.{Word as PlanWord, Count as PlanCount, Number as PlanNumber, Many as PlanMany}
 
 -- the status of a faulty script
 abbrev pub fault_status : FaultKind → ℕ

@@ -3,7 +3,7 @@ use grow_hash::{GROW_LEVELS, GrowRules};
 use mvrlu::Closing;
 use run_words::Limit;
 use script_files::Stop;
-use set_blocks::BlockRules;
+use script_files::set_blocks::BlockRules;
 use set_script::SetRules;
 
 /// What a run of the program leaves of its domain.

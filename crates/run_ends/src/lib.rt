@@ -19,6 +19,7 @@
 //!
 //! It stands on `script_files` for why reading stops, on `run_words` for the numbers of the words, and on `mvrlu` for the
 //! closing of a domain. `mvrlu_run` ends each of its calls by it.
+//! Crates above name `script_files`, `set_blocks` and `mvrlu` through this crate.
 #![tactic(auto)]
 
 mod finish;
@@ -28,5 +29,8 @@ mod statuses;
 
 pub use finish::{Closed, Finish, Ran};
 pub use line::report;
+pub use mvrlu;
+pub use script_files;
+pub use script_files::set_blocks;
 pub use sending::send;
 pub use statuses::{into_closed, status};

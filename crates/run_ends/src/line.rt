@@ -6,13 +6,13 @@ ghost use Rattle.run_ends.specs.Status.{plan_fault_end, plan_fault_start, stop_l
 
 use crate::finish::Finish;
 use crate::sending::send;
-use block_parser::BlockKind;
 use itoa::Buffer;
 use run_outside::Sink;
 use run_words::Limit;
 use script_files::Stop;
+use script_files::block_parser::BlockKind;
+use script_files::step_replay::PlanKind;
 use script_parser::FaultKind;
-use step_replay::PlanKind;
 
 // The room of the longest line.
 const ROOM: usize = 192;

@@ -3,10 +3,10 @@ ghost use Rattle.std.specs.Prelude.{◌≡◌};
 ghost use Rattle.run_ends.specs.Status.{closed_of, status_of, stop_status};
 
 use crate::finish::{Closed, Finish};
-use block_parser::BlockKind;
 use script_files::Stop;
+use script_files::block_parser::BlockKind;
+use script_files::step_replay::PlanKind;
 use script_parser::FaultKind;
-use step_replay::PlanKind;
 
 /// The status of an end.
 pub fn status(finish: &Finish) -> u8

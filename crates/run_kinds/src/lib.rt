@@ -23,8 +23,12 @@
 //!
 //! `script_run`, `block_run`, `pool_run` and `grow_run` stand on it side by side, and each adds its kind of run.
 //! It stands on `mvrlu` for the domain, on `domain_lines` for lines in its history, and on `run_words` for the numbers.
+//! Crates above name `domain_lines`, `domain_loan` and `mvrlu` through this crate.
 #![tactic(auto)]
 
 mod opening;
 
+pub use domain_lines;
+pub use domain_loan;
+pub use mvrlu;
 pub use opening::{USUAL, open_run, ran_or_met};

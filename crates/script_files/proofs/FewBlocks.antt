@@ -31,8 +31,8 @@ use Rattle.block_parser.specs.BlockGrammar.{
   with_reading,
   with_readings,
 }
-use Rattle.set_blocks.specs.Blocks.{stands_alone}
-use Rattle.set_blocks.specs.declared.block.TheConstants.{MOST_IN_BLOCK}
+use Rattle.block_parser.specs.set_blocks.Blocks.{stands_alone}
+use Rattle.block_parser.specs.set_blocks.declared.block.TheConstants.{MOST_IN_BLOCK}
 use Rattle.block_parser.specs.declared.faults.BlockKind.TheVariants.{Apart, Line, Long}
 use Rattle.block_parser.specs.declared.line.Said.{Said}
 use Rattle.block_parser.specs.declared.line.Said.TheVariants.{Nothing, Says, Begin, End}

@@ -6,8 +6,8 @@ use Rattle.script_files.specs.declared.stop.Stop.{Stop}
 use Rattle.script_files.specs.declared.stop.Stop.TheVariants.{Script, BlockScript, Plan, Bytes, Read, Memory}
 use Rattle.script_files.specs.Reading.{AreFirstTexts}
 use Rattle.script_files.specs.Scripts.{AllScripts, AnyStop, IsLong, NoScripts, NoText, Reaches, StopsAt, plans}
-use Rattle.replay_rules.specs.declared.plan.Plan.{Plan as PlanRead}
-use Rattle.replay_rules.specs.Plans.{PlanOf, plan_of}
+use Rattle.step_replay.specs.replay_rules.declared.plan.Plan.{Plan as PlanRead}
+use Rattle.step_replay.specs.replay_rules.Plans.{PlanOf, plan_of}
 use Rattle.step_replay.specs.PlanTexts.{planned}
 use Rattle.script_files.proofs.FileTexts.{all_scripts, no_scripts}
 

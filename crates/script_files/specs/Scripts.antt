@@ -18,9 +18,9 @@ use Rattle.script_files.specs.declared.scripts.Grammar.TheVariants.{Sets, Growin
 use Rattle.script_files.specs.declared.reading.Text.{Text}
 use Rattle.script_files.specs.declared.reading.Text.TheVariants.{Whole, TooLong, NoMemory}
 use Rattle.script_files.specs.Reading.{IsTextOf, Says}
-use Rattle.replay_rules.specs.Plans.{PlanOf}
+use Rattle.step_replay.specs.replay_rules.Plans.{PlanOf}
 use Rattle.step_replay.specs.PlanTexts.{planned}
-use Rattle.replay_rules.specs.declared.plan.PlanKind.{PlanKind}
+use Rattle.step_replay.specs.replay_rules.declared.plan.PlanKind.{PlanKind}
 
 -- the text has too many bytes
 abbrev pub IsLong : List ℕ → Type 0

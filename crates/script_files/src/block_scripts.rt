@@ -8,9 +8,9 @@ ghost use Rattle.script_files.specs.Scripts.{AllScripts, Answers, AnyStop, NoScr
 use crate::parsing::take_values;
 use crate::reading::read_texts;
 use crate::stop::{MOST_BYTES, Stop};
+use block_parser::set_blocks::Block;
 use block_parser::{BlockFault, parse_blocks};
 use run_outside::Files;
-use set_blocks::Block;
 use std::alloc::Global;
 use std::thread;
 use std::thread::Threads;

@@ -23,6 +23,7 @@
 //! can be made. The answer is decided by the results in the order of the files, so it is that of the first faulty file.
 //! It stands on `run_outside` for reading, and on `script_parser`, `grow_script`, `block_parser` and `step_replay` for the
 //! grammars. `script_run`, `block_run`, `pool_run`, `grow_run` and `replay_run` read their files by it.
+//! Crates above name `block_parser`, `set_blocks`, `step_replay` and `replay_rules` through this crate.
 #![tactic(auto)]
 
 mod block_scripts;
@@ -32,7 +33,11 @@ mod reading;
 mod scripts;
 mod stop;
 
+pub use block_parser;
+pub use block_parser::set_blocks;
 pub use block_scripts::read_block_scripts;
 pub use plans::read_plan;
 pub use scripts::{Grammar, read_scripts};
+pub use step_replay;
+pub use step_replay::replay_rules;
 pub use stop::{MOST_BYTES, Stop};

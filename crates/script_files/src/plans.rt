@@ -1,7 +1,7 @@
 // Reading the plan of a file.
 ghost use Rattle.std.specs.Prelude.{◌≡◌, ◌<◌, ◌-◌, ◌^◌, [], ◌∷◌, length, map, string_bytes, Ok, IfErr, IfOk, MatchResult};
-ghost use Rattle.replay_rules.specs.FitPlans.{IsFitPlan};
-ghost use Rattle.replay_rules.specs.Plans.{plan_of};
+ghost use Rattle.step_replay.specs.replay_rules.FitPlans.{IsFitPlan};
+ghost use Rattle.step_replay.specs.replay_rules.Plans.{plan_of};
 ghost use Rattle.step_replay.specs.PlanTexts.{planned};
 ghost use Rattle.script_files.specs.Scripts.{AllScripts, AnyStop, NoScripts, NoneFails, plans as by_plan};
 

@@ -2,13 +2,13 @@
 use Rattle.std.proofs.Common.{ℕ, List, length}
 use Rattle.std.specs.List.Sorted.{IsPermutation}
 use Rattle.std.proofs.lemmas.List.Sorted.{IsPermutation-trans}
-use Rattle.domain_lines.specs.Joined.{past_of_whole}
+use Rattle.run_kinds.specs.domain_lines.Joined.{past_of_whole}
 use Rattle.mv_history.specs.Meaning.{Seat}
 use Rattle.mv_history.specs.State.{State, Writes}
 use Rattle.mv_layout.specs.declared.config.Config.{Config}
-use Rattle.mvrlu.specs.Meant.{whole_of}
-use Rattle.mvrlu.specs.Whole.{Whole}
-use Rattle.mvrlu.specs.declared.closing.Closing.{Closing}
+use Rattle.run_kinds.specs.mvrlu.Meant.{whole_of}
+use Rattle.run_kinds.specs.mvrlu.Whole.{Whole}
+use Rattle.run_kinds.specs.mvrlu.declared.closing.Closing.{Closing}
 use Rattle.run_report.specs.declared.line.Line.{Line}
 use Rattle.run_report.specs.InOrder.{IsTextInOrder}
 use Rattle.run_report.specs.Whole.{RunOf}

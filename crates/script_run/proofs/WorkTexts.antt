@@ -11,8 +11,8 @@ use Rattle.run_report.specs.Order.{IsOrdered}
 use Rattle.run_report.specs.Summary.{summary}
 use Rattle.generated_runs.specs.OneAfterAnother.{one_after_another, scripts_of, text_of_tally}
 use Rattle.generated_runs.proofs.told.Whole.{scripts_generated, summary_as}
-use Rattle.mvrlu.specs.Meant.{whole_of}
-use Rattle.mvrlu.specs.declared.closing.Closing.{Closing}
+use Rattle.run_kinds.specs.mvrlu.Meant.{whole_of}
+use Rattle.run_kinds.specs.mvrlu.declared.closing.Closing.{Closing}
 use Rattle.run_kinds.specs.Kinds.{IsLeft}
 use Rattle.script_run.specs.ScriptRuns.{runs, work_options}
 use Rattle.script_run.specs.ScriptRuns.{IsTextOfWork}

@@ -1,9 +1,9 @@
 -- Runs of scripts on the sets, each by a seat of its own, and their texts.
 use Rattle.std.specs.Prelude.{◌≡◌, ℕ, List, length, Option}
-use Rattle.domain_loan.specs.Shown.{handle_causes}
+use Rattle.run_kinds.specs.domain_loan.Shown.{handle_causes}
 use Rattle.generated_runs.specs.OneAfterAnother.{NoneIsWorn, one_after_another, scripts_of, text_of_tally}
 use Rattle.mv_history.specs.Meaning.{Seat}
-use Rattle.mvrlu.specs.declared.closing.Closing.{Closing}
+use Rattle.run_kinds.specs.mvrlu.declared.closing.Closing.{Closing}
 use Rattle.run_kinds.specs.Kinds.{IsRunAlong, IsTextOf, IsTextOfRead, Kind, config_of}
 use Rattle.run_outside.specs.Outside.{Texts}
 use Rattle.run_report.specs.declared.line.Line.{Line}

@@ -1,14 +1,14 @@
 // The run of scripts over a domain of the sets.
 ghost use Rattle.std.specs.Prelude.{◌≡◌, ◌≤◌, All, IfErr, IfOk, Ok, length, map, replicate};
 ghost use Rattle.set_script.specs.Objects.{no_words};
-ghost use Rattle.mvrlu.specs.Opened.{IsOpened};
-ghost use Rattle.mvrlu.specs.Meeting.{AreAll};
+ghost use Rattle.run_kinds.specs.mvrlu.Opened.{IsOpened};
+ghost use Rattle.run_kinds.specs.mvrlu.Meeting.{AreAll};
 ghost use Rattle.run_words.specs.Words.{FitOptions};
 ghost use Rattle.script_workers.specs.Workers.{items_of};
 ghost use Rattle.run_kinds.specs.Kinds.{IsLeft, config_of};
 ghost use Rattle.script_run.specs.ScriptRuns.{runs};
 
-use mvrlu::Closing;
+use run_kinds::mvrlu::Closing;
 use run_kinds::{open_run, ran_or_met};
 use run_outside::Gate;
 use run_report::Line;

@@ -9,7 +9,7 @@ ghost use Rattle.script_workers.specs.Workers.{items_of};
 
 use crate::generated::{WORK, four_scripts};
 use crate::running::{Told, run_sets};
-use mvrlu::Closing;
+use run_kinds::mvrlu::Closing;
 use run_outside::{Files, Gate};
 use run_report::{order, render_in_order, summary};
 use run_words::Options;

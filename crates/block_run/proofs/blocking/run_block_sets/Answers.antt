@@ -1,16 +1,16 @@
 use Rattle.std.proofs.Common.{◌∙◌, ap, length, map, sym}
 use Rattle.std.proofs.lemmas.List.{length-map}
 use Rattle.mv_layout.specs.declared.config.Config.{Config}
-use Rattle.set_blocks.proofs.Remaining.{lawful_after}
+use Rattle.script_files.proofs.set_blocks_lemmas.Remaining.{lawful_after}
 use Rattle.block_workers.specs.Workers.{blocks_of}
 use Rattle.block_domain.proofs.OneRun.{run_permuted}
 use Rattle.block_domain.specs.Whole.{BlocksRunOf}
-use Rattle.set_blocks.specs.BlockRules.{IsBlockCommit}
+use Rattle.script_files.specs.set_blocks.BlockRules.{IsBlockCommit}
 use Rattle.block_run.specs.BlockRuns.{block_chain_of}
 use Rattle.run_kinds.specs.Kinds.{config_of}
 use Rattle.run_kinds.proofs.Along.{run_along}
 use Rattle.block_run.proofs.Still.{still_blocks}
-use Rattle.domain_loan.proofs.Opened.{opened_new}
+use Rattle.run_kinds.proofs.domain_loan_lemmas.Opened.{opened_new}
 use Rattle.run_kinds.proofs.Opened.{back_meets}
 use Rattle.block_run.proofs.blocking.run_block_sets.Goals as goal
 

@@ -3,16 +3,16 @@ use Rattle.std.proofs.lemmas.List.{length-map}
 use Rattle.grow_hash.specs.Grown.{IsGrown, grown_catalogue}
 use Rattle.mv_layout.specs.declared.config.Config.{Config}
 use Rattle.script_workers.specs.Workers.{items_of}
-use Rattle.mvrlu.specs.Whole.{last_state}
+use Rattle.run_kinds.specs.mvrlu.Whole.{last_state}
 use Rattle.grow_run.proofs.GrownBuckets.{few_splits}
-use Rattle.mvrlu.specs.WholeLaws.{still_long, still_state}
+use Rattle.run_kinds.specs.mvrlu.WholeLaws.{still_long, still_state}
 use Rattle.grow_hash.specs.GrowRules.{IsGrowCommit}
 use Rattle.grow_report.specs.Whole.{GrowRunOf}
 use Rattle.run_kinds.specs.Kinds.{config_of}
 use Rattle.grow_run.specs.GrowRuns.{grow_chain_of}
 use Rattle.run_kinds.proofs.Along.{run_along}
 use Rattle.grow_run.proofs.Still.{still_grown}
-use Rattle.domain_loan.proofs.Opened.{opened_new}
+use Rattle.run_kinds.proofs.domain_loan_lemmas.Opened.{opened_new}
 use Rattle.run_kinds.proofs.Opened.{back_meets}
 use Rattle.grow_run.proofs.growing.run_grown_set.Goals as goal
 use Rattle.grow_hash.specs.Tables.{grow_levels}

@@ -8,7 +8,7 @@ use Rattle.run_kinds.specs.Kinds.{config_of}
 use Rattle.pool_run.specs.PoolRuns.{pool_chain_of}
 use Rattle.run_kinds.proofs.Along.{run_along}
 use Rattle.pool_run.proofs.Still.{still_pool}
-use Rattle.domain_loan.proofs.Opened.{opened_new}
+use Rattle.run_kinds.proofs.domain_loan_lemmas.Opened.{opened_new}
 use Rattle.run_kinds.proofs.Opened.{back_meets}
 use Rattle.pool_run.proofs.pooling.pool_sets.Goals as goal
 

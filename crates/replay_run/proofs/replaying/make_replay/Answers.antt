@@ -1,4 +1,4 @@
-use Rattle.replay_rules.specs.Plans.{plan_of}
+use Rattle.script_files.specs.replay_rules.Plans.{plan_of}
 use Rattle.replay_run.proofs.replaying.make_replay.Goals as goal
 
 pub returns-in-Ok-replay-clause-made : goal.returns-in-Ok-replay-clause-made

@@ -1,6 +1,6 @@
 use Rattle.std.proofs.Common.{◌≡◌, ◌∙◌, [], ◌∷◌, Ok, map, string_bytes, MatchResult, subst}
 use Rattle.std.proofs.lemmas.List.{length-map}
-use Rattle.replay_rules.specs.Plans.{plan_of}
+use Rattle.step_replay.specs.replay_rules.Plans.{plan_of}
 use Rattle.step_replay.specs.PlanTexts.{planned}
 use Rattle.script_files.specs.Reading.{AreFirstTexts, text_of}
 use Rattle.script_files.specs.Scripts.{NoScripts, plans}

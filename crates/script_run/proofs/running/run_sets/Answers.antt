@@ -10,7 +10,7 @@ use Rattle.script_run.specs.ScriptRuns.{chain_of}
 use Rattle.run_kinds.specs.Kinds.{config_of}
 use Rattle.run_kinds.proofs.Along.{run_along}
 use Rattle.script_run.proofs.Still.{still_run}
-use Rattle.domain_loan.proofs.Opened.{opened_new}
+use Rattle.run_kinds.proofs.domain_loan_lemmas.Opened.{opened_new}
 use Rattle.run_kinds.proofs.Opened.{back_meets}
 use Rattle.script_run.proofs.running.run_sets.Goals as goal
 

@@ -17,6 +17,7 @@
 //!
 //! It stands on `set_blocks`, whose blocks it makes, and on `script_parser`, whose reading of a line
 //! it uses. The program reads its files of blocks by it.
+//! Crates above name `set_blocks` through this crate.
 #![tactic(auto)]
 
 mod faults;
@@ -28,3 +29,4 @@ mod progress;
 pub use faults::{BlockFault, BlockKind};
 pub use laws::plain_scripts_are_blocks_of_one;
 pub use parsing::parse_blocks;
+pub use set_blocks;

@@ -1,15 +1,1 @@
-pub mod Parts
-pub mod Many
-pub mod Failing
-pub mod FileTexts
-pub mod OneFile
-pub mod Opened
-pub mod InOrder
-pub mod Still
-pub mod Along
-pub mod WorkTexts
-pub mod Refused
 pub mod Complete
-pub mod Four
-pub mod GrownBuckets
-pub mod FewBlocks

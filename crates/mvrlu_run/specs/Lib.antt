@@ -1,7 +1,2 @@
-pub mod Reading
-pub mod Sent
-pub mod Status
-pub mod Scripts
-pub mod Kinds
 pub mod Told
 pub mod Outcome

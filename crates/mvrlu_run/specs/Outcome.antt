@@ -7,17 +7,19 @@ use Rattle.run_words.specs.declared.request.Limit.{Limit as LimitOf}
 use Rattle.run_words.specs.declared.request.Refusal.TheVariants.{Form, Beyond}
 use Rattle.run_words.specs.Words.{Asks, asked}
 use Rattle.set_script.specs.Lawful.{IsLawful}
-use Rattle.mvrlu.specs.Meant.{whole_of}
-use Rattle.mvrlu.specs.Whole.{last_state}
-use Rattle.mvrlu_run.specs.declared.finish.Closed.{Closed}
-use Rattle.mvrlu_run.specs.declared.finish.Closed.TheVariants.{No, Sets, Blocks, Grown}
-use Rattle.mvrlu_run.specs.declared.finish.Finish.{Finish}
-use Rattle.mvrlu_run.specs.declared.finish.Finish.TheVariants.{Done, Usage, Limit, Read, Write}
-use Rattle.mvrlu_run.specs.declared.finish.Ran.{Ran}
-use Rattle.mvrlu_run.specs.Reading.{AreTold}
-use Rattle.mvrlu_run.specs.Scripts.{AllScripts, ScriptOf, KindOf, grammar_of, StopsAt, IsRefused, IsLong, AnyStop, IsFirstFailed, NoneFails}
-use Rattle.mvrlu_run.specs.Sent.{Sent}
-use Rattle.mvrlu_run.specs.Status.{status_of, closed_of, kind_status, line_of}
+use Rattle.run_ends.specs.mvrlu.Meant.{whole_of}
+use Rattle.run_ends.specs.mvrlu.Whole.{last_state}
+use Rattle.run_ends.specs.declared.finish.Closed.{Closed}
+use Rattle.run_ends.specs.declared.finish.Closed.TheVariants.{No, Sets, Blocks, Grown}
+use Rattle.run_ends.specs.declared.finish.Finish.{Finish}
+use Rattle.run_ends.specs.declared.finish.Finish.TheVariants.{Done, Usage, Limit, Stopped, Write}
+use Rattle.run_ends.specs.declared.finish.Ran.{Ran}
+use Rattle.run_ends.specs.Sent.{Sent}
+use Rattle.run_ends.specs.Status.{IsOrMemory, status_of, closed_of, kind_status, stop_line, line_of}
+use Rattle.run_ends.specs.script_files.declared.stop.Stop.{Stop}
+use Rattle.run_ends.specs.script_files.declared.stop.Stop.TheVariants.{Read}
+use Rattle.run_ends.specs.script_files.Reading.{AreTold}
+use Rattle.run_ends.specs.script_files.Scripts.{AllScripts, ScriptOf, KindOf, grammar_of, StopsAt, IsRefused, IsLong, AnyStop, IsFirstFailed, NoneFails}
 use Rattle.mvrlu_run.specs.Told.{IsTextFor, files_of, reading_of}
 use Rattle.grow_hash.specs.Tables.{grow_levels}
 
@@ -46,7 +48,9 @@ AskedCause (Done closed) asks old new = IsPrinted asks old new closed
 AskedCause Write asks old new =
     Rose old.out_faults new.out_faults × (closed : Closed) × (text : List ℕ) × IsTextFor asks old.texts closed text
     × Sent old.out new.out old.out_faults new.out_faults text
-AskedCause finish asks old new = (new.out ≡ old.out) × AnyStop finish (reading_of asks) old.texts (files_of asks) old.file_faults new.file_faults
+AskedCause (Stopped stop) asks old new =
+    (new.out ≡ old.out) × AnyStop stop (reading_of asks) old.texts (files_of asks) old.file_faults new.file_faults
+AskedCause _ asks old new = ⊥
 
 -- the cause of each way to end
 abbrev pub Cause : Finish → List (List ℕ) → Outside → Outside → Type 0
@@ -56,7 +60,8 @@ Cause finish words old new = (asks : Asks) × (asked words ≡ Ok asks) × Asked
 
 -- where the files are steady, a read fault comes only at a name without a text
 abbrev pub NeverRead : Finish → List (List ℕ) → Outside → Type 0
-NeverRead finish words old = (asks : Asks) → asked words ≡ Ok asks → NoneFails finish old.steady old.texts (files_of asks)
+NeverRead (Stopped stop) words old = (asks : Asks) → asked words ≡ Ok asks → NoneFails stop old.steady old.texts (files_of asks)
+NeverRead _ words old = ⊤
 
 -- What became of a call: one way to end, with its status, what is left of the domain, its cause and its line.
 pub record Outcome (words : List (List ℕ)) (old new : Outside) (err err_new : Option (List ℕ)) (err_faults err_faults_new : ℕ)
@@ -74,7 +79,7 @@ pub record IsReadFault (words : List (List ℕ)) (old new : Outside) (err err_ne
   pub asked_is : asked words ≡ Ok asks
   pub script : ℕ
   pub failed : IsFirstFailed (files_of asks) script old.file_faults new.file_faults
-  pub line : Sent err err_new err_faults err_faults_new (line_of (Read script))
+  pub line : Sent err err_new err_faults err_faults_new (stop_line (Read script))
 
 -- what is left of a domain reads a lawful state, so the sets can be read from it
 abbrev pub ReadsSets : Closed → Type 0
@@ -86,10 +91,6 @@ ReadsSets (Grown closing) = IsGrown grow_levels (last_state (whole_of closing))
 -- no call of the files failed, or they are steady
 abbrev pub ReadsAll : Outside → Outside → Type 0
 ReadsAll old new = ¬ Rose old.file_faults.count new.file_faults.count ⊎ IsTrue old.steady
-
--- a call has this status, or there was no memory for it
-abbrev pub IsOrMemory : ℕ → ℕ → Type 0
-IsOrMemory status wanted = (status ≡ wanted) ⊎ (status ≡ 7)
 
 -- What a call is sure to answer, whatever it is asked for, but for want of memory: where files are read, their texts are told, and no call of
 -- theirs failed or they are steady.

@@ -3,21 +3,15 @@ ghost use Rattle.std.specs.Prelude.{◌≡◌, ◌≢◌, ◌↔◌, map, string
 ghost use Rattle.run_outside.specs.Outside.{Rose};
 ghost use Rattle.run_words.specs.declared.request.Refusal.TheVariants.{Form};
 ghost use Rattle.run_words.specs.Words.{Asks, asked};
-ghost use Rattle.mvrlu_run.specs.Status.{closed_of, status_of};
 ghost use Rattle.mvrlu_run.specs.Outcome.{outside, Cause, IsComplete, IsPrinted, IsReadFault, NeverRead, Outcome, ReadsSets};
 
-use crate::finish::{Closed, Finish, Ran};
-use crate::line::report;
-use crate::sending::send;
 use crate::texts::{Made, make_text};
-use block_parser::BlockKind;
+use run_ends::{Closed, Finish, Ran, into_closed, report, send, status};
 use run_outside::{Files, Gate, Sink};
 use run_words::{Refusal, read_words};
-use script_parser::FaultKind;
 use std::alloc::Global;
 use std::sync::Wait;
 use std::thread::Threads;
-use step_replay::PlanKind;
 
 /// Does what the words after the program's name ask for, and answers its status.
 ///
@@ -109,47 +103,10 @@ fn carry_out<R: Threads + Wait + Sync, F: Files, O: Sink, G: Gate>(
     };
     let Made { text, closed } = match make_text(rt, alloc, request, files, gate) {
         Ok(made) => made,
-        Err(finish) => return finish,
+        Err(stop) => return Finish::Stopped(stop),
     };
     match send(out, &text) {
         Ok(()) => Finish::Done(closed),
         Err(_) => Finish::Write,
-    }
-}
-
-fn status(finish: &Finish) -> u8
-    ensures { result ≡ status_of finish.now }
-{
-    match finish {
-        Finish::Done(_) => 0,
-        Finish::Usage => 2,
-        Finish::Limit(_)
-        | Finish::Bytes { .. }
-        | Finish::Script {
-            kind: FaultKind::Many,
-            ..
-        }
-        | Finish::BlockScript {
-            kind: BlockKind::Line(FaultKind::Many),
-            ..
-        }
-        | Finish::Plan {
-            kind: PlanKind::Many,
-            ..
-        } => 4,
-        Finish::Script { .. } | Finish::BlockScript { .. } | Finish::Plan { .. } => 3,
-        Finish::Read { .. } => 5,
-        Finish::Write => 6,
-        Finish::Memory => 7,
-    }
-}
-
-// What is left of the domain: nothing, where not all was written.
-fn into_closed(finish: Finish) -> Closed
-    ensures { result ≡ closed_of finish }
-{
-    match finish {
-        Finish::Done(closed) => closed,
-        _ => Closed::No,
     }
 }

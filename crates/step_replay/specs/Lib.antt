@@ -4,3 +4,5 @@ pub mod Machines
 pub mod MachineLaws
 pub mod FirstSteps
 pub mod Shown
+-- Passed on to the crates above: the definitions of replay_rules.
+pub use Rattle.replay_rules.specs as replay_rules

@@ -25,6 +25,7 @@
 //! **Place.** It stands on `replay_rules` for what a plan's run is and for the laws of all runs, on `set_script` for the words of
 //! a line and their numbers, on `mv_layout` for the numbers and the places of a domain, on `mv_core` for the rule, and on
 //! `mv_history` and `commit_abort` for the words of an object and the answers' types. The program's `replay` stands on it.
+//! Crates above name `replay_rules` through this crate.
 #![tactic(auto)]
 
 mod access;
@@ -47,6 +48,7 @@ pub use drafts::parse_plan;
 pub use laws::replays_are_ruled;
 pub use machine::Machine;
 pub use places::{place_cell, place_number};
+pub use replay_rules;
 pub use replay_rules::{
     Access, Call, CallOf, MOST_STEPS, Plan, PlanFault, PlanKind, runs_are_ruled, turns_go_on,
     turns_make_one_step,

@@ -5,6 +5,3 @@ pub returns-in-Ok-send-clause-cause : goal.returns-in-Ok-send-clause-cause
 returns-in-Ok-send-clause-cause g c =
     let sent = rw c.deref.ensures.value at c.in-Ok-send.ensures.ok in
     (asks_of c.in-Ok.request, c.in-Ok.ensures.asked, (c.in-Ok-make_text.made.text.items, c.in-Ok-make_text.ensures.made, sent))
-
-pub returns-in-Ok-send-clause-never_read : goal.returns-in-Ok-send-clause-never_read
-returns-in-Ok-send-clause-never_read g c = λ asks is. tt

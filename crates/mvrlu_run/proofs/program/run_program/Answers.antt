@@ -1,5 +1,5 @@
 use Rattle.std.proofs.Common.{sym, ◌∙◌}
-use Rattle.mvrlu_run.specs.declared.finish.Ran.{Ran}
+use Rattle.run_ends.specs.declared.finish.Ran.{Ran}
 use Rattle.mvrlu_run.proofs.Complete.{is_complete, is_printed, is_read_fault, reads_sets}
 use Rattle.mvrlu_run.proofs.program.run_program.Goals as goal
 
@@ -12,7 +12,7 @@ returns-clause-printed g c =
 
 pub returns-clause-read : goal.returns-clause-read
 returns-clause-read g c =
-    λ five. is_read_fault _ _ _ c.carry_out-finish.result _ _ _ _ c.carry_out-finish.ensures.cause c.report.ensures (sym c.status-status.ensures ∙ five)
+    λ five. is_read_fault _ _ _ _ _ _ _ c.carry_out-finish.result c.carry_out-finish.ensures.cause c.report.ensures (sym c.status-status.ensures ∙ five)
 
 pub returns-clause-complete : goal.returns-clause-complete
 returns-clause-complete g c =

@@ -1,0 +1,2 @@
+pub mod GrownBuckets
+pub mod Still

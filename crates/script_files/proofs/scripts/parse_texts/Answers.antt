@@ -1,0 +1,51 @@
+use Rattle.std.proofs.Common.{◌≡◌, ◌≤◌, length, map, subst, Vec, Result, All, IfOk, arith}
+use Rattle.std.specs.declared.alloc.Global.{Global}
+use Rattle.script_parser.specs.Grammar.{Refuses}
+use Rattle.set_script.specs.declared.commands.Command.{Command}
+use Rattle.script_parser.specs.declared.faults.ScriptFault.{ScriptFault}
+use Rattle.script_files.specs.Reading.{list_of}
+use Rattle.script_files.specs.Scripts.{AreOf, parsed_by}
+use Rattle.script_files.proofs.FileTexts.{all_ok, all_parse, answers_from_each, first_refused}
+use Rattle.script_files.proofs.scripts.parse_texts.Goals as goal
+
+pub returns-in-Ok-take_values-clause-parsed : goal.returns-in-Ok-take_values-clause-parsed
+returns-in-Ok-take_values-clause-parsed g c =
+    let results = c.in-Ok.parsed.items in
+    let long = c.in-Ok.parsed.ok.0 in
+    let len : length results ≡ length c.args.texts.now = omega (arith, long, c.in-Ok.ensures.len) in
+    let answers = answers_from_each (parsed_by c.args.grammar) list_of Refuses c.args.texts.now results len
+    (λ i d e lt. (c.in-Ok.ensures.each i e lt).1.met.0 d) in
+    all_parse (parsed_by c.args.grammar) list_of Refuses c.args.texts.now results c.take_values.new.values.items answers c.in-Ok-take_values.ensures
+
+pub returns-in-Ok-take_values-clause-short : goal.returns-in-Ok-take_values-clause-short
+returns-in-Ok-take_values-clause-short g c =
+    let long = c.in-Ok.parsed.ok.0 in
+    let P : Vec Command Global → Type 0 = λ script. length script.items ≤ 65536 in
+    let each : All {X = Result (Vec Command Global) ScriptFault} (λ result. IfOk result P) c.in-Ok.parsed.items =
+    λ k e lt. (c.in-Ok.ensures.each k e (omega (arith, lt, long, c.in-Ok.ensures.len))).1.met.1.0 in
+    all_ok P c.take_values.new.values.items
+    (subst (All {X = Result (Vec Command Global) ScriptFault} (λ result. IfOk result P)) c.in-Ok-take_values.ensures each)
+
+pub returns-in-Ok-take_values-clause-fit : goal.returns-in-Ok-take_values-clause-fit
+returns-in-Ok-take_values-clause-fit g c =
+    let long = c.in-Ok.parsed.ok.0 in
+    let P : Vec Command Global → Type 0 = λ script. AreOf c.args.grammar script.items in
+    let each : All {X = Result (Vec Command Global) ScriptFault} (λ result. IfOk result P) c.in-Ok.parsed.items =
+    λ k e lt. (c.in-Ok.ensures.each k e (omega (arith, lt, long, c.in-Ok.ensures.len))).1.met.1.1 in
+    all_ok P c.take_values.new.values.items
+    (subst (All {X = Result (Vec Command Global) ScriptFault} (λ result. IfOk result P)) c.in-Ok-take_values.ensures each)
+
+pub returns-in-Err-At-clause-parsed : goal.returns-in-Err-At-clause-parsed
+returns-in-Err-At-clause-parsed g c =
+    let results = c.in-Ok.parsed.items in
+    let long = c.in-Ok.parsed.ok.0 in
+    let len : length results ≡ length c.args.texts.now = omega (arith, long, c.in-Ok.ensures.len) in
+    let answers = answers_from_each (parsed_by c.args.grammar) list_of Refuses c.args.texts.now results len
+    (λ i d e lt. (c.in-Ok.ensures.each i e lt).1.met.0 d) in
+    let before = c.take_values.new.values.items in
+    let many = c.take_values.new.values.ok.0 in
+    let place : c.len-in-Err-At.result ≡ length before = omega (arith, many, c.len-in-Err-At.ensures) in
+    let stop = first_refused (parsed_by c.args.grammar) list_of Refuses c.args.texts.now results before c.in-Err-At.field-0 c.in-Err-At.ensures.0
+    answers c.in-Err-At.ensures.1 in
+    let fault = subst (Refuses (parsed_by c.args.grammar stop.1.0)) c.in-Err-At.field-0-is stop.1.2 in
+    rw place (record { text = stop.1.0; placed = stop.1.1; fault = fault; before = map list_of before; scripts = stop.0 })

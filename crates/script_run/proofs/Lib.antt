@@ -1,0 +1,4 @@
+pub mod InOrder
+pub mod Still
+pub mod WorkTexts
+pub mod Four

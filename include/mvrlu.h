@@ -163,27 +163,33 @@ static inline int32_t mvrlu_end_call(uint32_t *in_call, int32_t status) {
         return status_ != MVRLU_OK ? status_ : mvrlu_end_call(&(seat)->in_call, call); \
     } while (0)
 
+/* Opens seats by a call of the library: all of them or none. */
+#define MVRLU_OPEN(raw_type, call, options, seats, count) \
+    do { \
+        raw_type raw_[MVRLU_SEATS_MAX]; \
+        size_t i_; \
+        int32_t status_; \
+        if ((options) == NULL || (seats) == NULL) return MVRLU_NULL; \
+        if ((options)->size != sizeof *(options) || (count) < 1 || (count) > MVRLU_SEATS_MAX) return MVRLU_BAD_NUMBER; \
+        for (i_ = 0; i_ < (count); i_++) { \
+            if ((seats)[i_].raw.is_open) return MVRLU_IN_USE; \
+            raw_[i_].is_open = 0; \
+            raw_[i_].at = NULL; \
+        } \
+        status_ = call(options, raw_, count); \
+        if (status_ != MVRLU_OK) return status_; \
+        for (i_ = 0; i_ < (count); i_++) { \
+            (seats)[i_].raw = raw_[i_]; \
+            (seats)[i_].self = &(seats)[i_]; \
+            (seats)[i_].in_call = 0; \
+        } \
+        return MVRLU_OK; \
+    } while (0)
+
 /* Opens a domain of objects that are all 0, with a seat for each of `seats`: all of them or none. Seat i has number i. Every
  * seat must be closed (zeroed memory). MVRLU_BAD_NUMBER, MVRLU_IN_USE, MVRLU_NO_MEMORY, MVRLU_NULL. */
 static inline int32_t mvrlu_open(const mvrlu_options *options, mvrlu_seat seats[], size_t count) {
-    mvrlu_raw raw[MVRLU_SEATS_MAX];
-    size_t i;
-    int32_t status;
-    if (options == NULL || seats == NULL) return MVRLU_NULL;
-    if (options->size != sizeof(mvrlu_options) || count < 1 || count > MVRLU_SEATS_MAX) return MVRLU_BAD_NUMBER;
-    for (i = 0; i < count; i++) {
-        if (seats[i].raw.is_open) return MVRLU_IN_USE;
-        raw[i].is_open = 0;
-        raw[i].at = NULL;
-    }
-    status = mvrlu_raw_open(options, raw, count);
-    if (status != MVRLU_OK) return status;
-    for (i = 0; i < count; i++) {
-        seats[i].raw = raw[i];
-        seats[i].self = &seats[i];
-        seats[i].in_call = 0;
-    }
-    return MVRLU_OK;
+    MVRLU_OPEN(mvrlu_raw, mvrlu_raw_open, options, seats, count);
 }
 
 /* Closes a seat, and tells whether it was the last one of its domain. What its section holds is given up first. MVRLU_OK: it was. All seats of the
@@ -407,24 +413,7 @@ static inline int mvrlu_may_retry(int32_t status) {
 /* Opens a domain of the thirty sets, all empty, with a seat for each of `sets`: all of them or none. Seat i has number i. Every seat
  * must be closed (zeroed memory). MVRLU_BAD_NUMBER, MVRLU_IN_USE, MVRLU_NO_MEMORY, MVRLU_NULL. */
 static inline int32_t mvrlu_sets_open(const mvrlu_sets_options *options, mvrlu_sets sets[], size_t count) {
-    mvrlu_sets_raw raw[MVRLU_SEATS_MAX];
-    size_t i;
-    int32_t status;
-    if (options == NULL || sets == NULL) return MVRLU_NULL;
-    if (options->size != sizeof(mvrlu_sets_options) || count < 1 || count > MVRLU_SEATS_MAX) return MVRLU_BAD_NUMBER;
-    for (i = 0; i < count; i++) {
-        if (sets[i].raw.is_open) return MVRLU_IN_USE;
-        raw[i].is_open = 0;
-        raw[i].at = NULL;
-    }
-    status = mvrlu_raw_sets_open(options, raw, count);
-    if (status != MVRLU_OK) return status;
-    for (i = 0; i < count; i++) {
-        sets[i].raw = raw[i];
-        sets[i].self = &sets[i];
-        sets[i].in_call = 0;
-    }
-    return MVRLU_OK;
+    MVRLU_OPEN(mvrlu_sets_raw, mvrlu_raw_sets_open, options, sets, count);
 }
 
 /* Closes a seat, and tells whether it was the last one of its domain, with the time of the last entry, as mvrlu_close_last does. */
@@ -575,24 +564,7 @@ int32_t mvrlu_raw_table_split(mvrlu_table_raw *table, mvrlu_reply *reply);
 /* Opens a domain of an empty table of 16 buckets, with a seat for each of `table`: all of them or none. Seat i has number i. Every seat
  * must be closed (zeroed memory). MVRLU_BAD_NUMBER, MVRLU_IN_USE, MVRLU_NO_MEMORY, MVRLU_NULL. */
 static inline int32_t mvrlu_table_open(const mvrlu_table_options *options, mvrlu_table table[], size_t count) {
-    mvrlu_table_raw raw[MVRLU_SEATS_MAX];
-    size_t i;
-    int32_t status;
-    if (options == NULL || table == NULL) return MVRLU_NULL;
-    if (options->size != sizeof(mvrlu_table_options) || count < 1 || count > MVRLU_SEATS_MAX) return MVRLU_BAD_NUMBER;
-    for (i = 0; i < count; i++) {
-        if (table[i].raw.is_open) return MVRLU_IN_USE;
-        raw[i].is_open = 0;
-        raw[i].at = NULL;
-    }
-    status = mvrlu_raw_table_open(options, raw, count);
-    if (status != MVRLU_OK) return status;
-    for (i = 0; i < count; i++) {
-        table[i].raw = raw[i];
-        table[i].self = &table[i];
-        table[i].in_call = 0;
-    }
-    return MVRLU_OK;
+    MVRLU_OPEN(mvrlu_table_raw, mvrlu_raw_table_open, options, table, count);
 }
 
 /* Closes a seat, and tells whether it was the last one of its domain, with the time of the last entry, as mvrlu_close_last does. */

@@ -13,7 +13,7 @@
  */
 #ifndef MVRLU_SETS_HPP
 #define MVRLU_SETS_HPP
-#include <mvrlu.hpp>
+#include <mvrlu_replies.hpp>
 
 namespace mvrlu {
 
@@ -22,38 +22,6 @@ enum class set : std::uint32_t {};
 constexpr set list(unsigned number) noexcept { return static_cast<set>(number < 10 ? MVRLU_LIST(number) : MVRLU_SETS_COUNT); }
 constexpr set table(unsigned number) noexcept { return static_cast<set>(number < 10 ? MVRLU_HASH(number) : MVRLU_SETS_COUNT); }
 constexpr set tree(unsigned number) noexcept { return static_cast<set>(number < 10 ? MVRLU_TREE(number) : MVRLU_SETS_COUNT); }
-
-/* What a change came to. */
-enum class reply {
-    yes,   /* it was made */
-    no,    /* there was nothing to change */
-    full,  /* there are too few vacant objects for it */
-    worn,  /* the last time, 2^45 - 1, was reached, so nothing can be changed any more */
-    again  /* other seats came first at each of its tries, and nothing was done */
-};
-
-/* Where a call took place in the one history: it is the commit of a time, or it read the state of a time. */
-struct place {
-    time at = 0;
-    bool committed = false;
-};
-
-/* How many times a change is tried where nothing else is said. */
-constexpr unsigned tries = 1000;
-
-namespace detail {
-
-inline reply reply_of(std::int32_t status, const char *call) {
-    switch (status) {
-        case MVRLU_OK: return reply::yes;
-        case MVRLU_NO: return reply::no;
-        case MVRLU_FULL: return reply::full;
-        case MVRLU_WORN: return reply::worn;
-        default: throw error(status, call);
-    }
-}
-
-} // namespace detail
 
 /* What one command of a block came to. `value` is that of a `get` whose key was there; `first` and `second` are the answers of a `pair`. */
 struct answer {
@@ -108,62 +76,42 @@ struct walk {
     std::optional<std::uint32_t> next; /* the least key for which there was no room */
 };
 
-/* A seat of a domain of sets, for one thread at a time. It closes itself, moves, and is not copied. One that was made by no `open_sets`,
- * and one that was moved from, is closed; each call on a closed seat but `close` throws errc::closed. Each call throws errc::bad_set
- * where a set isn't one of the thirty. */
-class sets {
+namespace detail {
+
+inline constexpr part<mvrlu_sets, mvrlu_sets_options> of_sets = {
+    {"mvrlu_sets_open", mvrlu_sets_open}, {"mvrlu_sets_close_last", mvrlu_sets_close_last},
+    {"mvrlu_sets_tidy", mvrlu_sets_tidy}, {"mvrlu_sets_counts", mvrlu_sets_counts}};
+
+} // namespace detail
+
+/* A seat of a domain of sets, for one thread at a time, which closes itself, moves, and is not copied. Each call throws errc::closed where
+ * it is closed, and errc::bad_set where a set isn't one of the thirty. */
+class sets : public detail::replying<mvrlu_sets, mvrlu_sets_options, detail::of_sets> {
 public:
-    sets() noexcept = default;
-    sets(sets &&) noexcept = default;
-    sets &operator=(sets &&other) noexcept {
-        if (this != &other) {
-            close();
-            lines_ = std::move(other.lines_);
-            told_ = other.told_;
-        }
-        return *this;
-    }
-    ~sets() { close(); }
-
-    bool is_open() const noexcept { return lines_ != nullptr; }
-
-    /* Closes it. Where it was the last seat of the domain, all of them have met, and the time of the last entry is told; std::nullopt: other
-     * seats are open still, or this one was closed already. */
-    std::optional<time> close() noexcept {
-        if (lines_ == nullptr) return std::nullopt;
-        time last = 0;
-        std::int32_t status = mvrlu_sets_close_last(&lines_->seat, &last);
-        lines_.reset();
-        return status == MVRLU_OK ? std::optional<time>(last) : std::nullopt;
-    }
-
     /* Whether a key is there. */
-    [[nodiscard]] bool has(set in, std::uint32_t key) {
-        return read("mvrlu_sets_has", [=](mvrlu_sets *seat, mvrlu_reply *to) { return mvrlu_sets_has(seat, number(in), key, to); });
-    }
+    [[nodiscard]] bool has(set in, std::uint32_t key) { return read("mvrlu_sets_has", mvrlu_sets_has, number(in), key); }
 
     /* The value of a key that is there. */
     [[nodiscard]] std::optional<std::uint64_t> get(set in, std::uint32_t key) {
-        if (!read("mvrlu_sets_get", [=](mvrlu_sets *seat, mvrlu_reply *to) { return mvrlu_sets_get(seat, number(in), key, to); })) return {};
+        if (!read("mvrlu_sets_get", mvrlu_sets_get, number(in), key)) return {};
         return told_.value;
     }
 
     /* The least key that isn't below this one. */
     [[nodiscard]] std::optional<std::uint32_t> next(set in, std::uint32_t key) {
-        if (!read("mvrlu_sets_next", [=](mvrlu_sets *seat, mvrlu_reply *to) { return mvrlu_sets_next(seat, number(in), key, to); })) return {};
+        if (!read("mvrlu_sets_next", mvrlu_sets_next, number(in), key)) return {};
         return static_cast<std::uint32_t>(told_.value);
     }
 
     /* How many keys there are. */
     [[nodiscard]] std::uint64_t size(set in) {
-        read("mvrlu_sets_size", [=](mvrlu_sets *seat, mvrlu_reply *to) { return mvrlu_sets_size(seat, number(in), to); });
+        read("mvrlu_sets_size", mvrlu_sets_size, number(in));
         return told_.value;
     }
 
     /* Whether a key is in the first set, and whether it is in the second, in one state. */
     [[nodiscard]] std::pair<bool, bool> pair(set first, set second, std::uint32_t key) {
-        read("mvrlu_sets_pair",
-             [=](mvrlu_sets *seat, mvrlu_reply *to) { return mvrlu_sets_pair(seat, number(first), number(second), key, to); });
+        read("mvrlu_sets_pair", mvrlu_sets_pair, number(first), number(second), key);
         return {told_.value != 0, told_.second != 0};
     }
 
@@ -187,24 +135,22 @@ public:
     /* Adds a key, with the value 0. Like the other three changes it is tried at most `limit` times, and the thread yields between two;
      * reply::no: the key is there. */
     [[nodiscard]] mvrlu::reply add(set in, std::uint32_t key, unsigned limit = tries) {
-        return change(limit, "mvrlu_sets_add", [=](mvrlu_sets *seat, mvrlu_reply *to) { return mvrlu_sets_add(seat, number(in), key, to); });
+        return change(limit, "mvrlu_sets_add", mvrlu_sets_add, number(in), key);
     }
 
     /* Gives a key a value, and adds it where it isn't there. reply::no: it has this value. */
     [[nodiscard]] mvrlu::reply put(set in, std::uint32_t key, std::uint64_t value, unsigned limit = tries) {
-        return change(limit, "mvrlu_sets_put",
-                      [=](mvrlu_sets *seat, mvrlu_reply *to) { return mvrlu_sets_put(seat, number(in), key, value, to); });
+        return change(limit, "mvrlu_sets_put", mvrlu_sets_put, number(in), key, value);
     }
 
     /* Takes a key out. reply::no: it isn't there. */
     [[nodiscard]] mvrlu::reply del(set in, std::uint32_t key, unsigned limit = tries) {
-        return change(limit, "mvrlu_sets_del", [=](mvrlu_sets *seat, mvrlu_reply *to) { return mvrlu_sets_del(seat, number(in), key, to); });
+        return change(limit, "mvrlu_sets_del", mvrlu_sets_del, number(in), key);
     }
 
     /* Moves a key with its value to another set. reply::no: it isn't in the first set, or is in the second. Throws errc::same_set. */
-    [[nodiscard]] mvrlu::reply move(set from, set to_set, std::uint32_t key, unsigned limit = tries) {
-        return change(limit, "mvrlu_sets_move",
-                      [=](mvrlu_sets *seat, mvrlu_reply *to) { return mvrlu_sets_move(seat, number(from), number(to_set), key, to); });
+    [[nodiscard]] mvrlu::reply move(set from, set to, std::uint32_t key, unsigned limit = tries) {
+        return change(limit, "mvrlu_sets_move", mvrlu_sets_move, number(from), number(to), key);
     }
 
     /* Makes a block as one commit, or one read where none of its commands changes anything. It is tried at most `limit` times, and the
@@ -225,26 +171,6 @@ public:
         return all;
     }
 
-    /* Reclaims what nobody reads any more of the log, and tells how many slots are live. */
-    std::uint32_t tidy() {
-        std::uint32_t live = 0;
-        detail::must(mvrlu_sets_tidy(held("mvrlu_sets_tidy"), &live), "mvrlu_sets_tidy");
-        return live;
-    }
-
-    /* The counts of the log. */
-    mvrlu_counts count() {
-        mvrlu_counts found = {};
-        detail::must(mvrlu_sets_counts(held("mvrlu_sets_counts"), &found), "mvrlu_sets_counts");
-        return found;
-    }
-
-    /* Where the last call took place that was done. */
-    place last() const noexcept { return {told_.time, told_.committed != 0}; }
-
-    /* The seat as mvrlu.h has it, for other calls than `mvrlu_sets_close`; null where it is closed. */
-    mvrlu_sets *handle() noexcept { return lines_ == nullptr ? nullptr : &lines_->seat; }
-
 private:
     friend std::vector<sets> open_sets(const struct sets_options &options, std::size_t count);
 
@@ -257,45 +183,6 @@ private:
         if (op == MVRLU_PAIR) made.first = told.value != 0, made.second = told.second != 0;
         return made;
     }
-
-    mvrlu_sets *held(const char *call) const {
-        if (lines_ == nullptr) throw error(MVRLU_CLOSED, call);
-        return &lines_->seat;
-    }
-
-    /* A call that only reads, which has an answer at once. */
-    template <class Call>
-    bool read(const char *name, const Call &call) {
-        mvrlu_reply told{};
-        mvrlu::reply came = detail::reply_of(call(held(name), &told), name);
-        told_ = told;
-        return came == mvrlu::reply::yes;
-    }
-
-    /* A call that may be given up, and is then made again. */
-    template <class Call>
-    mvrlu::reply change(unsigned limit, const char *name, const Call &call) {
-        mvrlu_sets *seat = held(name);
-        for (; limit > 0; limit--) {
-            mvrlu_reply told{};
-            std::int32_t status = call(seat, &told);
-            if (!mvrlu_may_retry(status)) {
-                mvrlu::reply came = detail::reply_of(status, name);
-                told_ = told;
-                return came;
-            }
-            std::this_thread::yield();
-        }
-        return mvrlu::reply::again;
-    }
-
-    /* A seat on a cache line of its own, where it stays when its owner moves. */
-    struct alignas(128) lines {
-        mvrlu_sets seat{};
-    };
-
-    std::unique_ptr<lines> lines_;
-    mvrlu_reply told_{};
 };
 
 /* What a domain of sets is opened with. */
@@ -308,18 +195,7 @@ struct sets_options {
 /* Opens a domain of thirty empty sets, with 1 to MVRLU_SEATS_MAX seats. Throws errc::bad_number, errc::no_memory and std::bad_alloc, and
  * then nothing is open. */
 [[nodiscard]] inline std::vector<sets> open_sets(const sets_options &options, std::size_t count) {
-    mvrlu_sets_options given = {sizeof(mvrlu_sets_options), options.objects, options.slots, options.opening_time};
-    mvrlu_sets opened[MVRLU_SEATS_MAX] = {};
-    if (count < 1 || count > MVRLU_SEATS_MAX) throw error(MVRLU_BAD_NUMBER, "mvrlu_sets_open");
-    std::vector<sets> made(count);
-    for (sets &one : made) one.lines_ = std::make_unique<sets::lines>();
-    detail::must(mvrlu_sets_open(&given, opened, count), "mvrlu_sets_open");
-    for (std::size_t i = 0; i < count; i++) {
-        mvrlu_sets *own = made[i].handle();
-        own->raw = opened[i].raw;
-        own->self = own;
-    }
-    return made;
+    return sets::open<sets>(options, count);
 }
 
 } // namespace mvrlu

@@ -1,7 +1,7 @@
 #!/bin/bash
 # The library for C: builds the archive, and runs each call of include/mvrlu.h, the bank and the list of examples/c,
-# and random histories, with each compiler and sanitizer that is there; an absent one is told as not run. Ends with 1
-# at the first that fails.
+# and random histories, with each compiler and sanitizer that is there, and of C++ what wants other words of a compiler
+# than tests/install.sh has; an absent one is told as not run. Ends with 1 at the first that fails.
 cd "$(dirname "$0")/.." || exit 1
 room=$(mktemp -d) || exit 1
 trap 'rm -rf "$room"' EXIT
@@ -67,6 +67,7 @@ by_gcc() {
     local fast=(gcc "${strict[@]}" -O2) debug=(gcc "${strict[@]}" -g) watched mixed
     if "${fast[@]}" -pthread tests/library/single_steps.c -o "$room/single" 2>/dev/null && "$room/single"; then
         expect "calls in the middle of a call" "steps: " "${fast[@]}" tests/library/sets_steps.c
+        expect "calls in the middle of a call on a table" "steps of a table: " "${fast[@]}" tests/library/table_steps.c
     else
         echo "library: a thread can't be stepped here, calls in the middle of a call not run"
     fi
@@ -141,8 +142,20 @@ int main() {
         && mvrlu_table_has(&table, 0, NULL) == MVRLU_CLOSED ? 0 : 1;
 }
 EOF
+
+# The programs that g++ alone builds.
+by_gxx() {
+    local strict=(g++ -std=c++17 -Wall -Wextra -Werror -Iinclude)
+    expect "the header as C++" "" "${strict[@]}" "$room/header.cpp"
+    expect "refused memory of C++" "refused to C++: " "${strict[@]}" -O2 tests/library/refused.cpp \
+        -Wl,--wrap=malloc,--wrap=realloc,--wrap=free
+    carries -fsanitize=thread || return 0
+    expect "a table of C++ under the thread sanitizer" "table: " "${strict[@]}" -g -O1 -fsanitize=thread \
+        -DTHREADS_ALONE=true tests/install/table.cpp
+}
+
 if command -v g++ >/dev/null; then
-    expect "the header as C++" "" g++ -std=c++17 -Wall -Wextra -Werror -Iinclude "$room/header.cpp"
+    by_gxx
 else
     echo "library: g++ isn't there, not run"
 fi

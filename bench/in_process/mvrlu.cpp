@@ -13,6 +13,20 @@ void must(std::int32_t status, const char *call) {
     std::exit(1);
 }
 
+/* Whether a call on a set had something to do. */
+bool answer(std::int32_t status, const char *call) {
+    if (status != MVRLU_NO) must(status, call);
+    return status == MVRLU_OK;
+}
+
+/* The same of a change, which is made again as long as others come first. */
+template <class Call>
+bool retry(const Call &call, const char *name) {
+    std::int32_t status;
+    while (mvrlu_may_retry(status = call())) std::this_thread::yield();
+    return answer(status, name);
+}
+
 struct objects {
     explicit objects(unsigned threads) : seats(threads) {
         mvrlu_options options = MVRLU_OPTIONS_INIT;
@@ -87,16 +101,6 @@ struct sets {
         bool move(std::uint32_t key, bool first) {
             return retry([&] { return mvrlu_sets_move(seat, both[first ? 0 : 1], both[first ? 1 : 0], key, &reply); }, "mvrlu_sets_move");
         }
-        template <class Call>
-        bool retry(const Call &call, const char *name) {
-            std::int32_t status;
-            while (mvrlu_may_retry(status = call())) std::this_thread::yield();
-            return answer(status, name);
-        }
-        bool answer(std::int32_t status, const char *call) {
-            if (status != MVRLU_NO) must(status, call);
-            return status == MVRLU_OK;
-        }
         mvrlu_sets *seat;
         const std::uint32_t *both;
         mvrlu_reply reply;
@@ -130,16 +134,6 @@ struct table {
             return retry([&] { return mvrlu_table_del(seat, key, &reply); }, "mvrlu_table_del");
         }
         bool move(std::uint32_t key, bool) { return del(key); }
-        template <class Call>
-        bool retry(const Call &call, const char *name) {
-            std::int32_t status;
-            while (mvrlu_may_retry(status = call())) std::this_thread::yield();
-            return answer(status, name);
-        }
-        bool answer(std::int32_t status, const char *call) {
-            if (status != MVRLU_NO) must(status, call);
-            return status == MVRLU_OK;
-        }
         mvrlu_table *seat;
         std::uint64_t adds = 0;
         mvrlu_reply reply;

@@ -1,6 +1,6 @@
 # What stands below a prefix after an install, after a second one, and after an uninstall.
 
-library_files='include/mvrlu.h include/mvrlu.hpp include/mvrlu_sets.hpp'
+library_files='include/mvrlu.h include/mvrlu.hpp include/mvrlu_replies.hpp include/mvrlu_sets.hpp include/mvrlu_table.hpp'
 library_files+=' lib/cmake/mvrlu/mvrlu-config-version.cmake lib/cmake/mvrlu/mvrlu-config.cmake lib/libmvrlu.a lib/pkgconfig/mvrlu.pc'
 library_files+=' share/man/man3/mvrlu.3 share/mvrlu/files'
 
@@ -9,7 +9,7 @@ rows_of_what_is_installed() {
     [ "$(cd "$prefix" && find . -type f -printf '%P\n' | sort | xargs)" = "$library_files" ] || fail "other files: $(find "$prefix")"
     [ "$(grep -v '/$' "$prefix/share/mvrlu/files" | xargs)" = "$library_files" ] || fail "another list: $(cat "$prefix/share/mvrlu/files")"
     [ -z "$(find "$prefix" -type f ! -perm 644)" ] || fail "other modes: $(list "$prefix")"
-    cmp -s include/mvrlu.h "$prefix/include/mvrlu.h" && cmp -s include/mvrlu.hpp "$prefix/include/mvrlu.hpp" || fail 'other headers'
+    diff -r include "$prefix/include" >"$room/out" || fail "other headers: $(cat "$room/out")"
     [ "$(ar t "$prefix/lib/libmvrlu.a")" = "$(ar t "$room/libmvrlu.a")" ] || fail 'another archive'
     cmp -s "$prefix/lib/libmvrlu.a" "$room/libmvrlu.a" || fail 'other bytes in the archive'
     ! grep -rq '@[a-z]*@' "$prefix/lib/pkgconfig" "$prefix/lib/cmake" || fail 'a file of the package has a word that was to be filled in'

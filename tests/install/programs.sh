@@ -83,10 +83,10 @@ rows_of_programs() {
         expect "${says_of_example[c_$example]}" cc -std=c11 -Wall -Wextra -Werror -O2 "$top/examples/c/$example.c"
     done
     for compiler in g++ clang++; do
-        for tests in calls sets; do expect "$tests: " "$compiler" "${strict[@]}" "$top/tests/install/$tests.cpp"; done
+        for tests in calls sets table; do expect "$tests: " "$compiler" "${strict[@]}" "$top/tests/install/$tests.cpp"; done
         carries "$compiler" "${sanitized[@]}" || continue
         expect "$bank" "$compiler" "${strict[@]}" "${sanitized[@]}" "$top/examples/cpp/bank.cpp"
-        for tests in calls sets; do expect "$tests: " "$compiler" "${strict[@]}" "${sanitized[@]}" "$top/tests/install/$tests.cpp"; done
+        for tests in calls sets table; do expect "$tests: " "$compiler" "${strict[@]}" "${sanitized[@]}" "$top/tests/install/$tests.cpp"; done
     done
     mv "$prefix" "$room/moved"
     prefix=$room/moved

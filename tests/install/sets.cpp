@@ -1,36 +1,15 @@
 /* What mvrlu_sets.hpp adds to the calls of mvrlu.h. Prints how many answers were asked for, and ends with 1 at the first wrong one. */
 #include <mvrlu_sets.hpp>
 
+#include "want.hpp"
+
 #include <cstdio>
-#include <cstdlib>
 #include <thread>
 #include <type_traits>
 #include <utility>
 #include <vector>
 
 namespace {
-
-unsigned long asked = 0;
-
-void want(bool holds, const char *what, int line) {
-    asked++;
-    if (holds) return;
-    std::printf("sets.cpp:%d: not so: %s\n", line, what);
-    std::exit(1);
-}
-#define WANT(what) want((what), #what, __LINE__)
-#define WANT_THROWN(call, status) want(thrown([&] { (void)(call); }) == (status), #call " throws " #status, __LINE__)
-
-/* The code of what is thrown, and none where nothing is. */
-template <class Call>
-std::error_code thrown(Call &&call) {
-    try {
-        call();
-    } catch (const mvrlu::error &why) {
-        return why.code();
-    }
-    return {};
-}
 
 using mvrlu::reply;
 

@@ -1,9 +1,8 @@
 /* What closing the seats of a domain tells, in each order, from several threads, and at the last time. Prints how many domains were closed, and ends
  * with 1 at the first answer that is another than the header says. */
-#include <mvrlu.h>
+#include "wanted.h"
+
 #include <pthread.h>
-#include <stdio.h>
-#include <stdlib.h>
 #include <string.h>
 
 #ifndef ROUNDS
@@ -12,13 +11,6 @@
 enum { SEATS = 3, THREADS = 8, COMMITS = 20, OPENING = 70 };
 
 static unsigned long closed;
-
-static void want(int line, const char *call, long long got, long long wanted) {
-    if (got == wanted) return;
-    printf("closing.c:%d: %s is %lld, not %lld\n", line, call, got, wanted);
-    exit(1);
-}
-#define WANT(call, wanted) want(__LINE__, #call, (long long)(call), (long long)(wanted))
 
 static void open_objects(mvrlu_seat seats[], size_t count, uint64_t opening_time) {
     mvrlu_options options = MVRLU_OPTIONS_INIT;

@@ -1,10 +1,9 @@
 /* Random histories: 2 to 8 threads read and commit a few objects, and each section is checked afterwards against a
  * replay of the commits in the order of their times: its reads, its commit, and the cause of each refusal. Ends with 1
  * at a fault. Arguments: how many histories, and a number to draw from. */
-#include <mvrlu.h>
+#include "wanted.h"
+
 #include <pthread.h>
-#include <stdio.h>
-#include <stdlib.h>
 #include <string.h>
 
 #ifndef HISTORIES
@@ -36,11 +35,6 @@ typedef struct worker {
     section sections[SECTIONS];
     unsigned count;
 } worker;
-
-static void fail(const char *what, long long got) {
-    printf("histories: %s: %lld\n", what, got);
-    exit(1);
-}
 
 static void must(const char *what, int32_t status) {
     if (status != MVRLU_OK) fail(what, status);

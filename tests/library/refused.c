@@ -39,15 +39,17 @@ static void fail(const char *what, long long got) {
     exit(1);
 }
 
+/* Looks at what closing a seat came to, behind an opening of this status: it was opened where the opening wasn't refused. */
+static void want_closed(int32_t opened, int32_t closed) {
+    if (closed != (opened == MVRLU_OK ? MVRLU_OK : MVRLU_CLOSED)) fail("a seat of an open that was refused", closed);
+}
+
 static int32_t open_objects(void) {
     mvrlu_seat seats[SEATS];
     mvrlu_options options = MVRLU_OPTIONS_INIT;
     memset(seats, 0, sizeof seats);
     int32_t status = mvrlu_open(&options, seats, SEATS);
-    for (int i = 0; i < SEATS; i++) {
-        int32_t closed = mvrlu_close(&seats[i]);
-        if (closed != (status == MVRLU_OK ? MVRLU_OK : MVRLU_CLOSED)) fail("a seat of an open that was refused", closed);
-    }
+    for (int i = 0; i < SEATS; i++) want_closed(status, mvrlu_close(&seats[i]));
     return status;
 }
 
@@ -56,10 +58,7 @@ static int32_t open_sets(void) {
     mvrlu_sets_options options = MVRLU_SETS_OPTIONS_INIT;
     memset(sets, 0, sizeof sets);
     int32_t status = mvrlu_sets_open(&options, sets, SEATS);
-    for (int i = 0; i < SEATS; i++) {
-        int32_t closed = mvrlu_sets_close(&sets[i]);
-        if (closed != (status == MVRLU_OK ? MVRLU_OK : MVRLU_CLOSED)) fail("a seat of an open that was refused", closed);
-    }
+    for (int i = 0; i < SEATS; i++) want_closed(status, mvrlu_sets_close(&sets[i]));
     return status;
 }
 
@@ -69,10 +68,7 @@ static int32_t open_table(void) {
     options.objects = MVRLU_TABLE_OBJECTS_MIN;
     memset(table, 0, sizeof table);
     int32_t status = mvrlu_table_open(&options, table, SEATS);
-    for (int i = 0; i < SEATS; i++) {
-        int32_t closed = mvrlu_table_close(&table[i]);
-        if (closed != (status == MVRLU_OK ? MVRLU_OK : MVRLU_CLOSED)) fail("a seat of an open that was refused", closed);
-    }
+    for (int i = 0; i < SEATS; i++) want_closed(status, mvrlu_table_close(&table[i]));
     return status;
 }
 

@@ -1,37 +1,8 @@
 /* Each call on the sets of mvrlu.h with each status that it answers. Prints how many answers were asked for, and ends with 1 at the
  * first that is another than the header says. */
-#include <mvrlu.h>
-#include <stdio.h>
-#include <stdlib.h>
+#include "wanted.h"
+
 #include <string.h>
-
-static unsigned long asked;
-
-static void want(int line, const char *call, long long got, long long wanted) {
-    asked++;
-    if (got == wanted) return;
-    printf("sets_calls.c:%d: %s is %lld, not %lld\n", line, call, got, wanted);
-    exit(1);
-}
-#define WANT(call, wanted) want(__LINE__, #call, (long long)(call), (long long)(wanted))
-
-/* A reply that no call tells. */
-static const mvrlu_reply UNTOLD = {7, 7, 7, 7, 7};
-
-/* Whether a reply is as it was. */
-static int is_untold(const mvrlu_reply *r) {
-    return r->value == 7 && r->time == 7 && r->committed == 7 && r->second == 7 && r->status == 7;
-}
-
-#define WANT_REPLY(call, status_, value_, time_, committed_) \
-    do { \
-        reply = UNTOLD; \
-        WANT(call, status_); \
-        WANT(reply.status, status_); \
-        WANT(reply.value, value_); \
-        WANT(reply.time, time_); \
-        WANT(reply.committed, committed_); \
-    } while (0)
 
 static void open_sets(mvrlu_sets sets[], size_t count, uint32_t objects, uint32_t slots) {
     mvrlu_sets_options options = MVRLU_SETS_OPTIONS_INIT;
@@ -56,12 +27,7 @@ static void options_out_of_range(void) {
         WANT(mvrlu_sets_open(&other, sets, 1), MVRLU_BAD_NUMBER);
         WANT(sets[0].raw.is_open, 0);
     }
-    WANT(mvrlu_sets_open(&options, sets, 0), MVRLU_BAD_NUMBER);
-    WANT(mvrlu_sets_open(&options, sets, MVRLU_SEATS_MAX + 1), MVRLU_BAD_NUMBER);
-    options.size = 16;
-    WANT(mvrlu_sets_open(&options, sets, 1), MVRLU_BAD_NUMBER);
-    WANT(mvrlu_sets_open(NULL, sets, 1), MVRLU_NULL);
-    WANT(mvrlu_sets_open(&options, NULL, 1), MVRLU_NULL);
+    WANT_NO_OPENING(mvrlu_sets_open, options, sets);
 }
 
 static void all_seats_of_a_domain(void) {

@@ -1,10 +1,9 @@
 /* Random histories of the sets: 2 to 8 threads do single commands, blocks and walks, and each reply is checked afterwards against a replay
  * of all of them in the order of their times, on thirty small maps. Ends with 1 at a fault. Arguments: how many histories, and a number
  * to draw from. */
-#include <mvrlu.h>
+#include "wanted.h"
+
 #include <pthread.h>
-#include <stdio.h>
-#include <stdlib.h>
 #include <string.h>
 
 #ifndef HISTORIES
@@ -32,11 +31,6 @@ typedef struct worker {
 } worker;
 
 typedef struct maps { int has[MVRLU_SETS_COUNT][KEYS]; uint64_t value[MVRLU_SETS_COUNT][KEYS]; } maps;
-
-static void fail(const char *what, long long got) {
-    printf("histories of sets: %s: %lld\n", what, got);
-    exit(1);
-}
 
 static uint32_t draw(worker *me, uint32_t below) {
     me->random = me->random * 6364136223846793005u + 1442695040888963407u;

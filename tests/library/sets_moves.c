@@ -1,9 +1,8 @@
 /* Four threads move keys between a list and a tree while two others ask for them in both: each key is in one of them
  * at each time. Ends with 1 at a pair that says otherwise. */
-#include <mvrlu.h>
+#include "wanted.h"
+
 #include <pthread.h>
-#include <stdio.h>
-#include <stdlib.h>
 
 #ifndef ROUNDS
 #define ROUNDS 50000
@@ -12,11 +11,6 @@
 enum { KEYS = 64, MOVERS = 4, ASKERS = 2, THREADS = MOVERS + ASKERS };
 
 typedef struct worker { mvrlu_sets *sets; uint32_t number; unsigned long done; } worker;
-
-static void fail(const char *what, long long got) {
-    printf("moves: %s: %lld\n", what, got);
-    exit(1);
-}
 
 /* Moves one key after another, from where it is. Each mover has keys of its own, so it knows where. */
 static void *move(void *given) {

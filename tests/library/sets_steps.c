@@ -2,43 +2,12 @@
  * instructions after another, until the call ends before. Each way in which the two can meet comes, on one thread:
  * MVRLU_STALE, MVRLU_BUSY, MVRLU_AGAIN and MVRLU_SHORT of the sets, and MVRLU_AGAIN of mvrlu_commit, with what they
  * tell and what they leave. MVRLU_WORN is in closing.c. Ends with 1 at an answer that is another than the header's. */
-#define _GNU_SOURCE
-#include <mvrlu.h>
-#include <signal.h>
-#include <stdio.h>
-#include <stdlib.h>
-#include <string.h>
-#include <ucontext.h>
+#include "steps.h"
 
-enum { TRAP_FLAG = 0x100, SET = 0, OTHER = 1, KEY = 5, SLOTS = 64, WRITE_MAX = 40, STRIDE = 8 };
+enum { SET = 0, OTHER = 1, KEY = 5, SLOTS = 64, WRITE_MAX = 40, STRIDE = 8 };
 
 static mvrlu_sets sets[2];
 static mvrlu_seat seats[2];
-static volatile unsigned long steps, stop_at;
-static void (*volatile between)(void);
-
-static void fail(const char *what, long long got) {
-    printf("steps: %s: %lld (after %lu instructions)\n", what, got, stop_at);
-    exit(1);
-}
-
-/* Counts an instruction. At the wanted one it stops counting, and the other seat makes its calls. */
-static void step(int signal, siginfo_t *info, void *context) {
-    (void)signal, (void)info;
-    if (++steps != stop_at) return;
-    ((ucontext_t *)context)->uc_mcontext.gregs[REG_EFL] &= ~(greg_t)TRAP_FLAG;
-    between();
-}
-
-/* From here on each instruction of this thread is counted, until it was stopped or this ends. */
-static void count_from(unsigned long at, void (*meanwhile)(void)) {
-    steps = 0;
-    stop_at = at;
-    between = meanwhile;
-    __asm__ volatile("pushfq\n\torq $0x100, (%%rsp)\n\tpopfq" ::: "memory", "cc");
-}
-
-static void count_no_more(void) { __asm__ volatile("pushfq\n\tandq $-0x101, (%%rsp)\n\tpopfq" ::: "memory", "cc"); }
 
 static uint64_t value_in(uint32_t set) {
     mvrlu_reply reply;
@@ -54,12 +23,6 @@ static mvrlu_reply other_reply;
 static int32_t other_status;
 
 static void put_in_between(void) { other_status = mvrlu_sets_put(&sets[1], other_set, KEY, other_value, &other_reply); }
-
-/* Of a call that was given up. */
-static void want_nothing_done(const mvrlu_reply *reply, int32_t status, uint64_t value) {
-    if (reply->status != status || reply->value != value) fail("what came first", (long long)reply->value);
-    if (reply->time != 0 || reply->committed != 0 || reply->second != 0) fail("a place of what was not done", (long long)reply->time);
-}
 
 typedef struct ways { unsigned long both, stale, busy, again; } ways;
 
@@ -213,11 +176,7 @@ static orders meet_commits(void) {
 int main(void) {
     mvrlu_sets_options options = MVRLU_SETS_OPTIONS_INIT;
     mvrlu_options objects = MVRLU_OPTIONS_INIT;
-    struct sigaction action;
-    memset(&action, 0, sizeof action);
-    action.sa_sigaction = step;
-    action.sa_flags = SA_SIGINFO;
-    if (sigaction(SIGTRAP, &action, NULL) != 0) fail("no signal", 0);
+    stop_by_steps();
     options.slots = SLOTS;
     objects.objects = 2;
     objects.slots = SLOTS;

@@ -1,10 +1,9 @@
 /* Two threads change one set by blocks that keep two facts of each of its states: of the keys 2k and 2k + 1 exactly one is there, and
  * the values add up to the same. Two others walk over it meanwhile: each walk is of one state, so it finds both facts. Ends with 1 at a
  * walk that says otherwise. */
-#include <mvrlu.h>
+#include "wanted.h"
+
 #include <pthread.h>
-#include <stdio.h>
-#include <stdlib.h>
 
 #ifndef ROUNDS
 #define ROUNDS 5000
@@ -13,11 +12,6 @@
 enum { PAIRS = 32, THREADS = 4, EACH = 1000 };
 
 typedef struct worker { mvrlu_sets *sets; uint32_t number, set; unsigned long done; } worker;
-
-static void fail(const char *what, long long got) {
-    printf("walks: %s: %lld\n", what, got);
-    exit(1);
-}
 
 /* Makes a block, again as long as others come first. */
 static void amend(worker *me, const mvrlu_command commands[], size_t count) {

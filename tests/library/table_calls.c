@@ -1,31 +1,13 @@
 /* Each call on a table of mvrlu.h with each status that it answers on one thread. Prints how many answers were asked for, and ends with 1 at
  * the first that is another than the header says. */
-#include <mvrlu.h>
-#include <stdio.h>
-#include <stdlib.h>
+#include "wanted.h"
 #include <string.h>
 
-static unsigned long asked;
 
-static void want(int line, const char *call, long long got, long long wanted) {
-    asked++;
-    if (got == wanted) return;
-    printf("table_calls.c:%d: %s is %lld, not %lld\n", line, call, got, wanted);
-    exit(1);
-}
-#define WANT(call, wanted) want(__LINE__, #call, (long long)(call), (long long)(wanted))
-
-/* A reply that no call tells. */
-static const mvrlu_reply UNTOLD = {7, 7, 7, 7, 7};
-
-#define WANT_REPLY(call, status_, value_, time_, committed_) \
+/* A call on a table tells no second answer. */
+#define WANT_TABLE(call, status_, value_, time_, committed_) \
     do { \
-        reply = UNTOLD; \
-        WANT(call, status_); \
-        WANT(reply.status, status_); \
-        WANT(reply.value, value_); \
-        WANT(reply.time, time_); \
-        WANT(reply.committed, committed_); \
+        WANT_REPLY(call, status_, value_, time_, committed_); \
         WANT(reply.second, 0); \
     } while (0)
 
@@ -61,12 +43,7 @@ static void options_out_of_range(void) {
         WANT(mvrlu_table_open(&other, table, 1), MVRLU_BAD_NUMBER);
         WANT(table[0].raw.is_open, 0);
     }
-    WANT(mvrlu_table_open(&options, table, 0), MVRLU_BAD_NUMBER);
-    WANT(mvrlu_table_open(&options, table, MVRLU_SEATS_MAX + 1), MVRLU_BAD_NUMBER);
-    options.size = 16;
-    WANT(mvrlu_table_open(&options, table, 1), MVRLU_BAD_NUMBER);
-    WANT(mvrlu_table_open(NULL, table, 1), MVRLU_NULL);
-    WANT(mvrlu_table_open(&options, NULL, 1), MVRLU_NULL);
+    WANT_NO_OPENING(mvrlu_table_open, options, table);
 }
 
 static void all_seats_of_a_domain(void) {
@@ -76,26 +53,6 @@ static void all_seats_of_a_domain(void) {
     WANT(mvrlu_table_open(&options, table, MVRLU_SEATS_MAX), MVRLU_IN_USE);
     close_table(table, MVRLU_SEATS_MAX);
     WANT(mvrlu_table_close(&table[0]), MVRLU_CLOSED);
-}
-
-static void calls_on_a_closed_seat(void) {
-    mvrlu_table table = {{0, NULL}, NULL, 0, {0}};
-    mvrlu_reply reply = UNTOLD;
-    mvrlu_counts counts = {7, 7, 7, 7, 7, 7};
-    uint32_t live = 7;
-    uint64_t last = 7;
-    WANT(mvrlu_table_add(&table, 1, &reply), MVRLU_CLOSED);
-    WANT(mvrlu_table_del(&table, 1, &reply), MVRLU_CLOSED);
-    WANT(mvrlu_table_has(&table, 1, &reply), MVRLU_CLOSED);
-    WANT(mvrlu_table_next(&table, 1, &reply), MVRLU_CLOSED);
-    WANT(mvrlu_table_size(&table, &reply), MVRLU_CLOSED);
-    WANT(mvrlu_table_split(&table, &reply), MVRLU_CLOSED);
-    WANT(mvrlu_table_tidy(&table, &live), MVRLU_CLOSED);
-    WANT(mvrlu_table_counts(&table, &counts), MVRLU_CLOSED);
-    WANT(mvrlu_table_close(&table), MVRLU_CLOSED);
-    WANT(mvrlu_table_close_last(&table, &last), MVRLU_CLOSED);
-    WANT(memcmp(&reply, &UNTOLD, sizeof reply), 0);
-    WANT(live == 7 && last == 7 && counts.commits == 7 && counts.live == 7, 1);
 }
 
 static void null_pointers(void) {
@@ -114,13 +71,36 @@ static void null_pointers(void) {
     close_table(table, 1);
 }
 
-static void a_copied_seat(void) {
-    mvrlu_table table[1], copy;
+/* That each call answers this, and tells nothing. */
+static void want_refused(mvrlu_table *table, int32_t status) {
+    mvrlu_reply reply = UNTOLD;
+    mvrlu_counts counts = {7, 7, 7, 7, 7, 7};
+    uint32_t live = 7;
+    uint64_t last = 7;
+    WANT(mvrlu_table_add(table, 1, &reply), status);
+    WANT(mvrlu_table_del(table, 1, &reply), status);
+    WANT(mvrlu_table_has(table, 1, &reply), status);
+    WANT(mvrlu_table_next(table, 1, &reply), status);
+    WANT(mvrlu_table_size(table, &reply), status);
+    WANT(mvrlu_table_split(table, &reply), status);
+    WANT(mvrlu_table_tidy(table, &live), status);
+    WANT(mvrlu_table_counts(table, &counts), status);
+    WANT(mvrlu_table_close(table), status);
+    WANT(mvrlu_table_close_last(table, &last), status);
+    WANT(is_untold(&reply), 1);
+    WANT(live == 7 && last == 7 && counts.commits == 7 && counts.live == 7, 1);
+}
+
+static void misuse_of_a_seat(void) {
+    mvrlu_table table[1], copy, closed = {{0, NULL}, NULL, 0, {0}};
+    want_refused(&closed, MVRLU_CLOSED);
     open_table(table, 1, MVRLU_TABLE_OBJECTS_MIN, 65, 0);
     copy = table[0];
-    WANT(mvrlu_table_has(&copy, 1, NULL), MVRLU_MOVED);
-    WANT(mvrlu_table_split(&copy, NULL), MVRLU_MOVED);
-    WANT(mvrlu_table_close(&copy), MVRLU_MOVED);
+    want_refused(&copy, MVRLU_MOVED);
+    table[0].in_call = 1;
+    want_refused(&table[0], MVRLU_IN_USE);
+    table[0].in_call = 0;
+    WANT(mvrlu_table_has(table, 1, NULL), MVRLU_NO);
     close_table(table, 1);
 }
 
@@ -132,25 +112,25 @@ static void calls_on_a_table(void) {
     uint32_t live = 7;
     uint64_t last = 7;
     open_table(table, 2, 2097152, 256, 100);
-    WANT_REPLY(mvrlu_table_has(table, 5, &reply), MVRLU_NO, 0, 100, 0);
-    WANT_REPLY(mvrlu_table_del(table, 5, &reply), MVRLU_NO, 0, 100, 0);
-    WANT_REPLY(mvrlu_table_next(table, 0, &reply), MVRLU_NO, 0, 100, 0);
-    WANT_REPLY(mvrlu_table_size(table, &reply), MVRLU_OK, 0, 100, 0);
-    WANT_REPLY(mvrlu_table_add(table, 5, &reply), MVRLU_OK, 0, 101, 1);
-    WANT_REPLY(mvrlu_table_add(table, 5, &reply), MVRLU_NO, 0, 101, 0);
-    WANT_REPLY(mvrlu_table_add(table + 1, UINT32_MAX, &reply), MVRLU_OK, 0, 102, 1);
-    WANT_REPLY(mvrlu_table_add(table, 0, &reply), MVRLU_OK, 0, 103, 1);
-    WANT_REPLY(mvrlu_table_has(table + 1, 5, &reply), MVRLU_OK, 0, 103, 0);
-    WANT_REPLY(mvrlu_table_next(table, 0, &reply), MVRLU_OK, 0, 103, 0);
-    WANT_REPLY(mvrlu_table_next(table, 1, &reply), MVRLU_OK, 5, 103, 0);
-    WANT_REPLY(mvrlu_table_next(table, 6, &reply), MVRLU_OK, UINT32_MAX, 103, 0);
-    WANT_REPLY(mvrlu_table_size(table, &reply), MVRLU_OK, 3, 103, 0);
-    WANT_REPLY(mvrlu_table_split(table, &reply), MVRLU_OK, 0, 104, 1);
-    WANT_REPLY(mvrlu_table_split(table + 1, &reply), MVRLU_OK, 0, 105, 1);
-    WANT_REPLY(mvrlu_table_size(table, &reply), MVRLU_OK, 3, 105, 0);
-    WANT_REPLY(mvrlu_table_has(table, UINT32_MAX, &reply), MVRLU_OK, 0, 105, 0);
-    WANT_REPLY(mvrlu_table_del(table, UINT32_MAX, &reply), MVRLU_OK, 0, 106, 1);
-    WANT_REPLY(mvrlu_table_has(table + 1, UINT32_MAX, &reply), MVRLU_NO, 0, 106, 0);
+    WANT_TABLE(mvrlu_table_has(table, 5, &reply), MVRLU_NO, 0, 100, 0);
+    WANT_TABLE(mvrlu_table_del(table, 5, &reply), MVRLU_NO, 0, 100, 0);
+    WANT_TABLE(mvrlu_table_next(table, 0, &reply), MVRLU_NO, 0, 100, 0);
+    WANT_TABLE(mvrlu_table_size(table, &reply), MVRLU_OK, 0, 100, 0);
+    WANT_TABLE(mvrlu_table_add(table, 5, &reply), MVRLU_OK, 0, 101, 1);
+    WANT_TABLE(mvrlu_table_add(table, 5, &reply), MVRLU_NO, 0, 101, 0);
+    WANT_TABLE(mvrlu_table_add(table + 1, UINT32_MAX, &reply), MVRLU_OK, 0, 102, 1);
+    WANT_TABLE(mvrlu_table_add(table, 0, &reply), MVRLU_OK, 0, 103, 1);
+    WANT_TABLE(mvrlu_table_has(table + 1, 5, &reply), MVRLU_OK, 0, 103, 0);
+    WANT_TABLE(mvrlu_table_next(table, 0, &reply), MVRLU_OK, 0, 103, 0);
+    WANT_TABLE(mvrlu_table_next(table, 1, &reply), MVRLU_OK, 5, 103, 0);
+    WANT_TABLE(mvrlu_table_next(table, 6, &reply), MVRLU_OK, UINT32_MAX, 103, 0);
+    WANT_TABLE(mvrlu_table_size(table, &reply), MVRLU_OK, 3, 103, 0);
+    WANT_TABLE(mvrlu_table_split(table, &reply), MVRLU_OK, 0, 104, 1);
+    WANT_TABLE(mvrlu_table_split(table + 1, &reply), MVRLU_OK, 0, 105, 1);
+    WANT_TABLE(mvrlu_table_size(table, &reply), MVRLU_OK, 3, 105, 0);
+    WANT_TABLE(mvrlu_table_has(table, UINT32_MAX, &reply), MVRLU_OK, 0, 105, 0);
+    WANT_TABLE(mvrlu_table_del(table, UINT32_MAX, &reply), MVRLU_OK, 0, 106, 1);
+    WANT_TABLE(mvrlu_table_has(table + 1, UINT32_MAX, &reply), MVRLU_NO, 0, 106, 0);
     WANT(mvrlu_table_counts(table, &counts), MVRLU_OK);
     WANT(counts.commits, 4);
     WANT(mvrlu_table_tidy(table, &live), MVRLU_OK);
@@ -174,11 +154,11 @@ static void a_full_table(void) {
     mvrlu_table table[1];
     mvrlu_reply reply;
     open_table(table, 1, MVRLU_TABLE_OBJECTS_MIN, 1024, 0);
-    WANT_REPLY(mvrlu_table_add(table, 1, &reply), MVRLU_OK, 0, 1, 1);
-    WANT_REPLY(mvrlu_table_add(table, 2, &reply), MVRLU_FULL, 0, 1, 0);
-    WANT_REPLY(mvrlu_table_del(table, 1, &reply), MVRLU_OK, 0, 2, 1);
-    WANT_REPLY(mvrlu_table_add(table, 2, &reply), MVRLU_OK, 0, 3, 1);
-    WANT_REPLY(mvrlu_table_has(table, 2, &reply), MVRLU_OK, 0, 3, 0);
+    WANT_TABLE(mvrlu_table_add(table, 1, &reply), MVRLU_OK, 0, 1, 1);
+    WANT_TABLE(mvrlu_table_add(table, 2, &reply), MVRLU_FULL, 0, 1, 0);
+    WANT_TABLE(mvrlu_table_del(table, 1, &reply), MVRLU_OK, 0, 2, 1);
+    WANT_TABLE(mvrlu_table_add(table, 2, &reply), MVRLU_OK, 0, 3, 1);
+    WANT_TABLE(mvrlu_table_has(table, 2, &reply), MVRLU_OK, 0, 3, 0);
     close_table(table, 1);
 }
 
@@ -187,11 +167,11 @@ static void a_worn_domain(void) {
     mvrlu_table table[1];
     mvrlu_reply reply;
     open_table(table, 1, MVRLU_TABLE_OBJECTS_MIN, 1024, MVRLU_TIME_MAX - 1);
-    WANT_REPLY(mvrlu_table_add(table, 1, &reply), MVRLU_OK, 0, MVRLU_TIME_MAX, 1);
-    WANT_REPLY(mvrlu_table_del(table, 1, &reply), MVRLU_WORN, 0, MVRLU_TIME_MAX, 0);
-    WANT_REPLY(mvrlu_table_add(table, 1, &reply), MVRLU_NO, 0, MVRLU_TIME_MAX, 0);
-    WANT_REPLY(mvrlu_table_has(table, 1, &reply), MVRLU_OK, 0, MVRLU_TIME_MAX, 0);
-    WANT_REPLY(mvrlu_table_split(table, &reply), MVRLU_WORN, 0, 0, 0);
+    WANT_TABLE(mvrlu_table_add(table, 1, &reply), MVRLU_OK, 0, MVRLU_TIME_MAX, 1);
+    WANT_TABLE(mvrlu_table_del(table, 1, &reply), MVRLU_WORN, 0, MVRLU_TIME_MAX, 0);
+    WANT_TABLE(mvrlu_table_add(table, 1, &reply), MVRLU_NO, 0, MVRLU_TIME_MAX, 0);
+    WANT_TABLE(mvrlu_table_has(table, 1, &reply), MVRLU_OK, 0, MVRLU_TIME_MAX, 0);
+    WANT_TABLE(mvrlu_table_split(table, &reply), MVRLU_WORN, 0, 0, 0);
     close_table(table, 1);
 }
 
@@ -233,14 +213,14 @@ static void a_whole_table(void) {
     uint64_t splits = 0;
     open_table(table, 1, MVRLU_TABLE_OBJECTS_MIN, 1024, 0);
     WANT(mvrlu_table_add(table, 9, NULL), MVRLU_OK);
-    for (;;) {
+    while (splits < MVRLU_TABLE_BUCKETS_MAX) {
         int32_t status = mvrlu_table_split(table, &reply);
         if (status == MVRLU_NO) break;
         if (!mvrlu_may_retry(status)) WANT(status, MVRLU_OK);
         splits += status == MVRLU_OK;
     }
     WANT(splits, MVRLU_TABLE_BUCKETS_MAX - 16);
-    WANT_REPLY(mvrlu_table_split(table, &reply), MVRLU_NO, 0, 0, 0);
+    WANT_TABLE(mvrlu_table_split(table, &reply), MVRLU_NO, 0, 0, 0);
     WANT(mvrlu_table_has(table, 9, NULL), MVRLU_OK);
     WANT(mvrlu_table_size(table, &reply), MVRLU_OK);
     WANT(reply.value, 1);
@@ -250,9 +230,8 @@ static void a_whole_table(void) {
 int main(void) {
     options_out_of_range();
     all_seats_of_a_domain();
-    calls_on_a_closed_seat();
     null_pointers();
-    a_copied_seat();
+    misuse_of_a_seat();
     calls_on_a_table();
     a_full_table();
     a_worn_domain();

@@ -1,9 +1,8 @@
 /* Four threads add, take out and look for keys of their own in one table, and split its buckets, while two others look for keys that are never
  * taken out. Ends with 1 at an answer that is wrong, and looks at each key and each count afterwards. */
-#include <mvrlu.h>
+#include "wanted.h"
+
 #include <pthread.h>
-#include <stdio.h>
-#include <stdlib.h>
 
 #ifndef KEYS
 #define KEYS 40000u /* of each thread */
@@ -14,11 +13,6 @@ enum { CHANGERS = 4, ASKERS = 2, THREADS = CHANGERS + ASKERS, STAYING = 1000 };
 typedef struct worker { mvrlu_table *table; uint32_t number; uint64_t changes, splits, asks; } worker;
 
 static int is_done; /* set once the changers have ended */
-
-static void fail(const char *what, long long got) {
-    printf("grows: %s: %lld\n", what, got);
-    exit(1);
-}
 
 /* The keys of a changer, which no other has; those that stay are below STAYING. */
 static uint32_t key_of(uint32_t number, uint32_t i) { return STAYING + i * CHANGERS + number; }

@@ -17,7 +17,7 @@ from signals import end_at_signals, run_to_end
 from stamps import is_current, product
 
 PROGRAM, LIBRARY = "mvrlu_main", "mvrlu_c"
-HEADERS = ("mvrlu.h", "mvrlu.hpp", "mvrlu_sets.hpp")
+HEADERS = ("mvrlu.h", "mvrlu.hpp", "mvrlu_replies.hpp", "mvrlu_sets.hpp", "mvrlu_table.hpp")
 # Where each file of tools/front/installed goes; in it @version@ and @major@ stand for those of the header.
 INSTALLED = {
     "mvrlu.pc": "lib/pkgconfig",

@@ -1,10 +1,12 @@
 //! Blocks: several commands on sets as one commit, or one read.
 
 use crate::errors::Failed;
-use crate::raw::sets::{RawCommand, RawReply};
+use crate::raw::replies::RawReply;
+use crate::raw::sets::RawCommand;
 use crate::raw::Status;
+use crate::replies::done;
 use crate::retry::Done;
-use crate::sets::{done, Set, Sets};
+use crate::sets::{Set, Sets};
 
 /// The most commands that a block may have.
 pub const BLOCK_MAX: usize = 8;

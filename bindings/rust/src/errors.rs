@@ -2,6 +2,8 @@
 
 use crate::options::{OBJECTS_MAX, SEATS_MAX, SLOTS_MAX, SLOTS_MIN, WRITE_MAX};
 use crate::section::Section;
+use crate::sets::SETS_OBJECTS_MIN;
+use crate::table::{TABLE_OBJECTS_MIN, TABLE_SLOTS_MIN};
 use std::error::Error;
 use std::fmt::{Display, Formatter, Result};
 
@@ -165,7 +167,7 @@ pub enum Unfinished {
     Worn,
 }
 
-/// Why a call on sets was not done. It changed nothing.
+/// Why a call on sets or on a table was not done. It changed nothing.
 ///
 /// ```
 /// # let mut seats = mvrlu::open_sets(mvrlu::SetsOptions { objects: 181, slots: 64, opening_time: 0 }, 1).unwrap();
@@ -199,7 +201,7 @@ pub enum Failed {
     },
     /// The last time, 2^45 - 1, was reached: the domain only reads from then on.
     Worn,
-    /// There is too little memory for a block, which takes some until it is done.
+    /// There is too little memory for a block or a walk of the sets, which takes some until it is done.
     NoMemory,
     /// A set isn't one of the thirty.
     NoSet,
@@ -220,7 +222,8 @@ impl Display for OpenError {
             OpenError::BadNumber => write!(
                 to,
                 "a number is out of its range: seats 1 to {SEATS_MAX}, objects 1 to {OBJECTS_MAX}, \
-                 slots {SLOTS_MIN} to {SLOTS_MAX}, write_max 1 to {WRITE_MAX} and less than the slots"
+                 slots {SLOTS_MIN} to {SLOTS_MAX}, write_max 1 to {WRITE_MAX} and less than the slots; \
+                 of sets objects from {SETS_OBJECTS_MIN}; of a table objects from {TABLE_OBJECTS_MIN} and slots from {TABLE_SLOTS_MIN}"
             ),
             OpenError::NoMemory => write!(to, "too little memory"),
         }

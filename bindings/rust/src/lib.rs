@@ -1,5 +1,5 @@
-//! Objects of six 64-bit words, and sets of keys, that threads share, read and written in multi-version sections: safe Rust over
-//! the static library `libmvrlu`, of which is proved, over every interleaving, what each call promises.
+//! Objects of six 64-bit words, sets of keys, and a table of keys that grows, which threads share, read and written in multi-version
+//! sections: safe Rust over the static library `libmvrlu`, of which is proved, over every interleaving, what each call promises.
 //!
 //! **The model of objects.** [`open`] makes a domain of objects, whose words are all 0 at first, and a [`Seat`] for each thread. A
 //! thread enters a [`Section`] with its seat, and all its reads see the one state of that moment, whatever others commit
@@ -33,6 +33,10 @@
 //! trees, and a [`Sets`] for each thread. Each call is one section: a commit where it changes something, else a read of one
 //! state. So is a [block](Sets::block) of up to 8 commands.
 //!
+//! **The model of a table.** [`open_table`] makes a domain of one hash table of keys without values, and a [`GrowingTable`] for each
+//! thread. Each call is one section here too. It grows by [splits](GrowingTable::split), each of one bucket by one commit, from 16
+//! buckets to 1,048,576.
+//!
 //! **Times.** A time counts entries of the history: commits, and rests, which change no object and which a seat makes where only
 //! a later time lets it reclaim. The state of the opening time is that of all words 0, and the last time is 2^45 - 1.
 //!
@@ -41,8 +45,8 @@
 //!
 //! **Misuse.** The types exclude most of it: a seat is used by one thread at a time, a section ends before its seat does
 //! anything else, and nothing is closed twice. What remains, as a number of an object that the domain doesn't have, is an
-//! error that left all as it was. No call waits. None tries again but [`Seat::retry`] and [`Sets::retry`], and a lock once,
-//! where its object's chain was cut meanwhile.
+//! error that left all as it was. No call waits. None tries again but [`Seat::retry`], [`Sets::retry`] and [`GrowingTable::retry`], and
+//! a lock once, where its object's chain was cut meanwhile.
 //!
 //! **Place.** The archive's calls carry the contracts, which are proved; that this package hands on what they answer, and that
 //! a seat which is dropped gives up what it holds, is tested. `build.rs` looks for `libmvrlu.a` in the folder that
@@ -53,10 +57,12 @@ mod block;
 mod errors;
 mod options;
 mod raw;
+mod replies;
 mod retry;
 mod seat;
 mod section;
 mod sets;
+mod table;
 
 pub use block::{Answer, Command, BLOCK_MAX};
 pub use errors::{Failed, Holding, Misuse, OpenError, Refused, Short, Uncommitted, Unfinished};
@@ -65,6 +71,8 @@ pub use retry::{At, Done};
 pub use seat::{open, Counts, Seat};
 pub use section::Section;
 pub use sets::{open_sets, Entry, Set, Sets, SetsOptions, Walk, SETS_OBJECTS_MAX, SETS_OBJECTS_MIN};
+pub use table::{open_table, GrowingTable, Split, TableOptions};
+pub use table::{TABLE_BUCKETS_MAX, TABLE_OBJECTS_MAX, TABLE_OBJECTS_MIN, TABLE_SLOTS_MIN};
 
 /// How many words an object has.
 pub const WORDS: usize = 6;

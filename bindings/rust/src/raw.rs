@@ -1,24 +1,25 @@
 //! The calls of the library. What it asks of its caller is kept by the types here, and all unsafe code of the package is here: the
-//! calls on seats of objects, and in `sets` those on seats of sets.
+//! calls on seats of objects, in `sets` and `table` those on seats of sets and of a table, and in `handle` those that all have.
 
+pub(crate) mod handle;
+pub(crate) mod replies;
 pub(crate) mod sets;
+pub(crate) mod table;
 
 use crate::{Counts, Options, Tag, Words};
-use std::ffi::c_void;
+use handle::{Call, Handle, Open, Part};
 use std::mem::size_of;
-use std::ptr::null_mut;
 
-/// What the library owns of a seat: closed, or the block of an open one. It may be moved between calls, and isn't copied.
-#[repr(C)]
+/// The part of objects.
 #[derive(Debug)]
-pub(crate) struct RawSeat {
-    is_open: u8,
-    at: *mut c_void,
-}
+pub(crate) enum OfObjects {}
+
+/// A seat of objects.
+pub(crate) type RawSeat = Handle<OfObjects>;
 
 /// The options as the library reads them.
 #[repr(C)]
-struct RawOptions {
+pub(crate) struct RawOptions {
     size: u32,
     objects: u32,
     slots: u32,
@@ -26,7 +27,7 @@ struct RawOptions {
     opening_time: u64,
 }
 
-const _: () = assert!(size_of::<RawSeat>() == 16 && size_of::<RawOptions>() == 24 && size_of::<Counts>() == 48);
+const _: () = assert!(size_of::<RawOptions>() == 24);
 
 extern "C" {
     fn mvrlu_raw_open(options: &RawOptions, seats: *mut RawSeat, count: usize) -> i32;
@@ -107,63 +108,34 @@ impl Status {
         }
     }
 
-    /// Of a close of an open seat: the last time of its domain, where it was the last seat.
-    fn tells_last(self, last: u64) -> Option<u64> {
-        match self {
-            Status::Done => Some(last),
-            Status::No => None,
-            other => other.is_unexpected(),
-        }
-    }
-
     /// Of a call that never gives this answer.
     pub(crate) fn is_unexpected(self) -> ! {
         unreachable!("libmvrlu answered {self:?}")
     }
 }
 
-// SAFETY: `Send` is proved of the library's own type of a seat. What hands a seat to another thread orders the two, and the
-// calls of a seat take it by `&mut`, so one thread uses it at a time.
-unsafe impl Send for RawSeat {}
+// SAFETY: these are the calls of the library on seats of objects, and it asks no more of its caller.
+unsafe impl Part for OfObjects {
+    type Options = RawOptions;
+    const OPEN: Open<Self> = mvrlu_raw_open;
+    const CLOSE: Call<Self, u64> = mvrlu_raw_close;
+    const TIDY: Call<Self, u32> = mvrlu_raw_tidy;
+    const COUNT: Call<Self, Counts> = mvrlu_raw_count;
+}
 
-/// Each call is safe: a seat is closed, or it is as the library left it, since its fields are seen by the library alone and no
-/// copy of it is ever made. It and what is read or written are references, which are valid and, where written, unshared for
-/// the length of the call, and the library keeps none of them.
-impl RawSeat {
-    /// A closed seat.
-    pub(crate) const CLOSED: RawSeat = RawSeat { is_open: 0, at: null_mut() };
-
-    /// Opens a domain with these seats, all of them or none.
-    pub(crate) fn open_all(options: Options, seats: &mut [RawSeat]) -> Status {
+impl RawOptions {
+    pub(crate) fn of(options: Options) -> RawOptions {
         let Options { objects, slots, write_max, opening_time } = options;
-        let options = RawOptions { size: size_of::<RawOptions>() as u32, objects, slots, write_max, opening_time };
-        // SAFETY: as said above; the pointer and the count are those of one slice that is borrowed mutably.
-        Status::of(unsafe { mvrlu_raw_open(&options, seats.as_mut_ptr(), seats.len()) })
+        RawOptions { size: size_of::<RawOptions>() as u32, objects, slots, write_max, opening_time }
     }
+}
 
-    /// Closes it. The last time of its domain, where it was open and the last one.
-    pub(crate) fn close(&mut self) -> Option<u64> {
-        let mut last = 0;
-        if self.is_open == 0 {
-            return None;
-        }
-        // SAFETY: as said above.
-        Status::of(unsafe { mvrlu_raw_close(self, &mut last) }).tells_last(last)
-    }
-
+/// Each call is safe: a seat is closed, or it is as the library left it. It and what is read or written are references, which are
+/// valid and, where written, unshared for the length of the call, and the library keeps none of them.
+impl RawSeat {
     pub(crate) fn prepare(&mut self) -> Status {
         // SAFETY: as said above.
         Status::of(unsafe { mvrlu_raw_prepare(self) })
-    }
-
-    pub(crate) fn tidy(&mut self, live: &mut u32) -> Status {
-        // SAFETY: as said above.
-        Status::of(unsafe { mvrlu_raw_tidy(self, live) })
-    }
-
-    pub(crate) fn count(&mut self, counts: &mut Counts) -> Status {
-        // SAFETY: as said above.
-        Status::of(unsafe { mvrlu_raw_count(self, counts) })
     }
 
     pub(crate) fn grace(&mut self, time: &mut u64) -> Status {

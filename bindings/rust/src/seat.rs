@@ -1,8 +1,8 @@
 //! Seats: opening, closing, and what is done outside a section.
 
 use crate::errors::{OpenError, Short};
-use crate::options::{Options, SEATS_MAX};
-use crate::raw::{RawSeat, Status};
+use crate::options::Options;
+use crate::raw::{RawOptions, RawSeat, Status};
 use crate::section::Section;
 
 /// A seat of a domain: what a thread enters sections with, in lines of memory of its own.
@@ -58,21 +58,14 @@ pub struct Counts {
     pub live: u64,
 }
 
-/// Opens a domain of objects whose words are all 0, with so many seats, 1 to [`SEATS_MAX`]. The seat at each place of the vector
+/// Opens a domain of objects whose words are all 0, with so many seats, 1 to [`SEATS_MAX`](crate::SEATS_MAX). The seat at each place of the vector
 /// has the place as its number.
 ///
 /// # Errors
 ///
 /// [`OpenError::BadNumber`] where a number is out of its range, and [`OpenError::NoMemory`]. Nothing is left behind.
 pub fn open(options: Options, seats: usize) -> Result<Vec<Seat>, OpenError> {
-    let mut raw = [RawSeat::CLOSED; SEATS_MAX];
-    let wanted = raw.get_mut(..seats).ok_or(OpenError::BadNumber)?;
-    match RawSeat::open_all(options, wanted) {
-        Status::Done => Ok(raw.into_iter().take(seats).map(|raw| Seat { raw }).collect()),
-        Status::BadNumber => Err(OpenError::BadNumber),
-        Status::NoMemory => Err(OpenError::NoMemory),
-        other => other.is_unexpected(),
-    }
+    RawSeat::open_all(RawOptions::of(options), seats, |raw| Seat { raw })
 }
 
 impl Seat {

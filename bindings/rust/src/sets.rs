@@ -1,12 +1,11 @@
 //! Sets: opening a domain of thirty of them, and commands on them, each of which is one commit or one read.
 
 use crate::errors::{Failed, OpenError};
-use crate::options::SEATS_MAX;
-use crate::raw::sets::{RawCommand, RawReply, RawSets, RawWalk};
+use crate::raw::replies::{RawOptions, RawReply};
+use crate::raw::sets::{RawCommand, RawSets, RawWalk};
 use crate::raw::Status;
+use crate::replies::{ask, calls_of_each_seat};
 use crate::retry::{At, Done};
-use crate::seat::Counts;
-use std::thread::yield_now;
 
 /// The fewest objects that a domain of sets may have.
 pub const SETS_OBJECTS_MIN: u32 = 181;
@@ -118,98 +117,66 @@ pub struct Sets {
     raw: RawSets,
 }
 
-/// Opens a domain of thirty empty sets, with so many seats, 1 to [`SEATS_MAX`].
+/// Opens a domain of thirty empty sets, with so many seats, 1 to [`SEATS_MAX`](crate::SEATS_MAX).
 ///
 /// # Errors
 ///
 /// [`OpenError::BadNumber`] where a number is out of its range, and [`OpenError::NoMemory`]. Nothing is left behind.
 pub fn open_sets(options: SetsOptions, seats: usize) -> Result<Vec<Sets>, OpenError> {
-    let mut raw = [RawSets::CLOSED; SEATS_MAX];
-    let wanted = raw.get_mut(..seats).ok_or(OpenError::BadNumber)?;
-    match RawSets::open_all(options, wanted) {
-        Status::Done => Ok(raw.into_iter().take(seats).map(|raw| Sets { raw }).collect()),
-        Status::BadNumber => Err(OpenError::BadNumber),
-        Status::NoMemory => Err(OpenError::NoMemory),
-        other => other.is_unexpected(),
-    }
+    let SetsOptions { objects, slots, opening_time } = options;
+    RawSets::open_all(RawOptions::of(objects, slots, opening_time), seats, |raw| Sets { raw })
 }
 
-/// What a command came to: whether it was `yes`, and what else the library told, with its place; or why it was not done.
-pub(crate) fn done(status: Status, told: RawReply) -> Result<Done<(bool, RawReply)>, Failed> {
-    let yes = match status {
-        Status::Done => true,
-        Status::No => false,
-        Status::Busy => return Err(Failed::Busy { seat: told.value as usize }),
-        Status::Stale => return Err(Failed::Stale { time: told.value }),
-        Status::Again => return Err(Failed::Again { time: told.value }),
-        Status::Short => return Err(Failed::Short),
-        Status::Full => return Err(Failed::Full { time: told.time }),
-        Status::Worn => return Err(Failed::Worn),
-        Status::NoMemory => return Err(Failed::NoMemory),
-        Status::NoSet => return Err(Failed::NoSet),
-        Status::SameSet => return Err(Failed::SameSet),
-        other => other.is_unexpected(),
-    };
-    let at = if told.committed() { At::Commit(told.time) } else { At::Read(told.time) };
-    Ok(Done { value: (yes, told), at })
-}
+calls_of_each_seat!(Sets);
 
 /// Each call fails by [`Failed::NoSet`] where a set isn't one of the thirty, and `add`, `put`, `del` and `move_key` by each that
 /// [`may_pass`](Failed::may_pass), by [`Failed::Full`] and by [`Failed::Worn`]. A call that fails changes nothing.
 impl Sets {
-    fn ask(
-        &mut self,
-        call: impl FnOnce(&mut RawSets, &mut RawReply) -> Status,
-    ) -> Result<Done<(bool, RawReply)>, Failed> {
-        let mut told = RawReply::default();
-        let status = call(&mut self.raw, &mut told);
-        done(status, told)
-    }
-
     /// Adds a key, with the value 0. Tells whether it wasn't there.
     pub fn add(&mut self, set: Set, key: u32) -> Result<Done<bool>, Failed> {
-        Ok(self.ask(|raw, told| raw.add(set, key, told))?.map(|(yes, _)| yes))
+        Ok(ask(&mut self.raw, |raw, told| raw.add(set, key, told))?.map(|(yes, _)| yes))
     }
 
     /// Gives a key a value, and adds it where it isn't there. Tells whether it hadn't this value.
     pub fn put(&mut self, set: Set, key: u32, value: u64) -> Result<Done<bool>, Failed> {
-        Ok(self.ask(|raw, told| raw.put(set, key, value, told))?.map(|(yes, _)| yes))
+        Ok(ask(&mut self.raw, |raw, told| raw.put(set, key, value, told))?.map(|(yes, _)| yes))
     }
 
     /// Takes a key out. Tells whether it was there.
     pub fn del(&mut self, set: Set, key: u32) -> Result<Done<bool>, Failed> {
-        Ok(self.ask(|raw, told| raw.del(set, key, told))?.map(|(yes, _)| yes))
+        Ok(ask(&mut self.raw, |raw, told| raw.del(set, key, told))?.map(|(yes, _)| yes))
     }
 
     /// Moves a key with its value to another set. Tells whether it was in the first and not in the second. Fails by
     /// [`Failed::SameSet`] too.
     pub fn move_key(&mut self, from: Set, to: Set, key: u32) -> Result<Done<bool>, Failed> {
-        Ok(self.ask(|raw, told| raw.move_key(from, to, key, told))?.map(|(yes, _)| yes))
+        Ok(ask(&mut self.raw, |raw, told| raw.move_key(from, to, key, told))?.map(|(yes, _)| yes))
     }
 
     /// Whether a key is there.
     pub fn has(&mut self, set: Set, key: u32) -> Result<Done<bool>, Failed> {
-        Ok(self.ask(|raw, told| raw.has(set, key, told))?.map(|(yes, _)| yes))
+        Ok(ask(&mut self.raw, |raw, told| raw.has(set, key, told))?.map(|(yes, _)| yes))
     }
 
     /// The value of a key that is there.
     pub fn get(&mut self, set: Set, key: u32) -> Result<Done<Option<u64>>, Failed> {
-        Ok(self.ask(|raw, told| raw.get(set, key, told))?.map(|(yes, told)| yes.then_some(told.value)))
+        Ok(ask(&mut self.raw, |raw, told| raw.get(set, key, told))?.map(|(yes, told)| yes.then_some(told.value)))
     }
 
     /// The least key that isn't below this one.
     pub fn next(&mut self, set: Set, key: u32) -> Result<Done<Option<u32>>, Failed> {
-        Ok(self.ask(|raw, told| raw.next(set, key, told))?.map(|(yes, told)| yes.then_some(told.value as u32)))
+        Ok(ask(&mut self.raw, |raw, told| raw.next(set, key, told))?
+            .map(|(yes, told)| yes.then_some(told.value as u32)))
     }
 
     /// How many keys there are.
     pub fn size(&mut self, set: Set) -> Result<Done<u64>, Failed> {
-        Ok(self.ask(|raw, told| raw.size(set, told))?.map(|(_, told)| told.value))
+        Ok(ask(&mut self.raw, |raw, told| raw.size(set, told))?.map(|(_, told)| told.value))
     }
 
     /// Whether a key is in the first set, and whether it is in the second, in one state.
     pub fn pair(&mut self, first: Set, second: Set, key: u32) -> Result<Done<(bool, bool)>, Failed> {
-        Ok(self.ask(|raw, told| raw.pair(first, second, key, told))?.map(|(_, told)| told.both()))
+        Ok(ask(&mut self.raw, |raw, told| raw.pair(first, second, key, told))?.map(|(_, told)| told.both()))
     }
 
     /// The entries of a set whose key isn't below `from`, by rising keys, at most so many of them and all of one state. A further
@@ -244,57 +211,5 @@ impl Sets {
     /// Makes a block.
     pub(crate) fn ask_block<const N: usize>(&mut self, commands: &[RawCommand; N], told: &mut [RawReply; N]) -> Status {
         self.raw.block(commands, told)
-    }
-
-    /// Reclaims what nobody reads any more of the seat's log, and tells how many slots are live afterwards.
-    pub fn tidy(&mut self) -> u32 {
-        let mut live = 0;
-        self.raw.tidy(&mut live).must_be_done();
-        live
-    }
-
-    /// Tells the counts of the seat's log.
-    ///
-    /// ```
-    /// # fn main() -> Result<(), Box<dyn std::error::Error>> {
-    /// let mut seats = mvrlu::open_sets(mvrlu::SetsOptions::default(), 1)?;
-    /// seats[0].add(mvrlu::Set::List(0), 7)?;
-    /// let counts = seats[0].count();
-    /// assert_eq!((counts.commits, counts.live), (1, 2)); // versions of the list's head and of the key's node
-    /// # Ok(())
-    /// # }
-    /// ```
-    pub fn count(&mut self) -> Counts {
-        let mut counts = Counts::default();
-        self.raw.count(&mut counts).must_be_done();
-        counts
-    }
-
-    /// Closes the seat, as dropping it does. Where it was the last one of its domain, all seats have met, and the time of the last
-    /// entry is told, or the opening time where there is none.
-    pub fn close(mut self) -> Option<u64> {
-        self.raw.close()
-    }
-
-    /// Makes a call, and makes it again where another seat came first, at most `limit` times, 0 or more. The thread yields before
-    /// each of these.
-    ///
-    /// # Errors
-    ///
-    /// What the last call failed by.
-    pub fn retry<T>(&mut self, limit: u32, mut call: impl FnMut(&mut Sets) -> Result<T, Failed>) -> Result<T, Failed> {
-        for _ in 0..limit {
-            match call(self) {
-                Err(why) if why.may_pass() => yield_now(),
-                other => return other,
-            }
-        }
-        call(self)
-    }
-}
-
-impl Drop for Sets {
-    fn drop(&mut self) {
-        self.raw.close();
     }
 }

@@ -1,8 +1,8 @@
 //! Opening a domain, and the end of it.
 
 use mvrlu::{
-    open, open_sets, OpenError, Options, Seat, Set, SetsOptions, OBJECTS_MAX, SEATS_MAX, SLOTS_MAX, SLOTS_MIN,
-    WRITE_MAX,
+    open, open_sets, open_table, OpenError, Options, Seat, Set, SetsOptions, TableOptions, OBJECTS_MAX, SEATS_MAX,
+    SLOTS_MAX, SLOTS_MIN, TABLE_OBJECTS_MAX, WRITE_MAX,
 };
 use std::env::{current_exe, var_os};
 use std::mem::{align_of, size_of};
@@ -58,6 +58,8 @@ fn too_little_memory() {
     if var_os(CHILD).is_some() {
         let large = Options { objects: OBJECTS_MAX, ..SMALL };
         assert_eq!(answer(large, 1), Err(OpenError::NoMemory));
+        let large = TableOptions { objects: TABLE_OBJECTS_MAX, ..Default::default() };
+        assert_eq!(open_table(large, 1).err(), Some(OpenError::NoMemory));
         assert_eq!(answer(SMALL, 1), Ok(1));
         return;
     }
@@ -135,7 +137,8 @@ fn a_seat_has_lines_of_memory_of_its_own() {
 #[test]
 fn errors_of_opening_have_texts() {
     let ranges = "a number is out of its range: seats 1 to 64, objects 1 to 16777216, slots 64 to 4096, \
-                  write_max 1 to 64 and less than the slots";
+                  write_max 1 to 64 and less than the slots; of sets objects from 181; of a table objects from 1048578 \
+                  and slots from 65";
     assert_eq!(OpenError::BadNumber.to_string(), ranges);
     assert_eq!(OpenError::NoMemory.to_string(), "too little memory");
 }

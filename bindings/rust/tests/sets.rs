@@ -1,8 +1,11 @@
 //! Commands and blocks on sets.
 
+mod places;
+
 use mvrlu::Command::{Add, Del, Get, Has, Move, Pair, Put};
-use mvrlu::{open_sets, Answer, At, Done, Entry, Failed, OpenError, Set, Sets, SetsOptions, Walk};
+use mvrlu::{open_sets, Answer, Entry, Failed, OpenError, Set, Sets, SetsOptions, Walk};
 use mvrlu::{SEATS_MAX, SETS_OBJECTS_MAX, SETS_OBJECTS_MIN, SLOTS_MAX, SLOTS_MIN};
+use places::{committed, read};
 use std::mem::align_of;
 use std::thread::scope;
 
@@ -13,14 +16,6 @@ const TRIES: u32 = 1_000_000;
 
 fn open_one(objects: u32) -> Sets {
     open_sets(SetsOptions { objects, slots: 64, opening_time: 0 }, 1).unwrap().remove(0)
-}
-
-fn committed<T>(value: T, time: u64) -> Result<Done<T>, Failed> {
-    Ok(Done { value, at: At::Commit(time) })
-}
-
-fn read<T>(value: T, time: u64) -> Result<Done<T>, Failed> {
-    Ok(Done { value, at: At::Read(time) })
 }
 
 #[test]

@@ -6,7 +6,7 @@ use Rattle.block_workers.specs.BlockLinks.{AllLinkedBlocks}
 use Rattle.run_kinds.specs.domain_loan.Shown.{handle_causes}
 use Rattle.mv_history.specs.Meaning.{Seat}
 use Rattle.run_kinds.specs.mvrlu.declared.closing.Closing.{Closing}
-use Rattle.run_kinds.specs.Kinds.{IsRunAlong, IsTextOfRead, Kind, config_of, usual_options}
+use Rattle.run_kinds.specs.Kinds.{IsTextOfRead, Kind, config_of, kind_along, usual_options}
 use Rattle.run_outside.specs.Outside.{Texts}
 use Rattle.run_report.specs.declared.line.Line.{Line}
 use Rattle.run_report.specs.Text.{text_of_run}
@@ -24,13 +24,8 @@ block_chain_of scripts olds news own = AllLinkedBlocks (handle_causes IsOpening 
 
 -- scripts of blocks, each by a seat of its own, on the sets
 abbrev pub block_runs : Options → List (List (List Command)) → Kind Maps
-block_runs options scripts = record {
-  numbers = config_of options 64 (length scripts);
-  is_run = λ lines end w.
-      IsRunAlong IsBlockCommit (block_chain_of scripts) (config_of options 64 (length scripts)) (λ past. BlocksRunOf past scripts lines end w.tables)
-      lines w;
-  text_of = text_of_run;
-}
+block_runs options scripts =
+    kind_along IsBlockCommit (block_chain_of scripts) (config_of options 64 (length scripts)) (λ past. BlocksRunOf past scripts) text_of_run
 
 -- the text of such a run of the scripts of these files
 abbrev pub IsTextOfBlocks : Option Texts → List (List ℕ) → Closing BlockRules → List ℕ → Type 0

@@ -15,9 +15,8 @@
 //!
 //! # Place
 //!
-//! It stands on `script_files` for reading, on `run_kinds` for the domain, on `block_domain` for the run over it, on
-//! `set_catalog` for the sets that are left, and on `run_report` for the order and the text of the lines. `mvrlu_run` calls it
-//! for `block`.
+//! It stands on `script_files` for reading, on `run_kinds` for the domain and the text, on `block_domain` for the run over it, and on
+//! `set_catalog` for the sets that are left. `mvrlu_run` calls it for `block`.
 #![tactic(auto)]
 
 mod blocking;

@@ -2,6 +2,7 @@
 ghost use Rattle.std.specs.Prelude.{◌≡◌, ◌<◌, ◌≤◌, IfOk, length};
 ghost use Rattle.plain_store.specs.Meaning.{seat_of};
 
+use crate::comparing::{assert_same, must};
 use mv_client::{Field, Record, begin, put_record, read_record};
 use mv_history::{AnyRules, Section, Store, View, Words};
 use plain_store::PlainStore;
@@ -9,7 +10,7 @@ use std::alloc::{AllocError, Global};
 use std::test::Fail;
 
 // A record with a field of each kind.
-#[derive(Clone, Copy, Debug, PartialEq, Eq)]
+#[derive(Clone, Copy, PartialEq, Eq)]
 struct Page {
     next: Option<u32>,
     is_open: bool,
@@ -114,19 +115,24 @@ fn put_and_read<S: Store<Rules = AnyRules>, T: Record>(
 
 #[test]
 fn each_field_is_read_as_it_was_written(rt: HostRuntime) -> Result<(), Fail> {
-    assert_eq!(rt; there_and_back(u64::MAX), u64::MAX);
-    assert_eq!(rt; there_and_back(u32::MAX), u32::MAX);
-    assert!(rt; there_and_back(true));
-    assert!(rt; !there_and_back(false));
-    assert_eq!(rt; there_and_back(Some(u32::MAX)), Some(u32::MAX));
-    assert_eq!(rt; there_and_back::<Option<u32>>(None), None);
-    assert_eq!(rt; there_and_back((1_u32, u32::MAX)), (1, u32::MAX));
+    let numbers = (there_and_back(u64::MAX), there_and_back(u32::MAX));
+    assert_same(&rt, &numbers, &(u64::MAX, u32::MAX), "numbers");
+    let truths = (there_and_back(true), there_and_back(false));
+    assert_same(&rt, &truths, &(true, false), "truths");
+    let links = (there_and_back(Some(u32::MAX)), there_and_back(None));
+    assert_same(&rt, &links, &(Some(u32::MAX), None::<u32>), "links");
+    let pair = there_and_back((1_u32, u32::MAX));
+    assert_same(&rt, &pair, &(1, u32::MAX), "a pair");
     Ok(())
 }
 
 #[test]
 fn a_section_reads_the_record_that_it_put(rt: HostRuntime) -> Result<(), Fail> {
     let (_store, put) = put_and_read(open(rt.alloc(), [0; 6])?, PAGE);
-    assert_eq!(rt; put, Some((PAGE, PAGE_WORDS)));
+    must(
+        &rt,
+        put == Some((PAGE, PAGE_WORDS)),
+        "a record and its words",
+    );
     Ok(())
 }

@@ -5,6 +5,7 @@ ghost use Rattle.mv_history.specs.Calls.{Continues};
 ghost use Rattle.section_work.specs.Attempts.{HasSpace};
 ghost use Rattle.mv_client.specs.Updates.{Filled};
 
+use crate::comparing::{assert_same, must};
 use mv_client::{Outcome, begin, lock_all, put, read, update, update_at_most, update_until};
 use mv_history::{AnyRules, Section, Store, Tag, View, Words};
 use plain_store::PlainStore;
@@ -158,59 +159,65 @@ fn give_up<S: Store<Rules = AnyRules>>(store: S, tries: u32, refusal: Refusal) -
 #[test]
 fn a_read_has_the_opening_words(rt: HostRuntime) -> Result<(), Fail> {
     let (_store, words) = look(open(rt.alloc(), 1)?);
-    assert_eq!(rt; words, counted(7));
+    assert_same(&rt, &words, &counted(7), "the words");
     Ok(())
 }
 
 #[test]
 fn a_lock_holds_an_object_once_and_keeps_its_words(rt: HostRuntime) -> Result<(), Fail> {
     let (_store, held, words) = hold_twice(open(rt.alloc(), 1)?);
-    assert_eq!(rt; held, 1);
-    assert_eq!(rt; words, counted(7));
+    assert_same(&rt, &held, &1, "objects that are held");
+    assert_same(&rt, &words, &counted(7), "the words");
     Ok(())
 }
 
 #[test]
 fn an_update_is_one_commit_and_is_read(rt: HostRuntime) -> Result<(), Fail> {
     let (store, done) = count_once(open(rt.alloc(), 2)?, 100);
-    assert!(rt;
+    must(
+        &rt,
         matches!(
             done,
             Outcome::Done {
                 reply: 7,
                 place: Place::Commit(41)
             }
-        )
+        ),
+        "the first answer",
     );
     let (store, done) = count_once(store, 100);
-    assert!(rt;
+    must(
+        &rt,
         matches!(
             done,
             Outcome::Done {
                 reply: 8,
                 place: Place::Commit(42)
             }
-        )
+        ),
+        "the second answer",
     );
     let (_store, words) = look(store);
-    assert_eq!(rt; words, counted(9));
+    assert_same(&rt, &words, &counted(9), "the words");
     Ok(())
 }
 
 #[test]
 fn nothing_to_commit_is_a_read(rt: HostRuntime) -> Result<(), Fail> {
     let (store, done) = count_once(open(rt.alloc(), 2)?, 7);
-    assert!(rt;
+    must(
+        &rt,
         matches!(
             done,
             Outcome::Done {
                 reply: 7,
                 place: Place::Read(40)
             }
-        )
+        ),
+        "the first answer",
     );
     let (_store, words) = look(store);
-    assert_eq!(rt; words, counted(7));
+    assert_same(&rt, &words, &counted(7), "the words");
     Ok(())
 }
 
@@ -218,38 +225,42 @@ fn nothing_to_commit_is_a_read(rt: HostRuntime) -> Result<(), Fail> {
 fn no_time_is_left_for_a_commit(rt: HostRuntime) -> Result<(), Fail> {
     let (store, _done) = count_once(open(rt.alloc(), 1)?, 100);
     let (store, end) = count_once(store, 100);
-    assert!(rt; matches!(end, Outcome::End));
+    must(&rt, matches!(end, Outcome::End), "the first answer");
     let (_store, words) = look(store);
-    assert_eq!(rt; words, counted(8));
+    assert_same(&rt, &words, &counted(8), "the words");
     Ok(())
 }
 
 #[test]
 fn at_most_so_many_tries_are_done_at_the_first(rt: HostRuntime) -> Result<(), Fail> {
     let (store, done) = count_at_most(open(rt.alloc(), 1)?, 3, 100);
-    assert!(rt;
+    must(
+        &rt,
         matches!(
             done,
             Outcome::Done {
                 reply: 7,
                 place: Place::Commit(41)
             }
-        )
+        ),
+        "the first answer",
     );
     let (store, settled) = count_at_most(store, 3, 8);
-    assert!(rt;
+    must(
+        &rt,
         matches!(
             settled,
             Outcome::Done {
                 reply: 8,
                 place: Place::Read(41)
             }
-        )
+        ),
+        "the second answer",
     );
     let (store, end) = count_at_most(store, 3, 100);
-    assert!(rt; matches!(end, Outcome::End));
+    must(&rt, matches!(end, Outcome::End), "the third answer");
     let (_store, words) = look(store);
-    assert_eq!(rt; words, counted(8));
+    assert_same(&rt, &words, &counted(8), "the words");
     Ok(())
 }
 
@@ -257,26 +268,36 @@ fn at_most_so_many_tries_are_done_at_the_first(rt: HostRuntime) -> Result<(), Fa
 fn a_refused_lock_is_the_last_answer(rt: HostRuntime) -> Result<(), Fail> {
     let refusal = Refusal::Busy { object: 0, seat: 3 };
     let (store, again) = give_up(open(rt.alloc(), 1)?, 3, refusal);
-    assert!(rt;
+    must(
+        &rt,
         matches!(
             again,
             Outcome::Again(Cause::Lock(Refusal::Busy { object: 0, seat: 3 }))
-        )
+        ),
+        "the first answer",
     );
     let (_store, words) = look(store);
-    assert_eq!(rt; words, counted(7));
+    assert_same(&rt, &words, &counted(7), "the words");
     Ok(())
 }
 
 #[test]
 fn until_it_is_done(rt: HostRuntime) -> Result<(), Fail> {
     let (store, done) = count_until(&rt, open(rt.alloc(), 1)?, 100);
-    assert!(rt; matches!(done, Some((7, Place::Commit(41)))));
+    must(
+        &rt,
+        matches!(done, Some((7, Place::Commit(41)))),
+        "the first answer",
+    );
     let (store, settled) = count_until(&rt, store, 8);
-    assert!(rt; matches!(settled, Some((8, Place::Read(41)))));
+    must(
+        &rt,
+        matches!(settled, Some((8, Place::Read(41)))),
+        "the second answer",
+    );
     let (store, none) = count_until(&rt, store, 100);
-    assert!(rt; none.is_none());
+    must(&rt, none.is_none(), "the third answer");
     let (_store, words) = look(store);
-    assert_eq!(rt; words, counted(8));
+    assert_same(&rt, &words, &counted(8), "the words");
     Ok(())
 }

@@ -1,8 +1,10 @@
-// What was found, beside what is wanted.
+// What was found, beside what is wanted. The proof of a comparison is dear, and so all tests share these.
+ghost use Rattle.std.specs.Prelude.{◌≡◌, true};
+
 use std::fmt::Debug;
 use std::process::Abort;
 
-// Ends the test where the two differ. Its proof is dear, and so all tests share it.
+// Ends the test where the two differ.
 pub(crate) fn assert_same<T: Debug + PartialEq>(
     rt: &impl Abort,
     found: &T,
@@ -10,4 +12,11 @@ pub(crate) fn assert_same<T: Debug + PartialEq>(
     name: &str,
 ) {
     assert_eq!(rt; *found, *wanted, "{name}");
+}
+
+// Ends the test where this is false.
+pub(crate) fn must(rt: &impl Abort, whether: bool, name: &str)
+    ensures { whether ≡ true }
+{
+    assert!(rt; whether, "{name}");
 }

@@ -29,7 +29,7 @@ pub enum Move {
 }
 
 /// What a move is answered.
-#[derive(Clone, Copy, Debug, PartialEq, Eq)]
+#[derive(Clone, Copy, PartialEq, Eq)]
 pub enum Answer {
     /// The time of the section.
     Entered(u64),

@@ -1,5 +1,5 @@
 // Seats of the sets that own a share of their domain: what each call answers, by the catalogue alone.
-use crate::comparing::assert_same;
+use crate::comparing::{assert_same, must};
 use mv_layout::ConfigFault;
 use section_work::Place;
 use section_work::Place::{Commit, Read};
@@ -9,7 +9,7 @@ use set_script::{Command, Name, Reply};
 use set_seats::{Entry, OpenSets, SetSeat, SetsFault, Walked, open_set_seats};
 use std::alloc::{AllocError, Global};
 use std::process::Abort;
-use std::test::*;
+use std::test::Fail;
 
 const TWO: OpenSets = OpenSets {
     seats: 2,
@@ -30,7 +30,7 @@ fn open_two(rt: &impl Abort, alloc: Global) -> Result<(SetSeat, SetSeat), Fail> 
     };
     let second = seats.pop().expect(rt, "a second seat");
     let first = seats.pop().expect(rt, "a first seat");
-    assert!(rt; seats.is_empty());
+    must(rt, seats.is_empty(), "two seats");
     Ok((first, second))
 }
 
@@ -50,8 +50,7 @@ fn expect(
     else {
         panic!(rt; "given up");
     };
-    assert_eq!(rt; said, reply);
-    assert_eq!(rt; at, place);
+    assert_same(rt, &(said, at), &(reply, place), "the reply and the place");
     seat
 }
 
@@ -95,11 +94,11 @@ fn commands_reply_as_the_catalogue(rt: HostRuntime) -> Result<(), Fail> {
     let first = change_key(&rt, first, name(&rt, 13), 3);
     let second = change_key(&rt, second, name(&rt, 23), 6);
     let (first, table) = first.count();
-    assert_eq!(&rt; table.commits, 6);
+    assert_same(&rt, &table.commits, &6, "commits of the first seat");
     let (_first, tidy) = first.tidy();
-    assert_eq!(&rt; tidy.live, 0);
+    assert_same(&rt, &tidy.live, &0, "a log that is emptied");
     let (_second, table) = second.count();
-    assert_eq!(&rt; table.commits, 3);
+    assert_same(&rt, &table.commits, &3, "commits of the second seat");
     Ok(())
 }
 
@@ -143,7 +142,7 @@ fn attempt_two(
     let BlockAttempt::Done { replies, place } = answer else {
         panic!(rt; "given up");
     };
-    assert!(rt; replies.len() == 2);
+    must(rt, replies.len() == 2, "two replies");
     Ok((seat, replies.get(0), replies.get(1), place))
 }
 
@@ -197,8 +196,8 @@ fn expect_walk(
     wanted: (Walked, &[Entry]),
 ) -> SetSeat {
     let (seat, walked) = seat.walk(name, from, room);
-    assert_eq!(rt; walked, wanted.0);
-    assert!(rt; *room == *wanted.1);
+    assert_same(rt, &walked, &wanted.0, "a walk");
+    must(rt, *room == *wanted.1, "the entries of a walk");
     seat
 }
 
@@ -234,11 +233,17 @@ fn fault_of(alloc: Global, sets: OpenSets) -> Option<SetsFault> {
 fn numbers_out_of_range_open_no_seats_of_sets(rt: HostRuntime) -> Result<(), Fail> {
     for objects in [0, 180, 16_777_217] {
         let fault = fault_of(rt.alloc(), OpenSets { objects, ..TWO });
-        assert!(&rt; matches!(fault, Some(SetsFault::Objects)));
+        must(
+            &rt,
+            matches!(fault, Some(SetsFault::Objects)),
+            "objects out of range",
+        );
     }
     let none = fault_of(rt.alloc(), OpenSets { seats: 0, ..TWO });
-    assert!(&rt; matches!(none, Some(SetsFault::Config(ConfigFault::Seats))));
+    let seats = matches!(none, Some(SetsFault::Config(ConfigFault::Seats)));
+    must(&rt, seats, "seats out of range");
     let few = fault_of(rt.alloc(), OpenSets { slots: 63, ..TWO });
-    assert!(&rt; matches!(few, Some(SetsFault::Config(ConfigFault::Slots))));
+    let slots = matches!(few, Some(SetsFault::Config(ConfigFault::Slots)));
+    must(&rt, slots, "slots out of range");
     Ok(())
 }

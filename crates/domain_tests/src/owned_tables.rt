@@ -1,4 +1,5 @@
 // Seats of a growing set that own a share of their domain: what each call answers, by the set alone.
+use crate::comparing::{assert_same, must};
 use grow_hash::{GrowStep, Split};
 use grow_seats::{GrowCommand, GrowSeat, GrownFault, OpenGrown, open_grow_seats};
 use mv_layout::ConfigFault;
@@ -8,7 +9,7 @@ use set_script::Reply;
 use shared_domain::Closed;
 use std::alloc::{AllocError, Global};
 use std::process::Abort;
-use std::test::*;
+use std::test::Fail;
 
 // Two nodes behind the heads of all buckets.
 const TWO: OpenGrown = OpenGrown {
@@ -25,7 +26,7 @@ fn open_two(rt: &impl Abort, alloc: Global) -> Result<(GrowSeat, GrowSeat), Fail
     };
     let second = seats.pop().expect(rt, "a second seat");
     let first = seats.pop().expect(rt, "a first seat");
-    assert!(rt; seats.is_empty());
+    must(rt, seats.is_empty(), "two seats");
     Ok((first, second))
 }
 
@@ -38,14 +39,14 @@ fn expect(
     place: Place,
 ) -> GrowSeat {
     let (seat, step) = seat.attempt(command);
-    assert_eq!(rt; step, GrowStep::Done { reply, place });
+    assert_same(rt, &step, &GrowStep::Done { reply, place }, "a command");
     seat
 }
 
 // Looks that a bucket was split, at this time.
 fn expect_split(rt: &impl Abort, seat: GrowSeat, time: u64) -> GrowSeat {
     let (seat, split) = seat.split();
-    assert_eq!(rt; split, Split::Done { time });
+    assert_same(rt, &split, &Split::Done { time }, "a split");
     seat
 }
 
@@ -83,14 +84,14 @@ fn a_growing_set_keeps_its_keys_through_splits(rt: HostRuntime) -> Result<(), Fa
     let second = ask_of_two(&rt, second, 4);
     let second = expect(&rt, second, del, Reply::Yes, Commit(5));
     let (first, table) = first.count();
-    assert_eq!(&rt; table.commits, 2);
+    assert_same(&rt, &table.commits, &2, "commits of the first seat");
     let (second, tidy) = second.tidy();
-    assert_eq!(&rt; tidy.live, 0);
-    assert!(&rt; matches!(first.close(), Closed::Left));
+    assert_same(&rt, &tidy.live, &0, "a log that is emptied");
+    must(&rt, matches!(first.close(), Closed::Left), "the first seat");
     let Closed::Met(closing) = second.close() else {
         panic!(&rt; "the last seat");
     };
-    assert!(&rt; closing.time() >= 5);
+    must(&rt, closing.time() >= 5, "the last time");
     Ok(())
 }
 
@@ -103,11 +104,17 @@ fn fault_of(alloc: Global, grown: OpenGrown) -> Option<GrownFault> {
 fn numbers_out_of_range_open_no_growing_set(rt: HostRuntime) -> Result<(), Fail> {
     for objects in [0, 1_048_577, 16_777_217] {
         let fault = fault_of(rt.alloc(), OpenGrown { objects, ..TWO });
-        assert!(&rt; matches!(fault, Some(GrownFault::Objects)));
+        must(
+            &rt,
+            matches!(fault, Some(GrownFault::Objects)),
+            "objects out of range",
+        );
     }
     let none = fault_of(rt.alloc(), OpenGrown { seats: 0, ..TWO });
-    assert!(&rt; matches!(none, Some(GrownFault::Config(ConfigFault::Seats))));
+    let seats = matches!(none, Some(GrownFault::Config(ConfigFault::Seats)));
+    must(&rt, seats, "seats out of range");
     let few = fault_of(rt.alloc(), OpenGrown { slots: 64, ..TWO });
-    assert!(&rt; matches!(few, Some(GrownFault::Config(ConfigFault::Marks))));
+    let marks = matches!(few, Some(GrownFault::Config(ConfigFault::Marks)));
+    must(&rt, marks, "slots out of range");
     Ok(())
 }

@@ -36,7 +36,7 @@ pub struct Schedule<'a> {
 }
 
 /// What was first otherwise than was wanted.
-#[derive(Clone, Copy, Debug, PartialEq, Eq)]
+#[derive(Clone, Copy)]
 pub enum Otherwise {
     /// What a turn of a part was answered.
     Turn {
@@ -235,14 +235,26 @@ pub fn played(alloc: Global, schedule: &Schedule) -> Result<Option<Otherwise>, O
     Ok(otherwise.or(tables).or(closed))
 }
 
-/// Plays schedules. Every turn of each is to be answered as wanted.
+// What was otherwise, and where: the part and the turn, the object, or the seat.
+fn place_of(otherwise: Option<Otherwise>) -> (&'static str, usize, usize) {
+    match otherwise {
+        Some(Otherwise::Turn { part, turn, .. }) => ("a turn", part, turn),
+        Some(Otherwise::Time(_)) => ("the last time", 0, 0),
+        Some(Otherwise::Object(object, _)) => ("an object", object as usize, 0),
+        Some(Otherwise::Table(seat, _)) => ("a table", seat, 0),
+        None => ("nothing", 0, 0),
+    }
+}
+
+/// Plays schedules. Every turn of each is to be answered as wanted; else its part and its place there are told.
 pub fn play_schedules(
     rt: &impl Abort,
     alloc: Global,
     schedules: &[Schedule<'_>],
 ) -> Result<(), Fail> {
     for schedule in schedules {
-        assert_same(rt, &played(alloc, schedule)?, &None, schedule.name);
+        let place = place_of(played(alloc, schedule)?);
+        assert_same(rt, &place, &("nothing", 0, 0), schedule.name);
     }
     Ok(())
 }

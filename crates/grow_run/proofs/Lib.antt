@@ -1,2 +1,1 @@
 pub mod GrownBuckets
-pub mod Still

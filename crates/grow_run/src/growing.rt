@@ -6,7 +6,7 @@ ghost use Rattle.grow_hash.specs.Tables.{grow_levels, buckets};
 ghost use Rattle.script_workers.specs.Workers.{items_of};
 ghost use Rattle.run_report.specs.Order.{IsOrdered};
 ghost use Rattle.run_words.specs.Words.{FitOptions};
-ghost use Rattle.run_kinds.specs.Kinds.{IsLeft, IsTextOf, usual_options};
+ghost use Rattle.run_kinds.specs.Kinds.{IsLeft};
 ghost use Rattle.grow_run.specs.GrowRuns.{IsTextOfGrown, grow_runs};
 ghost use Rattle.script_files.specs.declared.scripts.Grammar.TheVariants as grammars;
 ghost use Rattle.script_files.specs.Scripts.{AnyStop, NoneFails, commands as by_command};
@@ -15,10 +15,8 @@ use grow_domain::run_grow_domain;
 use grow_hash::{GROW_LEVELS, GrowRules, read_grown, table_of};
 use grow_report::{order_grown, render_grown};
 use mv_history::View;
-use run_kinds::mvrlu::Closing;
-use run_kinds::{USUAL, open_run, ran_or_met};
+use run_kinds::{FromRun, Told, USUAL, open_run, ran_or_met};
 use run_outside::{Files, Gate};
-use run_report::Line;
 use run_words::Options;
 use script_files::{Grammar, Stop, read_scripts};
 use set_script::{Catalogue, Command};
@@ -32,15 +30,10 @@ const WRITE_MAX: u32 = 64;
 // How many buckets a growing set begins with.
 const FIRST_BUCKETS: u32 = 16;
 
-// The text of a run on a growing set, and what is left of its domain.
-type FromRun = (Vec<u8>, Closing<GrowRules<GROW_LEVELS>>);
-
-// What a run on a growing set gives, as a run of scripts does, and how many splits its history has.
+/// How a run on a growing set ends: the set, and how many splits it has had.
 #[derive(Drop)]
-struct ToldGrown {
-    closing: Closing<GrowRules<GROW_LEVELS>>,
-    lines: Vec<Line>,
-    end: Catalogue,
+pub(crate) struct GrownEnd {
+    set: Catalogue,
     splits: u32,
 }
 
@@ -52,43 +45,20 @@ pub fn make_grown<R: Threads + Wait + Sync, F: Files, G: Gate>(
     names: &[String],
     files: &mut F,
     gate: &G,
-) -> Result<FromRun, Stop>
+) -> Result<FromRun<GrowRules<GROW_LEVELS>>, Stop>
     requires some { 1 ≤ length names.now }
     requires few { length names.now ≤ 64 }
     ensures made { MatchResult result (λ made. IsTextOfGrown (F.texts files.old) (map string_bytes names.now) made.1 made.0.items)
         (λ stop. AnyStop stop (by_command grammars.Growing) (F.texts files.old) (map string_bytes names.now) (F.faults files.old) (F.faults files.new)) }
     ensures steady { IfErr result (λ stop. NoneFails stop (F.steady files.old) (F.texts files.old) (map string_bytes names.now)) }
 {
-    let scripts = match read_scripts(rt, alloc, files, names, Grammar::Growing) {
-        Ok(scripts) => scripts,
-        Err(stop) => return Err(stop),
-    };
-    match grown_text(rt, alloc, &scripts, gate) {
-        Ok(made) => Ok(made),
-        Err(AllocError) => Err(Stop::Memory),
-    }
-}
-
-// The text of a run of these scripts.
-fn grown_text<R: Threads + Wait + Sync, G: Gate>(
-    rt: &R,
-    alloc: Global,
-    scripts: &[Vec<Command>],
-    gate: &G,
-) -> Result<FromRun, AllocError>
-    requires some { 1 ≤ length scripts.now }
-    requires few { length scripts.now ≤ 64 }
-    requires short { All (λ script. length script.items ≤ 65536) scripts.now }
-    requires growing { All (λ script. All IsOfGrown script.items) scripts.now }
-    ensures { IfOk result (λ r. IsTextOf (grow_runs usual_options (map items_of scripts.now)) r.1 r.0.items) }
-{
-    let ToldGrown {
+    let scripts = read_scripts(rt, alloc, files, names, Grammar::Growing)?;
+    let Told {
         closing,
         lines,
         end,
-        splits,
-    } = run_grown_set(rt, alloc, USUAL, scripts, gate)?;
-    let text = render_grown(alloc, &lines, &end, splits, closing.tables())?;
+    } = run_grown_set(rt, alloc, USUAL, &scripts, gate)?;
+    let text = render_grown(alloc, &lines, &end.set, end.splits, closing.tables())?;
     Ok((text, closing))
 }
 
@@ -100,7 +70,7 @@ fn run_grown_set<R: Threads + Wait + Sync, G: Gate>(
     options: Options,
     scripts: &[Vec<Command>],
     gate: &G,
-) -> Result<ToldGrown, AllocError>
+) -> Result<Told<GrowRules<GROW_LEVELS>, GrownEnd>, AllocError>
     requires fit { FitOptions options }
     requires objects { 1026 ≤ options.objects }
     requires slots { options.slots ≡ 1024 }
@@ -108,11 +78,9 @@ fn run_grown_set<R: Threads + Wait + Sync, G: Gate>(
     requires few { length scripts.now ≤ 64 }
     requires short { All (λ script. length script.items ≤ 65536) scripts.now }
     requires growing { All (λ script. All IsOfGrown script.items) scripts.now }
-    ensures ran { IfOk result (λ told.
-        IsLeft (grow_runs options (map items_of scripts.now)) told.lines.items (record { set = told.end; splits = told.splits })
-        told.closing) }
+    ensures ran { IfOk result (λ told. IsLeft (grow_runs options (map items_of scripts.now)) told.lines.items told.end told.closing) }
     ensures ordered { IfOk result (λ told. IsOrdered told.lines.items) }
-    ensures few { IfOk result (λ told. told.splits ≤ 1008) }
+    ensures few { IfOk result (λ told. told.end.splits ≤ 1008) }
 {
     let (domain, seats) = open_run(alloc, options, WRITE_MAX, scripts.len() as u32)?;
     let (mut closing, mut lines) = ran_or_met(run_grow_domain(
@@ -120,12 +88,11 @@ fn run_grown_set<R: Threads + Wait + Sync, G: Gate>(
     ))?;
     order_grown(&mut lines);
     let splits = count_splits(&mut closing);
-    let end = read_grown::<GROW_LEVELS, _>(alloc, &mut closing)?;
-    Ok(ToldGrown {
+    let set = read_grown::<GROW_LEVELS, _>(alloc, &mut closing)?;
+    Ok(Told {
         closing,
         lines,
-        end,
-        splits,
+        end: GrownEnd { set, splits },
     })
 }
 

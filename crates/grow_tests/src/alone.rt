@@ -3,6 +3,7 @@ ghost use Rattle.std.specs.Prelude.{◌≡◌, ◌<◌, ◌≤◌, vec_len};
 ghost use Rattle.mvrlu.specs.Meant.{numbers_of, seat_of};
 ghost use Rattle.mvrlu.specs.Orders.{AreRising};
 
+use crate::comparing::{assert_same, must};
 use crate::opening::{numbers, open_grown};
 use crate::steps::{Step, play};
 use grow_hash::{GROW_LEVELS, GrowRules};
@@ -10,26 +11,27 @@ use mv_history::{View, Words};
 use mvrlu::{Domain, Seat};
 use std::alloc::{AllocError, Global};
 use std::process::Abort;
-use std::test::*;
+use std::test::Fail;
 
 // The head of a bucket, and the keys of its list, in their order.
 pub(crate) type List = (u32, &'static [u64]);
 
 // Looks that these are the words of a node of this list, with this key. Its link is the answer.
 fn link_of(rt: &impl Abort, words: Words, head: u32, key: u64) -> u64 {
-    assert_eq!(rt; words, [head as u64 + 1, 0, key, words[3], 0, 0]);
+    let wanted = [head as u64 + 1, 0, key, words[3], 0, 0];
+    assert_same(rt, &words, &wanted, "a node of a list");
     words[3]
 }
 
 // Looks that the list has exactly nodes with its keys.
 fn expect_list<V: View>(rt: &impl Abort, view: &mut V, head: u32, keys: &[u64]) {
-    assert!(rt; head < view.objects());
+    must(rt, head < view.objects(), "the head of a list");
     let mut node = view.read(head)[3];
     for key in keys {
-        assert!(rt; node < view.objects() as u64);
+        must(rt, node < view.objects() as u64, "a link of a list");
         node = link_of(rt, view.read(node as u32), head, *key);
     }
-    assert_eq!(rt; node, 0);
+    assert_same(rt, &node, &0, "the end of a list");
 }
 
 // Lets the one seat of a domain make the steps.

@@ -13,6 +13,8 @@
 #[cfg(test)]
 mod alone;
 #[cfg(test)]
+mod comparing;
+#[cfg(test)]
 mod opening;
 #[cfg(test)]
 mod reports;

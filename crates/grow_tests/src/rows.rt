@@ -1,5 +1,6 @@
 // Rows of one seat: commands, splits by their answers, and the commands around them.
 use crate::alone::{List, play_alone};
+use crate::comparing::{assert_same, must};
 use crate::steps::Ask::{Add, Del, Has, Next, Size};
 use crate::steps::Step::{Adds, Does, Finds, Holds, Splits, Tries};
 use crate::steps::{Keys, Step};
@@ -9,7 +10,7 @@ use section_work::Place::{Commit, Read};
 use set_script::Reply;
 use std::alloc::Global;
 use std::process::Abort;
-use std::test::*;
+use std::test::Fail;
 
 // What is played, and what is wanted of the closing: its time, where the rests that make room are known, and some of its lists.
 #[derive(Clone, Copy)]
@@ -275,9 +276,10 @@ static ROWS: [Row; 13] = [
 
 // Plays a row in a new domain.
 fn play_row(rt: &impl Abort, alloc: Global, row: &Row) -> Result<(), Fail> {
-    assert!(rt; 1025 < row.objects && row.objects < 65536);
+    must(rt, 1025 < row.objects, "an object behind the heads");
+    must(rt, row.objects < 65536, "few objects");
     let time = play_alone(rt, alloc, row.objects, row.base, row.steps, row.lists)?;
-    assert_eq!(rt; time, row.time.unwrap_or(time), "{}", row.name);
+    assert_same(rt, &time, &row.time.unwrap_or(time), row.name);
     Ok(())
 }
 

@@ -1,18 +1,23 @@
 // Scripts of a growing hash set that are accepted, and ones that are refused, with their line and their fault.
+use crate::comparing::{assert_read, assert_same, must};
 use crate::steps::{Ask, command};
 use grow_script::parse_grow;
 use script_parser::{FaultKind, ScriptFault};
 use set_script::{Command, MOST_COMMANDS};
 use std::alloc::{AllocError, Global};
 use std::process::Abort;
-use std::test::*;
+use std::test::Fail;
 
 // A text, the line of its fault, and what is wrong with that line.
 type Broken = (&'static [u8], u32, FaultKind);
 
 // The commands of a text, or its fault.
 fn parsed(rt: &impl Abort, alloc: Global, text: &[u8]) -> Result<Vec<Command>, ScriptFault> {
-    assert!(rt; text.len() <= 1_048_577);
+    must(
+        rt,
+        text.len() <= 1_048_577,
+        "no longer text than a script may be",
+    );
     parse_grow(alloc, text)
 }
 
@@ -29,10 +34,15 @@ static ASKED: [Ask; 5] = [
 
 // Looks that these are the commands.
 fn expect_commands(rt: &impl Abort, found: &[Command], asks: &[Ask]) {
-    assert_eq!(rt; found.len(), asks.len());
+    assert_same(rt, &found.len(), &asks.len(), "commands");
     for (index, ask) in asks.iter().enumerate() {
-        assert!(rt; index < found.len());
-        assert_eq!(rt; found[index], command(*ask));
+        let wanted = (index, Some(command(*ask)));
+        assert_same(
+            rt,
+            &(index, found.get(index).copied()),
+            &wanted,
+            "a command",
+        );
     }
 }
 
@@ -81,7 +91,7 @@ static BROKEN: [Broken; 24] = [
 // Looks that the text has its first fault on this line.
 fn refuses(rt: &impl Abort, alloc: Global, text: &[u8], line: u32, kind: FaultKind) {
     let fault = parsed(rt, alloc, text).err().expect(rt, "a fault");
-    assert_eq!(rt; fault, ScriptFault::At { line, kind }, "of {text:?}");
+    assert_read(rt, &fault, &ScriptFault::At { line, kind }, text);
 }
 
 #[test]
@@ -104,7 +114,7 @@ fn most_commands(alloc: Global) -> Result<Vec<u8>, AllocError> {
 fn as_many_commands_as_in_a_script(rt: HostRuntime) -> Result<(), Fail> {
     let mut text = most_commands(rt.alloc())?;
     let most = accepted(&rt, rt.alloc(), &text).len();
-    assert_eq!(rt; most, MOST_COMMANDS);
+    assert_same(&rt, &most, &MOST_COMMANDS, "commands");
     text.extend_from_slice(b"has h0 1")?;
     refuses(&rt, rt.alloc(), &text, 65_537, FaultKind::Many);
     Ok(())

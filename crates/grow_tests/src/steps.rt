@@ -4,6 +4,7 @@ ghost use Rattle.mv_history.specs.Calls.{Continues};
 ghost use Rattle.grow_hash.specs.GrowPlans.{IsOfGrown};
 ghost use Rattle.grow_hash.specs.SplitCalls.{most_writes};
 
+use crate::comparing::assert_same;
 use grow_hash::{
     GROW_LEVELS, GrowRules, GrowStep, Split, attempt_grow, read_grown, table_of, try_split,
 };
@@ -12,7 +13,6 @@ use section_work::Place;
 use set_script::{Catalogue, Command, Name, Reply};
 use std::alloc::{AllocError, Global};
 use std::process::Abort;
-use std::test::*;
 
 // A command on the set.
 #[derive(Clone, Copy)]
@@ -100,7 +100,7 @@ fn attempt<S: Store<Rules = GrowRules<GROW_LEVELS>>>(
     ensures { Continues (S.seat_of store) (S.seat_of result) }
 {
     let (after, step) = answer_of(store, ask);
-    assert_eq!(rt; step, GrowStep::Done { reply, place });
+    assert_same(rt, &step, &GrowStep::Done { reply, place }, "a command");
     after
 }
 
@@ -139,7 +139,7 @@ fn split_once<S: Store<Rules = GrowRules<GROW_LEVELS>>>(
     ensures { Continues (S.seat_of store) (S.seat_of result) }
 {
     let (after, found) = split_of(store);
-    assert_eq!(rt; found, split);
+    assert_same(rt, &found, &split, "a split");
     after
 }
 
@@ -154,7 +154,8 @@ fn split_all<S: Store<Rules = GrowRules<GROW_LEVELS>>>(
 {
     for number in 0..count {
         let (after, split) = split_of(store);
-        assert!(rt; matches!(split, Split::Done { .. }), "split {number}");
+        let done = matches!(split, Split::Done { .. });
+        assert_same(rt, &(number, done), &(number, true), "a split in a row");
         store = after;
     }
     store
@@ -184,13 +185,16 @@ fn read_all<S: Store<Rules = GrowRules<GROW_LEVELS>>>(
 // Looks that the catalogue has exactly these keys in `h0`, each with the value 0, and nothing else.
 fn expect_keys(rt: &impl Abort, all: &Catalogue, keys: Keys) {
     let found = all.keys(10);
-    assert_eq!(rt; found.len(), keys.count as usize);
+    assert_same(rt, &found.len(), &(keys.count as usize), "keys");
     for index in 0..keys.count {
-        assert_eq!(rt; found.get(index as usize).copied(), Some(keys.at(index)));
-        assert_eq!(rt; all.values(10).get(index as usize).copied(), Some(0));
+        let key = found.get(index as usize).copied();
+        let value = all.values(10).get(index as usize).copied();
+        let wanted = (Some(keys.at(index)), Some(0));
+        assert_same(rt, &(key, value), &wanted, "a key and its value");
     }
     for name in 0..30 {
-        assert!(rt; name == 10 || all.keys(name).is_empty(), "name {name}");
+        let found = (name, name == 10 || all.keys(name).is_empty());
+        assert_same(rt, &found, &(name, true), "no key elsewhere");
     }
 }
 
@@ -204,7 +208,7 @@ fn expect_table<S: Store<Rules = GrowRules<GROW_LEVELS>>>(
     ensures { Continues (S.seat_of store) (S.seat_of result) }
 {
     let (after, table) = read_table(store);
-    assert_eq!(rt; table, (level, place));
+    assert_same(rt, &table, &(level, place), "the level and the split place");
     after
 }
 

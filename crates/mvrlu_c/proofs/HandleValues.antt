@@ -1,10 +1,14 @@
 -- The machine values of a handle: what its fields own tells them, and is made of nothing.
-use Rattle.std.proofs.Common.{◌≡◌, ℕ, zero, suc, List, [], ◌∷◌, ◌++◌, Bool, refl, ◌∙◌, lit<}
+use Rattle.std.proofs.Common.{◌≡◌, ℕ, zero, suc, List, [], ◌∷◌, ◌++◌, Bool, true, false, refl, ◌∙◌, lit<}
 use seplogic.Ra.Ura.{Ura}
 use mir.Syntax.{ty_bool, ty_ptr, ty_struct, tcons, tnil}
 use mir.Val.{Val, vbool, vstruct, vcons, vnil, of_list}
 use base.Logic.{ent, emp}
 use base.Fml.{Fml}
+use base.Shift.{Keyless}
+use mir.Raw.{raw}
+use denote.Memory.{lone}
+use denote.Param.Send.{IsSend}
 use types.Logic.{Logic, sem}
 use denote.RattleType.{RattleType}
 use denote.Signature.{Slot, plain}
@@ -14,6 +18,9 @@ use denote.RawPtr.{Ptr, RawPtr, block_ptr, null_ptr, ptr_val}
 use denote.Shadow.{shadow, makes_shadow}
 use denote.Struct.Struct.{Struct}
 use Rattle.core.proofs.cell.Inside.{Good}
+use Rattle.std_alloc.proofs.SendSync.{lies}
+use Rattle.std.proofs.Crossing.{frees}
+use Rattle.mvrlu_c.specs.Held.{held_if}
 
 -- a struct by its fields alone: what it owns does not read its name
 abbrev pub plainly : List RattleType → RattleType
@@ -53,3 +60,8 @@ abbrev pub slot_at : {n : ℕ} → ℕ → List (Slot n) → Slot n
 slot_at k [] = plain (λ _. unit)
 slot_at zero (s ∷ ss) = s
 slot_at (suc k) (s ∷ ss) = slot_at k ss
+
+-- what a handle owns may go to another thread where the seat may
+pub held_keyless : (R : RattleType) → IsSend R → (t : Bool) (p : Ptr) (x : R.Denot) → Keyless (held_if R t p x)
+held_keyless R s true p x = (lies R s p x, frees.frees _ (raw (lone R.mir)) p)
+held_keyless R s false p x = tt

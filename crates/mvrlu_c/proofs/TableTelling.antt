@@ -1,5 +1,5 @@
 -- What a call on a growing set tells, read back from its 32 bits.
-use Rattle.std.proofs.Common.{◌≡◌, ℤ, ap, ◌∙◌, w32, to_z, of_z}
+use Rattle.std.proofs.Common.{◌≡◌, ℤ, w32, to_z, of_z}
 use Rattle.grow_hash.specs.declared.answer.Split.{Split}
 use Rattle.grow_hash.specs.declared.answer.Split.TheVariants as split
 use Rattle.grow_hash.specs.declared.attempt.GrowStep.{GrowStep}
@@ -9,9 +9,10 @@ use Rattle.mvrlu_c.specs.declared.sets_reply.MvrluReply.{MvrluReply}
 use Rattle.mvrlu_c.specs.declared.status.Status.TheVariants as status
 use Rattle.mvrlu_c.specs.declared.table_handle.MvrluTable.{MvrluTable}
 use Rattle.mvrlu_c.specs.SetReplies.{status_of_reply, status_of_cause}
+use Rattle.mvrlu_c.specs.TableOpening.{opened, seat_in}
 use Rattle.mvrlu_c.specs.TableReplies.{step_told, split_told}
-use Rattle.mvrlu_c.specs.TableTold.{TellsCommand, TellsSplit}
-use Rattle.mvrlu_c.proofs.Telling.{reads_back}
+use Rattle.mvrlu_c.specs.TableTold.{Answers, AnswersSplit, TellsCommand, TellsSplit}
+use Rattle.mvrlu_c.proofs.Telling.{call_back, reads_back}
 
 -- the number of an answer
 step_back : (answer : GrowStep) → to_z w32 (of_z w32 (step_told answer).status) ≡ (step_told answer).status
@@ -21,11 +22,7 @@ step_back (step.Again cause) = reads_back (status_of_cause cause)
 -- So what a call tells is told by the number that it hands on.
 pub told_back : (command : GrowCommand) (old new : MvrluTable) (before after : MvrluReply) (code : ℤ) → TellsCommand command old new before after code
     → TellsCommand command old new before after (to_z w32 (of_z w32 code))
-told_back command old new before after code tells = (
-  λ shut. let r = tells.0 shut in (ap (λ z. to_z w32 (of_z w32 z)) r.0 ∙ reads_back status.Closed, r.1, r.2),
-  λ is. let t = tells.1 is in
-      (t.0, (t.1.0, t.1.1, t.1.2, ap (λ z. to_z w32 (of_z w32 z)) t.1.3 ∙ step_back t.1.0)),
-)
+told_back command = call_back opened seat_in (Answers command) (λ answer. (step_told answer).status) step_told step_back
 
 -- the number of the answer of a split
 whole_back : (answer : Split) → to_z w32 (of_z w32 (split_told answer).status) ≡ (split_told answer).status
@@ -38,8 +35,4 @@ whole_back (split.Again cause) = reads_back (status_of_cause cause)
 -- and so what a split tells
 pub split_back : (old new : MvrluTable) (before after : MvrluReply) (code : ℤ) → TellsSplit old new before after code
     → TellsSplit old new before after (to_z w32 (of_z w32 code))
-split_back old new before after code tells = (
-  λ shut. let r = tells.0 shut in (ap (λ z. to_z w32 (of_z w32 z)) r.0 ∙ reads_back status.Closed, r.1, r.2),
-  λ is. let t = tells.1 is in
-      (t.0, (t.1.0, t.1.1, t.1.2, ap (λ z. to_z w32 (of_z w32 z)) t.1.3 ∙ whole_back t.1.0)),
-)
+split_back = call_back opened seat_in AnswersSplit (λ answer. (split_told answer).status) split_told whole_back

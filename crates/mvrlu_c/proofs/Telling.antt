@@ -1,11 +1,12 @@
 -- What a call tells of a seat, by what it answered.
-use Rattle.std.proofs.Common.{◌≡◌, ℤ, true, false, Option, Some, None, Result, MatchOption, refl, w32, to_z, of_z}
+use Rattle.std.proofs.Common.{◌≡◌, ℤ, Bool, true, false, Option, Some, None, Result, MatchOption, refl, ap, ◌∙◌, w32, to_z, of_z}
 use Rattle.crossbeam_utils.specs.Padded.{padded_value}
 use Rattle.object_seats.specs.declared.position.Position.{Position}
 use Rattle.object_seats.specs.declared.position.Misuse.{Misuse}
-use Rattle.mvrlu_c.specs.declared.handle.MvrluSeat.{MvrluSeat}
+use Rattle.mvrlu_c.specs.declared.object_handle.MvrluSeat.{MvrluSeat}
 use Rattle.mvrlu_c.specs.declared.status.Status.{Status}
 use Rattle.mvrlu_c.specs.declared.status.Status.TheVariants as status
+use Rattle.mvrlu_c.specs.OnHandle.{TellsCall}
 use Rattle.mvrlu_c.specs.Statuses.{code_of, told_by}
 use Rattle.mvrlu_c.specs.Told.{Tells}
 
@@ -46,3 +47,14 @@ reads_back status.BadSet = refl
 reads_back status.SameSet = refl
 reads_back status.BadCommand = refl
 reads_back status.BadBlock = refl
+
+-- What a call on a handle tells is told by the number that it hands on, where each of its answers has a number that is read back.
+module _ {H S A Out : Type 0} (opened : H → Bool) (seat_in : H → S) (Call : S → S → A → Type 0) (number : A → ℤ) (told : A → Out)
+    (back : (answer : A) → to_z w32 (of_z w32 (number answer)) ≡ number answer) where
+  pub call_back : (old new : H) (before after : Out) (code : ℤ) → TellsCall opened seat_in Call number told old new before after code
+      → TellsCall opened seat_in Call number told old new before after (to_z w32 (of_z w32 code))
+  call_back old new before after code tells = (
+    λ shut. let r = tells.0 shut in (ap (λ z. to_z w32 (of_z w32 z)) r.0 ∙ reads_back status.Closed, r.1, r.2),
+    λ is. let t = tells.1 is in
+        (t.0, (t.1.0, t.1.1, t.1.2, ap (λ z. to_z w32 (of_z w32 z)) t.1.3 ∙ back t.1.0)),
+  )

@@ -1,5 +1,7 @@
 pub mod Held
 pub mod Opening
+pub mod ObjectOpening
+pub mod OnHandle
 pub mod SetReplies
 pub mod SetsBlock
 pub mod SetsOpening

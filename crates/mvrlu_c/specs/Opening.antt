@@ -1,51 +1,20 @@
--- What opening and closing leave of the handles of C.
-use Rattle.std.specs.Prelude.{◌≡◌, ◌≢◌, ◌⊎◌, ◌<◌, ℕ, ℤ, ◌-◌, ◌/◌, max, true, false, List, map, length, All}
-use Rattle.crossbeam_utils.specs.Padded.{padded_value}
-use Rattle.mv_layout.specs.declared.Config.{Config}
-use Rattle.mv_layout.specs.declared.config.ConfigFault.{ConfigFault}
-use Rattle.mv_layout.specs.Limits.{Checked, FirstUnfit}
-use Rattle.object_seats.specs.Opening.{AreOpened}
-use Rattle.object_seats.specs.declared.seat.ObjectSeat.{ObjectSeat}
-use Rattle.mvrlu_c.specs.declared.handle.MvrluSeat.{MvrluSeat}
-use Rattle.mvrlu_c.specs.declared.opening.MvrluOptions.{MvrluOptions}
+-- What opening leaves of the handles of C, of whatever kind.
+use Rattle.std.specs.Prelude.{◌≡◌, Bool, true, false, List, map, All}
 use Rattle.mvrlu_c.specs.declared.status.Status.{Status}
 use Rattle.mvrlu_c.specs.declared.status.Status.TheVariants.{Done, InUse, BadNumber, NoMemory}
-use Rattle.mvrlu_c.specs.Statuses.{code_of}
 
-abbrev pub IsClosed : MvrluSeat → Type 0
-IsClosed h = h.is_open ≡ false
+module _ {H S : Type 0} (opened : H → Bool) (seat_in : H → S) where
+  abbrev pub IsClosed : H → Type 0
+  IsClosed h = opened h ≡ false
 
-abbrev pub IsOpen : MvrluSeat → Type 0
-IsOpen h = h.is_open ≡ true
+  abbrev pub IsOpen : H → Type 0
+  IsOpen h = opened h ≡ true
 
--- the seat behind a handle that is open
-abbrev pub seat_in : MvrluSeat → ObjectSeat
-seat_in h = padded_value h.state
-
--- The numbers of the domain of so many seats. A seat reclaims one round at a time from half of its log on, and all it can where a full
--- write set has no room.
-abbrev pub config_of : MvrluOptions → ℕ → Config
-config_of o seats = record {
-  seats = seats;
-  objects = o.objects;
-  slots = o.slots;
-  write_max = o.write_max;
-  low = max 1 ((o.slots - o.write_max) / 2);
-  high = o.slots - o.write_max;
-  base = o.opening_time;
-}
-
--- a number is out of its range: the size of the options, the count of seats, or one of the domain's
-abbrev pub IsBadNumber : MvrluOptions → ℕ → Type 0
-IsBadNumber o seats = (o.size ≢ 24) ⊎ (64 < seats) ⊎ ((fault : ConfigFault) × FirstUnfit (config_of o seats) fault)
-
--- Opening: all of them or none, and why none.
-abbrev pub OpensAs : MvrluOptions → List MvrluSeat → List MvrluSeat → Status → Type 0
-OpensAs o old new Done = All IsClosed old × All IsOpen new × AreOpened (config_of o (length old)) (map seat_in new)
-OpensAs o old new InUse = ¬ All IsClosed old × (new ≡ old)
-OpensAs o old new BadNumber = All IsClosed old × (new ≡ old) × IsBadNumber o (length old)
-OpensAs o old new NoMemory = All IsClosed old × (new ≡ old) × Checked (config_of o (length old))
-OpensAs o old new other = ⊥
-
-abbrev pub Opens : MvrluOptions → List MvrluSeat → List MvrluSeat → ℤ → Type 0
-Opens o old new code = (status : Status) × (code ≡ code_of status) × OpensAs o old new status
+  -- All of them are opened or none, and why none: their seats are those of a domain as it was asked for, or a number of it was bad, or all were
+  -- fit and there was too little memory.
+  abbrev pub OpensAll : (List S → Type 0) → Type 0 → Type 0 → List H → List H → Status → Type 0
+  OpensAll Opened Bad Fit old new Done = All IsClosed old × All IsOpen new × Opened (map seat_in new)
+  OpensAll Opened Bad Fit old new InUse = ¬ All IsClosed old × (new ≡ old)
+  OpensAll Opened Bad Fit old new BadNumber = All IsClosed old × (new ≡ old) × Bad
+  OpensAll Opened Bad Fit old new NoMemory = All IsClosed old × (new ≡ old) × Fit
+  OpensAll Opened Bad Fit old new other = ⊥

@@ -19,7 +19,7 @@ use Rattle.mvrlu_c.specs.declared.sets_reply.MvrluReply.{MvrluReply}
 use Rattle.mvrlu_c.specs.declared.status.Status.{Status}
 use Rattle.mvrlu_c.specs.declared.status.Status.TheVariants as status
 use Rattle.mvrlu_c.specs.SetReplies.{told_at, given_up_by, status_of_cause}
-use Rattle.mvrlu_c.specs.SetsTold.{IsRefused}
+use Rattle.mvrlu_c.specs.OnHandle.{IsRefused}
 use Rattle.mvrlu_c.specs.Statuses.{code_of}
 
 -- the set of a number

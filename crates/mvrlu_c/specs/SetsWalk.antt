@@ -10,7 +10,7 @@ use Rattle.mvrlu_c.specs.declared.sets_handle.MvrluSets.{MvrluSets}
 use Rattle.mvrlu_c.specs.declared.sets_walk.MvrluWalk.{MvrluWalk}
 use Rattle.mvrlu_c.specs.declared.status.Status.{Status}
 use Rattle.mvrlu_c.specs.declared.status.Status.TheVariants.{Done, Closed, NoMemory}
-use Rattle.mvrlu_c.specs.SetsTold.{IsRefused}
+use Rattle.mvrlu_c.specs.OnHandle.{IsRefused}
 use Rattle.mvrlu_c.specs.Statuses.{code_of}
 
 -- the key, or 0, and whether there is one

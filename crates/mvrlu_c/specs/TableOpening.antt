@@ -1,5 +1,5 @@
 -- What opening a domain of a growing set leaves of the handles of C.
-use Rattle.std.specs.Prelude.{◌≡◌, ◌≢◌, ◌⊎◌, ◌<◌, ℕ, ℤ, true, false, List, map, length, All}
+use Rattle.std.specs.Prelude.{◌≡◌, ◌≢◌, ◌⊎◌, ◌<◌, ℕ, ℤ, Bool, List, length}
 use Rattle.crossbeam_utils.specs.Padded.{padded_value}
 use Rattle.mv_layout.specs.declared.config.ConfigFault.{ConfigFault}
 use Rattle.mv_layout.specs.Limits.{Checked, FirstUnfit}
@@ -9,14 +9,11 @@ use Rattle.grow_seats.specs.declared.seat.GrowSeat.{GrowSeat}
 use Rattle.mvrlu_c.specs.declared.table_handle.MvrluTable.{MvrluTable}
 use Rattle.mvrlu_c.specs.declared.table_opening.MvrluTableOptions.{MvrluTableOptions}
 use Rattle.mvrlu_c.specs.declared.status.Status.{Status}
-use Rattle.mvrlu_c.specs.declared.status.Status.TheVariants.{Done, InUse, BadNumber, NoMemory}
+use Rattle.mvrlu_c.specs.Opening.{OpensAll}
 use Rattle.mvrlu_c.specs.Statuses.{code_of}
 
-abbrev pub IsClosed : MvrluTable → Type 0
-IsClosed h = h.is_open ≡ false
-
-abbrev pub IsOpen : MvrluTable → Type 0
-IsOpen h = h.is_open ≡ true
+abbrev pub opened : MvrluTable → Bool
+opened h = h.is_open
 
 -- the seat behind a handle that is open
 abbrev pub seat_in : MvrluTable → GrowSeat
@@ -33,11 +30,8 @@ IsBadNumber o seats =
 
 -- Opening: all of them or none, and why none.
 abbrev pub OpensAs : MvrluTableOptions → List MvrluTable → List MvrluTable → Status → Type 0
-OpensAs o old new Done = All IsClosed old × All IsOpen new × AreOpened (grown_of o (length old)) (map seat_in new)
-OpensAs o old new InUse = ¬ All IsClosed old × (new ≡ old)
-OpensAs o old new BadNumber = All IsClosed old × (new ≡ old) × IsBadNumber o (length old)
-OpensAs o old new NoMemory = All IsClosed old × (new ≡ old) × Checked (config_of (grown_of o (length old)))
-OpensAs o old new other = ⊥
+OpensAs o old new status =
+    OpensAll opened seat_in (AreOpened (grown_of o (length old))) (IsBadNumber o (length old)) (Checked (config_of (grown_of o (length old)))) old new status
 
 abbrev pub Opens : MvrluTableOptions → List MvrluTable → List MvrluTable → ℤ → Type 0
 Opens o old new code = (status : Status) × (code ≡ code_of status) × OpensAs o old new status

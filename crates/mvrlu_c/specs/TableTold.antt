@@ -1,6 +1,5 @@
 -- What a call on a growing set leaves, by the number that it answers.
-use Rattle.std.specs.Prelude.{◌≡◌, ℤ, true, false}
-use Rattle.crossbeam_utils.specs.Padded.{padded_value}
+use Rattle.std.specs.Prelude.{ℤ}
 use Rattle.mvrlu.specs.Meant.{seat_of}
 use Rattle.section_work.specs.Sections.{TriesOne}
 use Rattle.grow_hash.specs.declared.answer.Split.{Split}
@@ -10,8 +9,9 @@ use Rattle.grow_seats.specs.declared.command.GrowCommand.{GrowCommand}
 use Rattle.grow_seats.specs.declared.seat.GrowSeat.{GrowSeat}
 use Rattle.mvrlu_c.specs.declared.sets_reply.MvrluReply.{MvrluReply}
 use Rattle.mvrlu_c.specs.declared.status.Status.{Status}
-use Rattle.mvrlu_c.specs.declared.status.Status.TheVariants.{Closed}
 use Rattle.mvrlu_c.specs.declared.table_handle.MvrluTable.{MvrluTable}
+use Rattle.mvrlu_c.specs.OnHandle.{TellsCall}
+use Rattle.mvrlu_c.specs.TableOpening.{opened, seat_in}
 use Rattle.mvrlu_c.specs.Statuses.{code_of}
 use Rattle.mvrlu_c.specs.TableReplies.{step_told, split_told}
 
@@ -26,30 +26,17 @@ abbrev pub AnswersSplit : GrowSeat → GrowSeat → Split → Type 0
 AnswersSplit old new answer =
     Splits (seat_of old.seat) (seat_of new.seat) answer × GoesOn old.seat new.seat × TriesOne (seat_of old.seat) (seat_of new.seat)
 
--- nothing was done, for this reason
-abbrev pub IsRefused : {Out : Type 0} → Status → MvrluTable → MvrluTable → Out → Out → ℤ → Type 0
-IsRefused why old new before after code = (code ≡ code_of why) × (new ≡ old) × (after ≡ before)
-
--- The call was made on the seat, and this is told: an open seat is open still, and the command was attempted on it, with the reply and
--- the status of the answer; a closed one is as it was.
+-- The call was made on the seat, if that is open: the command was attempted on it, and its reply and its status are told.
 abbrev pub TellsCommand : GrowCommand → MvrluTable → MvrluTable → MvrluReply → MvrluReply → ℤ → Type 0
 TellsCommand command old new before after code =
-    (old.is_open ≡ false → IsRefused Closed old new before after code)
-    × (old.is_open ≡ true → (new.is_open ≡ true)
-    × ((answer : GrowStep) × Answers command (padded_value old.state) (padded_value new.state) answer × (after ≡ step_told answer)
-    × (code ≡ (step_told answer).status)))
+    TellsCall opened seat_in (Answers command) (λ answer. (step_told answer).status) step_told old new before after code
 
 -- The same of a split.
 abbrev pub TellsSplit : MvrluTable → MvrluTable → MvrluReply → MvrluReply → ℤ → Type 0
 TellsSplit old new before after code =
-    (old.is_open ≡ false → IsRefused Closed old new before after code)
-    × (old.is_open ≡ true → (new.is_open ≡ true)
-    × ((answer : Split) × AnswersSplit (padded_value old.state) (padded_value new.state) answer × (after ≡ split_told answer)
-    × (code ≡ (split_told answer).status)))
+    TellsCall opened seat_in AnswersSplit (λ answer. (split_told answer).status) split_told old new before after code
 
 -- The same of a call that asks the seat for something else.
 abbrev pub TellsSeat : {A Out : Type 0} → (GrowSeat → GrowSeat → A → Type 0) → (A → Status) → (A → Out) → MvrluTable → MvrluTable → Out → Out → ℤ → Type 0
-TellsSeat {A} Call status_of told old new before after code =
-    (old.is_open ≡ false → IsRefused Closed old new before after code)
-    × (old.is_open ≡ true → (new.is_open ≡ true)
-    × ((answer : A) × Call (padded_value old.state) (padded_value new.state) answer × (after ≡ told answer) × (code ≡ code_of (status_of answer))))
+TellsSeat Call status_of told old new before after code =
+    TellsCall opened seat_in Call (λ answer. code_of (status_of answer)) told old new before after code

@@ -9,7 +9,7 @@ use Rattle.object_seats.specs.declared.position.Misuse.{Misuse}
 use Rattle.object_seats.specs.declared.position.Vacancy.{Vacancy}
 use Rattle.object_seats.specs.declared.position.CommitResult.{CommitResult}
 use Rattle.object_seats.specs.declared.position.CommitResult.TheVariants as ended
-use Rattle.mvrlu_c.specs.declared.handle.MvrluSeat.{MvrluSeat}
+use Rattle.mvrlu_c.specs.declared.object_handle.MvrluSeat.{MvrluSeat}
 use Rattle.mvrlu_c.specs.declared.status.Status.{Status}
 use Rattle.mvrlu_c.specs.declared.status.Status.TheVariants.{Closed}
 use Rattle.mvrlu_c.specs.Statuses.{code_of, status_of}

@@ -4,7 +4,8 @@ ghost use Rattle.object_seats.specs.Calls as calls;
 ghost use Rattle.mvrlu_c.specs.Statuses.{status_of_lock, status_of_room, status_of_vacant, status_of_commit, done, told_by};
 ghost use Rattle.mvrlu_c.specs.Told.{Tells, told, pair_told, object_told, next_told, refused_by, time_told, live_told};
 
-use crate::handle::{MvrluSeat, on_open};
+use crate::handle::on_open;
+use crate::object_handle::MvrluSeat;
 use crate::status::{Status, of_commit, of_lock, of_misuse, of_room};
 use mv_history::{LockAnswer, Room};
 use object_seats::{CommitResult, Misuse, ObjectSeat, Vacancy};

@@ -5,7 +5,8 @@ ghost use Rattle.mvrlu_c.specs.Statuses.{done};
 ghost use Rattle.mvrlu_c.specs.Told.{Tells};
 ghost use Rattle.mvrlu_c.specs.Counted.{counts_in};
 
-use crate::handle::{MvrluSeat, on_open};
+use crate::handle::on_open;
+use crate::object_handle::MvrluSeat;
 use crate::sets_calls::MvrluCounts;
 use crate::status::{Status, of_misuse};
 use object_seats::ObjectSeat;

@@ -12,10 +12,10 @@
 //!
 //! **Choices.** A seat is 128 bytes, two lines, and what it points to is padded, so that threads write different ones.
 //! Open seats aren't copied: a caller couldn't tell them apart. Seats of objects, of sets and of a growing set are different structs, since
-//! no generic one crosses to C; four functions stand for each. A `std::optional<bool>` is true for a no, so C++
-//! doesn't answer one.
+//! no generic one crosses to C: each implements `Handle` by four functions, and all else is written once, over that trait. A
+//! `std::optional<bool>` is true for a no, so C++ doesn't answer one.
 //!
-//! It stands on `object_seats`, `set_seats` and `grow_seats`. `handle`, `sets_handle` and `table_handle` have the places where a pointer
+//! It stands on `object_seats`, `set_seats` and `grow_seats`. `object_handle`, `sets_handle` and `table_handle` have the places where a pointer
 //! becomes a block again.
 #![tactic(auto)]
 
@@ -24,6 +24,8 @@ mod closing;
 mod counting;
 mod handle;
 mod loose;
+mod object_handle;
+mod object_opening;
 mod opening;
 mod sets_block;
 mod sets_calls;
@@ -37,4 +39,4 @@ mod table_handle;
 mod table_opening;
 mod table_reply;
 
-pub use handle::MvrluSeat;
+pub use object_handle::MvrluSeat;

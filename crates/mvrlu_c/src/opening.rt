@@ -1,99 +1,26 @@
-// Opening a domain of objects.
-ghost use Rattle.std.specs.Prelude.{◌≡◌, ◌≢◌, length, map, true, false, All, IfOk};
+// Opening handles, of whatever kind: all of them or none.
+ghost use Rattle.std.specs.Prelude.{◌≡◌, length, map, true, false, All, IfOk, IfErr};
+ghost use Rattle.crossbeam_utils.specs.Padded.{padded_value};
 ghost use Rattle.mvrlu_c.specs.Held.{boxed};
-ghost use Rattle.mvrlu_c.specs.Opening.{IsClosed, IsOpen, Opens, OpensAs, config_of, seat_in};
 
-use crate::handle::MvrluSeat;
+use crate::handle::Handle;
 use crate::loose::Loose;
-use crate::status::Status;
 use core::mem::replace_with;
 use crossbeam_utils::CachePadded;
-use mv_layout::Config;
-use mvrlu::OpenFault;
-use object_seats::{ObjectSeat, open_seats};
 use std::alloc::{AllocError, Global};
 
-/// The numbers of a domain that a caller chooses.
-#[repr(C)]
-#[derive(Clone, Copy)]
-pub struct MvrluOptions {
-    /// How many bytes the caller's options have: 24.
-    pub size: u32,
-    /// How many objects, 1 to 16,777,216.
-    pub objects: u32,
-    /// How many slots the log of each seat has, 64 to 4,096.
-    pub slots: u32,
-    /// How many objects one section may lock, 1 to 64, and less than the slots.
-    pub write_max: u32,
-    /// The time of the opening state, 0 to `2^45 - 1`.
-    pub opening_time: u64,
-}
-
-const SIZE: u32 = 24;
-
-const MOST_SEATS: usize = 64;
-
-/// Opens a domain of objects that are all 0, with a seat for each handle, in order of number: all of them
-/// or none. All handles have to be closed.
-#[unsafe(no_mangle)]
-pub extern "C" fn mvrlu_raw_open(
-    alloc: Global,
-    options: &MvrluOptions,
-    handles: &mut [MvrluSeat],
-) -> i32
-    ensures { Opens options.now handles.old handles.new result }
-{
-    open_all(alloc, options, handles).code()
-}
-
-fn open_all(alloc: Global, options: &MvrluOptions, handles: &mut [MvrluSeat]) -> Status
-    ensures { OpensAs options.now handles.old handles.new result }
-{
-    if any_is_open(handles) {
-        return Status::InUse;
-    }
-    if options.size != SIZE || handles.len() > MOST_SEATS {
-        return Status::BadNumber;
-    }
-    let seats = match open_seats(alloc, numbers(options, handles.len() as u32)) {
-        Ok(seats) => seats,
-        Err(OpenFault::Config(_)) => return Status::BadNumber,
-        Err(OpenFault::Memory) => return Status::NoMemory,
-    };
-    match in_blocks(alloc, seats) {
-        Ok(blocks) => {
-            hand_out(handles, blocks);
-            Status::Done
-        }
-        Err(AllocError) => Status::NoMemory,
-    }
-}
-
-// The numbers of the domain.
-fn numbers(options: &MvrluOptions, seats: u32) -> Config
-    ensures { result ≡ config_of options.now seats }
-{
-    let high = options.slots.saturating_sub(options.write_max);
-    Config {
-        seats,
-        objects: options.objects,
-        slots: options.slots,
-        write_max: options.write_max,
-        low: (high / 2).max(1),
-        high,
-        base: options.opening_time,
-    }
-}
+/// How many seats a domain has at most.
+pub(crate) const MOST_SEATS: usize = 64;
 
 // Whether the handle is open. It stays as it is.
-fn is_open(handle: &mut MvrluSeat) -> bool
-    ensures { (result ≡ handle.old.is_open) × (handle.new ≡ handle.old) }
+fn is_open<H: Handle>(handle: &mut H) -> bool
+    ensures { (result ≡ H.is_open handle.old) × (handle.new ≡ handle.old) }
 {
     replace_with(
         handle,
         (),
-        |handle: MvrluSeat, _none: ()|
-            ensures { (result.1 ≡ handle.is_open) × (result.0 ≡ handle) }
+        |handle: H, _none: ()|
+            ensures { (result.1 ≡ H.is_open handle) × (result.0 ≡ handle) }
         {
             let (open, handle) = handle.with_open();
             (handle, open)
@@ -101,10 +28,10 @@ fn is_open(handle: &mut MvrluSeat) -> bool
     )
 }
 
-// Whether one of the handles is open. They stay as they are.
-fn any_is_open(handles: &mut [MvrluSeat]) -> bool
-    ensures none { result ≡ false → All IsClosed handles.old }
-    ensures some { result ≡ true → ¬ All IsClosed handles.old }
+/// Whether one of the handles is open. They stay as they are.
+pub(crate) fn any_is_open<H: Handle>(handles: &mut [H]) -> bool
+    ensures none { result ≡ false → All (λ h. H.is_open h ≡ false) handles.old }
+    ensures some { result ≡ true → ¬ All (λ h. H.is_open h ≡ false) handles.old }
     ensures as_before { handles.new ≡ handles.old }
 {
     match handles.split_first_mut() {
@@ -114,10 +41,10 @@ fn any_is_open(handles: &mut [MvrluSeat]) -> bool
 }
 
 // The seats, each in a block of its own with cache lines of its own, in their order.
-fn in_blocks(
+fn in_blocks<S: Drop>(
     alloc: Global,
-    mut seats: Vec<ObjectSeat>,
-) -> Result<Vec<Box<CachePadded<ObjectSeat>>>, AllocError>
+    mut seats: Vec<S>,
+) -> Result<Vec<Box<CachePadded<S>>>, AllocError>
     ensures { IfOk result (λ blocks. map boxed blocks.items ≡ seats.items) }
 {
     let mut blocks = Vec::with_capacity(alloc, seats.len())?;
@@ -128,16 +55,31 @@ fn in_blocks(
 }
 
 // Gives each handle a block, in their order. There are as many.
-fn hand_out(handles: &mut [MvrluSeat], mut blocks: Vec<Box<CachePadded<ObjectSeat>>>)
+fn hand_out<H: Handle>(handles: &mut [H], mut blocks: Vec<Box<CachePadded<H::Seat>>>)
     requires many { length handles.old ≡ length blocks.items }
-    ensures open { All IsOpen handles.new }
-    ensures seats { map seat_in handles.new ≡ map boxed blocks.items }
+    ensures open { All (λ h. H.is_open h ≡ true) handles.new }
+    ensures seats { map (λ h. padded_value (H.state h)) handles.new ≡ map boxed blocks.items }
 {
     if let Some((first, others)) = handles.split_first_mut() {
         if blocks.is_empty() {
             return;
         }
-        *first = MvrluSeat::seal(Loose::of(blocks.remove(0)));
+        *first = H::seal(Loose::of(blocks.remove(0)));
         hand_out(others, blocks);
     }
+}
+
+/// Gives each handle a seat, in their order. There are as many.
+pub(crate) fn give_seats<H: Handle>(
+    alloc: Global,
+    handles: &mut [H],
+    seats: Vec<H::Seat>,
+) -> Result<(), AllocError>
+    requires many { length handles.old ≡ length seats.items }
+    ensures given { IfOk result (λ _. All (λ h. H.is_open h ≡ true) handles.new × (map (λ h. padded_value (H.state h)) handles.new ≡ seats.items)) }
+    ensures as_before { IfErr result (λ _. handles.new ≡ handles.old) }
+{
+    let blocks = in_blocks(alloc, seats)?;
+    hand_out(handles, blocks);
+    Ok(())
 }

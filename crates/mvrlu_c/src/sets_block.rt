@@ -4,7 +4,8 @@ ghost use Rattle.mvrlu_c.specs.SetReplies.{told_at};
 ghost use Rattle.mvrlu_c.specs.SetsBlock.{AnswersBlock, AsMany, IsBlockOf, IsNoBlock, TellsBlock};
 ghost use Rattle.mvrlu_c.specs.SetsBlock.{block_told, command_said, in_set, move_said, pair_said, status_of_all, status_of_block};
 
-use crate::sets_handle::{MvrluSets, on_sets};
+use crate::handle::on_open;
+use crate::sets_handle::MvrluSets;
 use crate::sets_reply::{MvrluReply, done_at, given_up, of_cause};
 use crate::status::Status;
 use section_work::Place;
@@ -209,7 +210,7 @@ pub extern "C" fn mvrlu_raw_sets_block(
         Ok(block) => block,
         Err(why) => return why.code(),
     };
-    let answer = on_sets(
+    let answer = on_open(
         alloc,
         sets,
         &block,

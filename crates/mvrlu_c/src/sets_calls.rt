@@ -1,13 +1,15 @@
 // The calls of C on one seat of the sets.
-ghost use Rattle.std.specs.Prelude.{◌≡◌, ◌≢◌, ◌<◌, ◌≤◌, ◌⊎◌, false};
+ghost use Rattle.std.specs.Prelude.{◌≡◌, ◌≢◌, ◌<◌, ◌≤◌, ◌⊎◌};
 ghost use Rattle.mvrlu.specs.Meant.{seat_of};
 ghost use Rattle.set_script.specs.declared.commands.Command.TheVariants as command;
 ghost use Rattle.set_seats.specs.Calls.{Tidies, Counts};
-ghost use Rattle.mvrlu_c.specs.SetsTold.{Answers, IsRefused, TellsCommand, TellsSeat, live_told, counts_told};
+ghost use Rattle.mvrlu_c.specs.OnHandle.{IsRefused};
+ghost use Rattle.mvrlu_c.specs.SetsTold.{Answers, TellsCommand, TellsSeat, live_told, counts_told};
 ghost use Rattle.mvrlu_c.specs.Statuses.{done};
 ghost use Rattle.mvrlu_c.specs.declared.status.Status.TheVariants.{BadSet, SameSet};
 
-use crate::sets_handle::{MvrluSets, on_sets};
+use crate::handle::on_open;
+use crate::sets_handle::MvrluSets;
 use crate::sets_reply::{MvrluReply, told};
 use crate::status::Status;
 use set_script::{Command, Name};
@@ -18,7 +20,7 @@ use std::alloc::Global;
 fn attempt(alloc: Global, sets: &mut MvrluSets, command: &Command, reply: &mut MvrluReply) -> i32
     ensures tells { TellsCommand command.now sets.old sets.new reply.old reply.new result }
 {
-    let answer = on_sets(
+    let answer = on_open(
         alloc,
         sets,
         command,
@@ -218,7 +220,7 @@ pub extern "C" fn mvrlu_raw_sets_pair(
 pub extern "C" fn mvrlu_raw_sets_tidy(alloc: Global, sets: &mut MvrluSets, live: &mut u32) -> i32
     ensures tells { TellsSeat (λ s t a. Tidies s.seat t.seat a) done live_told sets.old sets.new live.old live.new result }
 {
-    let answer = on_sets(
+    let answer = on_open(
         alloc,
         sets,
         (),
@@ -263,7 +265,7 @@ pub extern "C" fn mvrlu_raw_sets_counts(
     ensures tells { TellsSeat (λ s t a. Counts s.seat a × (seat_of t.seat ≡ seat_of s.seat)) done counts_told sets.old sets.new
         counts.old counts.new result }
 {
-    let answer = on_sets(
+    let answer = on_open(
         alloc,
         sets,
         (),

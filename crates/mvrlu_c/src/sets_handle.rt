@@ -1,12 +1,11 @@
 // What C holds of a seat of the sets.
-ghost use Rattle.std.specs.Prelude.{◌≡◌, true, false, None, MatchOption};
-ghost use Rattle.crossbeam_utils.specs.Padded.{padded_value};
+ghost use Rattle.std.specs.Prelude.{◌≡◌, true, false};
 ghost use Rattle.crossbeam_utils.specs.declared.cache_padded.CachePadded.{CachePadded as Padded};
 ghost use Rattle.set_seats.specs.declared.seat.SetSeat.{SetSeat};
 ghost use Rattle.mvrlu_c.specs.Held.{sets_row};
 
+use crate::handle::Handle;
 use crate::loose::Loose;
-use core::mem::replace_with;
 use crossbeam_utils::CachePadded;
 use set_seats::SetSeat;
 use std::alloc::Global;
@@ -23,14 +22,20 @@ pub struct MvrluSets {
 }
 
 impl Model for MvrluSets {
-    ghost use Rattle.mvrlu_c.specs.Held.{sets_held_if};
+    ghost use Rattle.mvrlu_c.specs.Held.{held_if, sets_row};
 
-    ghost also_owns = { λ h. sets_held_if h.is_open h.at h.state };
+    ghost also_owns = { λ h. held_if sets_row h.is_open h.at h.state };
 }
 
-impl MvrluSets {
+impl Handle for MvrluSets {
+    type Seat = SetSeat;
+
+    ghost is_open = { λ h. h.is_open };
+
+    ghost state = { λ h. h.state };
+
     // Whether it is open, and the handle again.
-    pub(crate) fn with_open(self) -> (bool, MvrluSets)
+    fn with_open(self) -> (bool, MvrluSets)
         ensures { (result.0 ≡ self.is_open) × (result.1 ≡ self) }
     {
         let MvrluSets { is_open, at } = self;
@@ -38,7 +43,7 @@ impl MvrluSets {
     }
 
     // A closed one. The seat gives the proof a value to name.
-    pub(crate) fn closed(_last: &CachePadded<SetSeat>) -> MvrluSets
+    fn closed(_last: &CachePadded<SetSeat>) -> MvrluSets
         ensures { result.is_open ≡ false }
     {
         MvrluSets {
@@ -48,7 +53,7 @@ impl MvrluSets {
     }
 
     // The box behind one that is open.
-    pub(crate) fn unseal(self, alloc: Global) -> Loose<CachePadded<SetSeat>, Global>
+    fn unseal(self, alloc: Global) -> Loose<CachePadded<SetSeat>, Global>
         requires { self.is_open ≡ true }
         ensures { result.value ≡ self.state }
     {
@@ -60,7 +65,7 @@ impl MvrluSets {
     }
 
     // An open one with this box.
-    pub(crate) fn seal(loose: Loose<CachePadded<SetSeat>, Global>) -> MvrluSets
+    fn seal(loose: Loose<CachePadded<SetSeat>, Global>) -> MvrluSets
         ensures { (result.is_open ≡ true) × (result.state ≡ loose.value) }
     {
         let Loose { at, alloc: _ } = loose;
@@ -72,38 +77,3 @@ impl MvrluSets {
 }
 
 unsafe impl Send for MvrluSets {}
-
-/// Makes a call on the seat of an open handle, in its place. None where the handle is closed; then nothing
-/// is done.
-#[inline(always)]
-pub(crate) fn on_sets<X: Drop, R, F: FnOnce(SetSeat, X) -> (SetSeat, R) + Drop>(
-    alloc: Global,
-    handle: &mut MvrluSets,
-    argument: X,
-    call: F,
-) -> Option<R>
-    requires callable { F.IsAlwaysCallable call }
-    ensures closed { handle.old.is_open ≡ false → (result ≡ None) × (handle.new ≡ handle.old) }
-    ensures open { handle.old.is_open ≡ true → (handle.new.is_open ≡ true)
-        × MatchOption result ⊥ (λ r. F.post call (padded_value handle.old.state) argument (padded_value handle.new.state, r)) }
-{
-    replace_with(
-        handle,
-        (argument, call),
-        |handle: MvrluSets, given: (X, F)|
-            requires callable { F.IsAlwaysCallable given.1 }
-            ensures closed { handle.is_open ≡ false → (result.1 ≡ None) × (result.0 ≡ handle) }
-            ensures open { handle.is_open ≡ true → (result.0.is_open ≡ true)
-                × MatchOption result.1 ⊥ (λ r. F.post given.1 (padded_value handle.state) given.0 (padded_value result.0.state, r)) }
-        {
-            let (open, handle) = handle.with_open();
-            if !open {
-                return (handle, None);
-            }
-            let (argument, call) = given;
-            let mut block = handle.unseal(alloc).into_box();
-            let answer = replace_with(&mut **block, argument, call);
-            (MvrluSets::seal(Loose::of(block)), Some(answer))
-        },
-    )
-}

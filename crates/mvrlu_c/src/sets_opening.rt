@@ -1,14 +1,11 @@
 // Opening a domain of the sets.
-ghost use Rattle.std.specs.Prelude.{◌≡◌, ◌≢◌, length, map, true, false, All, IfOk};
-ghost use Rattle.mvrlu_c.specs.Held.{boxed};
-ghost use Rattle.mvrlu_c.specs.SetsOpening.{IsClosed, IsOpen, Opens, OpensAs, sets_of, seat_in};
+ghost use Rattle.std.specs.Prelude.{◌≡◌};
+ghost use Rattle.mvrlu_c.specs.SetsOpening.{Opens, OpensAs, sets_of};
 
-use crate::loose::Loose;
+use crate::opening::{MOST_SEATS, any_is_open, give_seats};
 use crate::sets_handle::MvrluSets;
 use crate::status::Status;
-use core::mem::replace_with;
-use crossbeam_utils::CachePadded;
-use set_seats::{OpenSets, SetSeat, SetsFault, open_set_seats};
+use set_seats::{OpenSets, SetsFault, open_set_seats};
 use std::alloc::{AllocError, Global};
 
 /// The numbers of a domain of the sets that a caller chooses.
@@ -26,8 +23,6 @@ pub struct MvrluSetsOptions {
 }
 
 const SIZE: u32 = 24;
-
-const MOST_SEATS: usize = 64;
 
 /// Opens a domain of the thirty sets, all empty, with a seat for each handle, in order of number: all of them
 /// or none. All handles have to be closed.
@@ -56,11 +51,8 @@ fn open_all(alloc: Global, options: &MvrluSetsOptions, handles: &mut [MvrluSets]
         Err(SetsFault::Objects | SetsFault::Config(_)) => return Status::BadNumber,
         Err(SetsFault::Memory) => return Status::NoMemory,
     };
-    match in_blocks(alloc, seats) {
-        Ok(blocks) => {
-            hand_out(handles, blocks);
-            Status::Done
-        }
+    match give_seats(alloc, handles, seats) {
+        Ok(()) => Status::Done,
         Err(AllocError) => Status::NoMemory,
     }
 }
@@ -74,62 +66,5 @@ fn numbers(options: &MvrluSetsOptions, seats: u32) -> OpenSets
         objects: options.objects,
         slots: options.slots,
         opening_time: options.opening_time,
-    }
-}
-
-// Whether the handle is open. It stays as it is.
-fn is_open(handle: &mut MvrluSets) -> bool
-    ensures { (result ≡ handle.old.is_open) × (handle.new ≡ handle.old) }
-{
-    replace_with(
-        handle,
-        (),
-        |handle: MvrluSets, _none: ()|
-            ensures { (result.1 ≡ handle.is_open) × (result.0 ≡ handle) }
-        {
-            let (open, handle) = handle.with_open();
-            (handle, open)
-        },
-    )
-}
-
-// Whether one of the handles is open. They stay as they are.
-fn any_is_open(handles: &mut [MvrluSets]) -> bool
-    ensures none { result ≡ false → All IsClosed handles.old }
-    ensures some { result ≡ true → ¬ All IsClosed handles.old }
-    ensures as_before { handles.new ≡ handles.old }
-{
-    match handles.split_first_mut() {
-        None => false,
-        Some((first, others)) => is_open(first) || any_is_open(others),
-    }
-}
-
-// The seats, each in a block of its own with cache lines of its own, in their order.
-fn in_blocks(
-    alloc: Global,
-    mut seats: Vec<SetSeat>,
-) -> Result<Vec<Box<CachePadded<SetSeat>>>, AllocError>
-    ensures { IfOk result (λ blocks. map boxed blocks.items ≡ seats.items) }
-{
-    let mut blocks = Vec::with_capacity(alloc, seats.len())?;
-    while !seats.is_empty() {
-        blocks.push_reserved(Box::new(alloc, CachePadded::new(seats.remove(0)))?);
-    }
-    Ok(blocks)
-}
-
-// Gives each handle a block, in their order. There are as many.
-fn hand_out(handles: &mut [MvrluSets], mut blocks: Vec<Box<CachePadded<SetSeat>>>)
-    requires many { length handles.old ≡ length blocks.items }
-    ensures open { All IsOpen handles.new }
-    ensures seats { map seat_in handles.new ≡ map boxed blocks.items }
-{
-    if let Some((first, others)) = handles.split_first_mut() {
-        if blocks.is_empty() {
-            return;
-        }
-        *first = MvrluSets::seal(Loose::of(blocks.remove(0)));
-        hand_out(others, blocks);
     }
 }

@@ -3,7 +3,8 @@ ghost use Rattle.std.specs.Prelude.{◌≡◌, ◌<◌, ◌≤◌, IfOk};
 ghost use Rattle.mvrlu_c.specs.SetsWalk.{IsNoWalk, TellsWalk, Walks, key_or_none, walk_told};
 ghost use Rattle.mvrlu_c.specs.declared.status.Status.TheVariants.{BadSet};
 
-use crate::sets_handle::{MvrluSets, on_sets};
+use crate::handle::on_open;
+use crate::sets_handle::MvrluSets;
 use crate::status::Status;
 use set_script::Name;
 use set_seats::{Entry, SetSeat, Walked};
@@ -76,7 +77,7 @@ pub extern "C" fn mvrlu_raw_sets_walk(
     let Ok(room) = copy_of(alloc, entries) else {
         return Status::NoMemory.code();
     };
-    let answer = on_sets(
+    let answer = on_open(
         alloc,
         sets,
         (name, from, room),

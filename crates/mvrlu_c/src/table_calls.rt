@@ -7,10 +7,11 @@ ghost use Rattle.mvrlu_c.specs.SetsTold.{live_told, counts_told};
 ghost use Rattle.mvrlu_c.specs.TableTold.{Answers, AnswersSplit, TellsCommand, TellsSplit, TellsSeat};
 ghost use Rattle.mvrlu_c.specs.Statuses.{done};
 
+use crate::handle::on_open;
 use crate::sets_calls::MvrluCounts;
 use crate::sets_reply::MvrluReply;
 use crate::status::Status;
-use crate::table_handle::{MvrluTable, on_table};
+use crate::table_handle::MvrluTable;
 use crate::table_reply::{split_told, step_told};
 use grow_seats::{GrowCommand, GrowSeat};
 use std::alloc::Global;
@@ -24,7 +25,7 @@ fn attempt(
 ) -> i32
     ensures tells { TellsCommand command table.old table.new reply.old reply.new result }
 {
-    let answer = on_table(
+    let answer = on_open(
         alloc,
         table,
         command,
@@ -109,7 +110,7 @@ pub extern "C" fn mvrlu_raw_table_size(
 fn split(alloc: Global, table: &mut MvrluTable, reply: &mut MvrluReply) -> i32
     ensures tells { TellsSplit table.old table.new reply.old reply.new result }
 {
-    let answer = on_table(
+    let answer = on_open(
         alloc,
         table,
         (),
@@ -143,7 +144,7 @@ pub extern "C" fn mvrlu_raw_table_split(
 pub extern "C" fn mvrlu_raw_table_tidy(alloc: Global, table: &mut MvrluTable, live: &mut u32) -> i32
     ensures tells { TellsSeat (λ s t a. Tidies s.seat t.seat a) done live_told table.old table.new live.old live.new result }
 {
-    let answer = on_table(
+    let answer = on_open(
         alloc,
         table,
         (),
@@ -170,7 +171,7 @@ pub extern "C" fn mvrlu_raw_table_counts(
     ensures tells { TellsSeat (λ s t a. Counts s.seat a × (seat_of t.seat ≡ seat_of s.seat)) done counts_told table.old table.new
         counts.old counts.new result }
 {
-    let answer = on_table(
+    let answer = on_open(
         alloc,
         table,
         (),

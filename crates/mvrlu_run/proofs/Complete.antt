@@ -8,7 +8,6 @@ use Rattle.run_words.specs.Words.{Asks, run, gen, work, block, pool, grow, repla
 use Rattle.set_script.proofs.Times.{lawful_after}
 use Rattle.run_ends.proofs.set_blocks_lemmas.Remaining.{lawful_after as lawful_blocks}
 use Rattle.run_ends.specs.script_files.declared.stop.Stop.{Stop}
-use Rattle.run_ends.specs.script_files.declared.stop.Stop.TheVariants.{Read}
 use Rattle.run_ends.specs.script_files.Reading.{AreTold}
 use Rattle.run_ends.specs.script_files.Scripts.{AllScripts, AnyStop, IsLong, IsRefused, KindOf, ScriptOf, StopsAt, grammar_of}
 use Rattle.run_ends.proofs.script_files_lemmas.Refused.{Spoils, ok_is_no_err, fault_spoils, length_spoils}

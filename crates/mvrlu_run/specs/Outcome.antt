@@ -16,7 +16,6 @@ use Rattle.run_ends.specs.declared.finish.Finish.TheVariants.{Done, Usage, Limit
 use Rattle.run_ends.specs.declared.finish.Ran.{Ran}
 use Rattle.run_ends.specs.Sent.{Sent}
 use Rattle.run_ends.specs.Status.{IsOrMemory, status_of, closed_of, kind_status, stop_line, line_of}
-use Rattle.run_ends.specs.script_files.declared.stop.Stop.{Stop}
 use Rattle.run_ends.specs.script_files.declared.stop.Stop.TheVariants.{Read}
 use Rattle.run_ends.specs.script_files.Reading.{AreTold}
 use Rattle.run_ends.specs.script_files.Scripts.{AllScripts, ScriptOf, KindOf, grammar_of, StopsAt, IsRefused, IsLong, AnyStop, IsFirstFailed, NoneFails}

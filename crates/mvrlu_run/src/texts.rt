@@ -14,7 +14,7 @@ use run_outside::{Files, Gate};
 use run_words::Request;
 use script_gen::text;
 use script_run::{make_run, work_text};
-use std::alloc::{AllocError, Global};
+use std::alloc::Global;
 use std::sync::Wait;
 use std::thread::Threads;
 
@@ -43,57 +43,41 @@ pub fn make_text<R: Threads + Wait + Sync, F: Files, G: Gate>(
         Request::Run {
             options,
             files: names,
-        } => match make_run(rt, alloc, options, names, files, gate) {
-            Ok((text, closing)) => Ok(Made {
-                text,
-                closed: Closed::Sets(closing),
-            }),
-            Err(stop) => Err(stop),
-        },
-        Request::Gen { number, seat } => match text(alloc, number, seat) {
-            Ok(text) => Ok(Made {
-                text,
-                closed: Closed::No,
-            }),
-            Err(AllocError) => Err(Stop::Memory),
-        },
-        Request::Block { files: names } => match make_blocks(rt, alloc, names, files, gate) {
-            Ok((text, closing)) => Ok(Made {
-                text,
-                closed: Closed::Blocks(closing),
-            }),
-            Err(stop) => Err(stop),
-        },
+        } => {
+            let (text, closing) = make_run(rt, alloc, options, names, files, gate)?;
+            let closed = Closed::Sets(closing);
+            Ok(Made { text, closed })
+        }
+        Request::Gen { number, seat } => Ok(Made {
+            text: text(alloc, number, seat)?,
+            closed: Closed::No,
+        }),
+        Request::Block { files: names } => {
+            let (text, closing) = make_blocks(rt, alloc, names, files, gate)?;
+            let closed = Closed::Blocks(closing);
+            Ok(Made { text, closed })
+        }
         Request::Pool {
             seats,
             files: names,
-        } => match make_pool(rt, alloc, seats, names, files, gate) {
-            Ok((text, closing)) => Ok(Made {
-                text,
-                closed: Closed::Sets(closing),
-            }),
-            Err(stop) => Err(stop),
-        },
-        Request::Grow { files: names } => match make_grown(rt, alloc, names, files, gate) {
-            Ok((text, closing)) => Ok(Made {
-                text,
-                closed: Closed::Grown(closing),
-            }),
-            Err(stop) => Err(stop),
-        },
-        Request::Replay { files: names } => match make_replay(alloc, names, files) {
-            Ok(text) => Ok(Made {
-                text,
-                closed: Closed::No,
-            }),
-            Err(stop) => Err(stop),
-        },
-        Request::Work { number } => match work_text(rt, alloc, number, gate) {
-            Ok((text, closing)) => Ok(Made {
-                text,
-                closed: Closed::Sets(closing),
-            }),
-            Err(AllocError) => Err(Stop::Memory),
-        },
+        } => {
+            let (text, closing) = make_pool(rt, alloc, seats, names, files, gate)?;
+            let closed = Closed::Sets(closing);
+            Ok(Made { text, closed })
+        }
+        Request::Grow { files: names } => {
+            let (text, closing) = make_grown(rt, alloc, names, files, gate)?;
+            let closed = Closed::Grown(closing);
+            Ok(Made { text, closed })
+        }
+        Request::Replay { files: names } => Ok(Made {
+            text: make_replay(alloc, names, files)?,
+            closed: Closed::No,
+        }),
+        Request::Work { number } => {
+            let (text, closing) = work_text(rt, alloc, number, gate)?;
+            let closed = Closed::Sets(closing);
+            Ok(Made { text, closed })
+        }
     }
 }

@@ -1,4 +1,5 @@
 // Scripts of blocks: the text that they give, and what is no script of blocks.
+use crate::comparing::must;
 use crate::row::{PLAIN, REFUSED, Row, expect_print, run_refused, run_row, run_rows};
 use mvrlu_run::Closed;
 use std::test::Fail;
@@ -164,6 +165,10 @@ fn two_seats_leave_the_domain_of_their_blocks(rt: HostRuntime) -> Result<(), Fai
         TWO_SEATS,
         b"",
     )?;
-    assert!(rt; matches!(&closed, Closed::Blocks(_)));
+    must(
+        &rt,
+        matches!(&closed, Closed::Blocks(_)),
+        "a domain of blocks",
+    );
     Ok(())
 }

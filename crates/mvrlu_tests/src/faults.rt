@@ -1,4 +1,5 @@
 // What fails outside, and what is wrong with a script.
+use crate::comparing::must;
 use crate::row::{PLAIN, REFUSED, Row, Text, expect_print, run_refused, run_row, run_rows};
 use std::alloc::Global;
 use std::process::Abort;
@@ -125,7 +126,7 @@ fn run_failing_write<R: Abort + Threads + Wait + Sync>(
     alloc: Global,
     written: usize,
 ) -> Result<(), Fail> {
-    assert!(rt; written < PLAIN.out.len());
+    must(rt, written < PLAIN.out.len(), "a part of the output");
     let row = Row {
         name: "a failing write",
         out_fails: &[written as u64 + 1],

@@ -1,4 +1,5 @@
 // Gates: one is called around each command, and others hold one seat for another.
+use crate::comparing::{assert_same, must};
 use crate::row::{PLAIN, Text, print_texts, run_text};
 use crate::texts::has_no_worn_of_8000;
 use run_outside::Gate;
@@ -42,7 +43,8 @@ fn the_gate_is_called_around_each_command(rt: HostRuntime) -> Result<(), Fail> {
         calls: AtomicU64::new(0),
     };
     run_text(&rt, rt.alloc(), &PLAIN, PLAIN.script, &gate)?;
-    assert_eq!(rt; gate.calls.load(Ordering::SeqCst), 1234);
+    let calls = gate.calls.load(Ordering::SeqCst);
+    assert_same(&rt, &calls, &1234, "calls of the gate");
     Ok(())
 }
 
@@ -102,17 +104,15 @@ fn print_held<R: Threads + Wait + Abort + Sync>(
         }),
     };
     let printed = print_texts(rt, alloc, words, texts, &gate)?;
-    assert_eq!(rt; printed.status, 0);
+    assert_same(rt, &printed.status, &0, "the status");
     let HoldGate {
         rt: _,
         held: _,
         other: _,
         seen,
     } = gate;
-    assert!(rt;
-        !seen.into_inner().ran_out,
-        "the seats ran one after another"
-    );
+    let waited = !seen.into_inner().ran_out;
+    must(rt, waited, "the seats run at once");
     Ok(printed.out.bytes().to_vec(alloc)?)
 }
 
@@ -126,7 +126,12 @@ fn expect_held<R: Threads + Wait + Abort + Sync>(
 ) -> Result<(), Fail> {
     for (held, start) in starts {
         let text = print_held(rt, alloc, *held, words, texts)?;
-        assert!(rt; text.starts_with(start), "seat {held} waits");
+        assert_same(
+            rt,
+            &(*held, text.starts_with(start)),
+            &(*held, true),
+            "the seat that waits",
+        );
     }
     Ok(())
 }
@@ -169,7 +174,11 @@ fn either_of_two_files_of_blocks_waits_for_the_other(rt: HostRuntime) -> Result<
 fn generated_work_gives_one_text(rt: HostRuntime) -> Result<(), Fail> {
     let first = print_held(&rt, rt.alloc(), 0, &["work", "1"], &[])?;
     let second = print_held(&rt, rt.alloc(), 1, &["work", "1"], &[])?;
-    assert_eq!(rt; first.as_slice(), second.as_slice());
-    assert!(rt; has_no_worn_of_8000(&first));
+    assert_same(&rt, &first, &second, "two texts of one work");
+    must(
+        &rt,
+        has_no_worn_of_8000(&first),
+        "8,000 replies, none of them worn",
+    );
     Ok(())
 }

@@ -1,4 +1,5 @@
 // Scripts on a growing set: the text that they give, and what is no such script.
+use crate::comparing::must;
 use crate::row::{PLAIN, Row, expect_print, run_refused, run_rows};
 use mvrlu_run::Closed;
 use std::test::Fail;
@@ -86,6 +87,10 @@ fn two_seats_leave_the_domain_of_their_growing_set(rt: HostRuntime) -> Result<()
         TWO_SEATS,
         b"",
     )?;
-    assert!(rt; matches!(&closed, Closed::Grown(_)));
+    must(
+        &rt,
+        matches!(&closed, Closed::Grown(_)),
+        "a domain of a growing set",
+    );
     Ok(())
 }

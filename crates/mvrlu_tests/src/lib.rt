@@ -11,6 +11,8 @@
 #[cfg(test)]
 mod blocks;
 #[cfg(test)]
+mod comparing;
+#[cfg(test)]
 mod faults;
 #[cfg(test)]
 mod gates;

@@ -1,4 +1,5 @@
 // The limits of words, bytes and commands.
+use crate::comparing::assert_same;
 use crate::row::{PLAIN, Row, ZERO, owned, print, run_refused, run_text};
 use run_outside::OpenGate;
 use std::alloc::{AllocError, Global};
@@ -105,8 +106,8 @@ fn files_are_limited(rt: HostRuntime) -> Result<(), Fail> {
         words.push(String::from_str(alloc, "b")?)?;
     }
     let printed = print(&rt, alloc, &words, Vec::new(alloc), &OpenGate)?;
-    assert_eq!(rt; printed.status, 4);
-    assert_eq!(rt; printed.err.bytes(), b"limit: files\n".as_slice());
+    let found = (printed.status, printed.err.bytes());
+    assert_same(&rt, &found, &(4, b"limit: files\n".as_slice()), "65 files");
     Ok(())
 }
 

@@ -1,7 +1,8 @@
 // Pools: one file, whose commands any of several seats takes.
+use crate::comparing::{assert_same, must};
 use crate::limits::USAGE;
 use crate::row::{PLAIN, REFUSED, Row, print_texts, run_refused, run_row};
-use crate::texts::{count_ends, sum_after};
+use crate::texts::{count_ends, count_starts, number_in, sum_after};
 use mvrlu_run::Closed;
 use run_outside::{Gate, OpenGate};
 use std::alloc::Global;
@@ -82,19 +83,35 @@ fn three_seats_do_300_commands_once(rt: HostRuntime) -> Result<(), Fail> {
     let (script, set) = adds(rt.alloc(), 300)?;
     let texts = [("a", script.as_str().as_bytes())];
     let printed = print_texts(&rt, rt.alloc(), &["pool", "3", "a"], &texts, &OpenGate)?;
-    assert_eq!(rt; printed.status, 0);
-    assert!(rt; matches!(&printed.closed, Closed::Sets(_)));
+    assert_same(&rt, &printed.status, &0, "the status");
+    must(
+        &rt,
+        matches!(&printed.closed, Closed::Sets(_)),
+        "a domain of sets",
+    );
     expect_300(&rt, printed.out.bytes(), &set);
+    expect_own_lines(&rt, printed.out.bytes());
     Ok(())
+}
+
+// How the lines of each seat begin, and its table.
+static SEATS: [(&str, &str); 3] = [("0.", "log 0 "), ("1.", "log 1 "), ("2.", "log 2 ")];
+
+// Looks that each seat has as many lines as commits, of a pool whose every line is a commit.
+fn expect_own_lines(rt: &impl Abort, text: &[u8]) {
+    for (lines, table) in &SEATS {
+        let count = count_starts(text, lines);
+        assert_eq!(rt; number_in(text, table, "commits"), Some(count), "{table}");
+    }
 }
 
 // Looks that each command was done once, and at the line of the set.
 fn expect_300(rt: &impl Abort, text: &[u8], set: &str) {
-    assert_eq!(rt; count_ends(text, " yes"), 300);
-    assert_eq!(rt; count_ends(text, ""), 304);
-    assert_eq!(rt; sum_after(text, "commits"), 300);
+    let lines = (count_ends(text, " yes"), count_ends(text, ""));
+    assert_same(rt, &lines, &(300, 304), "lines of yes, and all");
+    assert_same(rt, &sum_after(text, "commits"), &300, "commits");
     let text = str::from_utf8(text).ok().unwrap_or("");
-    assert!(rt; text.contains(set));
+    must(rt, text.contains(set), "the line of the set");
 }
 
 // How often a held worker looks whether the others are done.
@@ -148,15 +165,17 @@ fn hold<R: Threads + Wait + Abort + Sync>(rt: &R, alloc: Global, held: u32) -> R
         }),
     };
     let printed = print_texts(rt, alloc, &["pool", "2", "a"], &[("a", FIVE)], &gate)?;
-    assert_eq!(rt; printed.status, 0);
+    assert_same(rt, &printed.status, &0, "the status");
     let HoldGate {
         rt: _,
         held: _,
         seen,
     } = gate;
-    assert!(rt;
-        !seen.into_inner().ran_out,
-        "one seat did all, or the commands were shared out beforehand"
+    let waited = !seen.into_inner().ran_out;
+    must(
+        rt,
+        waited,
+        "each of two seats takes a command while the other one is held",
     );
     Ok(())
 }

@@ -1,4 +1,5 @@
 // Replays: the text of a given schedule, and what is no plan.
+use crate::comparing::{assert_same, must};
 use crate::limits::{USAGE, line_ends};
 use crate::row::{
     PLAIN, Printed, REFUSED, Row, named, owned, print, run_refused, run_rows, run_text,
@@ -309,16 +310,19 @@ fn as_many_steps_as_may_be_are_replayed_on_no_domain(rt: HostRuntime) -> Result<
         out,
         err,
     } = print(&rt, alloc, &words, texts, &OpenGate)?;
-    assert_eq!(rt; status, 0);
-    assert!(rt; matches!(&closed, Closed::No));
-    assert_eq!(rt; err.bytes(), b"".as_slice());
+    assert_same(&rt, &(status, err.bytes()), &(0, b"".as_slice()), "the end");
+    must(&rt, matches!(&closed, Closed::No), "no domain");
     expect_idle(&rt, out.bytes());
     Ok(())
 }
 
 // Looks that as many turns as may be are idle.
 fn expect_idle(rt: &impl Abort, text: &[u8]) {
-    assert_eq!(rt; text.len(), 65_536 * 7 + 6);
-    assert!(rt; text.starts_with(b"0 idle\n0 idle\n"));
-    assert!(rt; text.ends_with(b"0 idle\nend 0\n"));
+    assert_same(rt, &text.len(), &(65_536 * 7 + 6), "bytes");
+    let begins = text.starts_with(b"0 idle\n0 idle\n");
+    must(
+        rt,
+        begins && text.ends_with(b"0 idle\nend 0\n"),
+        "idle turns",
+    );
 }

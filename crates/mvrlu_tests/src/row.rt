@@ -2,6 +2,7 @@
 ghost use Rattle.std.specs.Prelude.{◌<◌, IfOk};
 ghost use Rattle.mvrlu_run.specs.Outcome.{ReadsSets};
 
+use crate::comparing::{assert_same, must};
 use memory_outside::{MemFiles, MemSink, MemText};
 use mvrlu_run::{Closed, Ran, run_program};
 use run_outside::{Gate, OpenGate};
@@ -104,7 +105,7 @@ pub fn run_text<R: Abort + Threads + Wait + Sync, G: Gate>(
     script: &[u8],
     gate: &G,
 ) -> Result<(), Fail> {
-    assert!(rt; row.most > 0);
+    must(rt, row.most > 0, "a call moves some bytes");
     let words = owned(alloc, row.words)?;
     let mut files = file(alloc, script, row.most, row.file_fails)?;
     let mut out = sink(alloc, row.most, row.out_fails)?;
@@ -132,9 +133,12 @@ fn sink(alloc: Global, most: usize, fails: &[u64]) -> Result<MemSink, AllocError
 
 // Compares how a run ended with what its row wants.
 fn compare(rt: &impl Abort, row: &Row<'_>, status: u8, out: &[u8], err: &[u8]) {
-    assert_eq!(rt; status, row.status, "status of {}", row.name);
-    assert_eq!(rt; out, row.out, "output of {}", row.name);
-    assert_eq!(rt; err, row.err, "error of {}", row.name);
+    assert_same(
+        rt,
+        &(status, out, err),
+        &(row.status, row.out, row.err),
+        row.name,
+    );
 }
 
 // Calls the program, with what the tests use of its contract.
@@ -213,7 +217,7 @@ pub fn print_well<R: Abort + Threads + Wait + Sync>(
         out,
         err: _,
     } = print(rt, alloc, words, texts, &OpenGate)?;
-    assert_eq!(rt; status, 0);
+    assert_same(rt, &status, &0, "the status");
     Ok(out)
 }
 
@@ -247,8 +251,7 @@ pub fn expect_print<R: Abort + Threads + Wait + Sync>(
     err: &[u8],
 ) -> Result<Closed, AllocError> {
     let printed = print_texts(rt, alloc, words, texts, &OpenGate)?;
-    assert_eq!(rt; printed.status, status, "status of {words:?}");
-    assert_eq!(rt; printed.out.bytes(), out, "output of {words:?}");
-    assert_eq!(rt; printed.err.bytes(), err, "error of {words:?}");
+    let found = (printed.status, printed.out.bytes(), printed.err.bytes());
+    assert_eq!(rt; found, (status, out, err), "of {words:?}");
     Ok(printed.closed)
 }

@@ -1,4 +1,5 @@
 // Scripts of several seats, long scripts, generated ones, and what is left of the domain.
+use crate::comparing::{assert_same, must};
 use crate::row::{PLAIN, Printed, named, owned, print, print_texts, print_well};
 use crate::texts::{count_ends, sum_after, time_of};
 use memory_outside::MemText;
@@ -19,16 +20,21 @@ const SECOND_TABLE: &[u8] = b"\nlog 1 live 0 freed 0 back 0 commits 0 aborts 0 r
 fn an_empty_second_file_has_its_table(rt: HostRuntime) -> Result<(), Fail> {
     let texts = [("a", PLAIN.script), ("b", b"")];
     let printed = print_texts(&rt, rt.alloc(), &["run", "a", "b"], &texts, &OpenGate)?;
-    assert_eq!(rt; printed.status, 0);
+    assert_same(&rt, &printed.status, &0, "the status");
     expect_second_table(&rt, printed.out.bytes());
     Ok(())
 }
 
 // Looks that the table of a second seat follows the text of the first.
 fn expect_second_table(rt: &impl Abort, text: &[u8]) {
-    assert!(rt; text.starts_with(PLAIN.out));
-    assert!(rt; text.ends_with(SECOND_TABLE));
-    assert_eq!(rt; text.len(), PLAIN.out.len().saturating_add(55));
+    let ends = (text.starts_with(PLAIN.out), text.ends_with(SECOND_TABLE));
+    let length = PLAIN.out.len().saturating_add(55);
+    assert_same(
+        rt,
+        &(ends, text.len()),
+        &((true, true), length),
+        "two tables",
+    );
 }
 
 // A text of this name, with so many times a piece behind a beginning.
@@ -49,12 +55,12 @@ fn repeated(
 // Looks that all commands replied yes, and that the log kept few versions.
 fn expect_thousand(rt: &impl Abort, text: &[u8]) {
     let live = sum_after(text, "live");
-    assert_eq!(rt; count_ends(text, " yes"), 1000);
-    assert_eq!(rt; count_ends(text, ""), 1001);
-    assert_eq!(rt; sum_after(text, "commits"), 1000);
-    assert_eq!(rt; sum_after(text, "aborts"), 0);
-    assert_eq!(rt; live.saturating_add(sum_after(text, "freed")), 2000);
-    assert!(rt; live <= 49);
+    let lines = (count_ends(text, " yes"), count_ends(text, ""));
+    assert_same(rt, &lines, &(1000, 1001), "lines of yes, and all");
+    let ended = (sum_after(text, "commits"), sum_after(text, "aborts"));
+    assert_same(rt, &ended, &(1000, 0), "commits and aborts");
+    let versions = live.saturating_add(sum_after(text, "freed"));
+    assert_same(rt, &(versions, live <= 49), &(2000, true), "versions");
 }
 
 #[test]
@@ -81,7 +87,7 @@ fn moves(alloc: Global) -> Result<Vec<MemText>, AllocError> {
 fn expect_whole_moves(rt: &impl Abort, text: &[u8]) -> Result<(), Fail> {
     let before = count_ends(text, " no no");
     let one = count_ends(text, " yes no").saturating_add(count_ends(text, " no yes"));
-    assert_eq!(rt; before.saturating_add(one), 500);
+    assert_same(rt, &before.saturating_add(one), &500, "pairs");
     let Ok(text) = str::from_utf8(text) else {
         return Err(Fail::new("the text is UTF-8"));
     };
@@ -97,7 +103,11 @@ fn expect_none_before(rt: &impl Abort, text: &str) {
         .and_then(time_of);
     for line in text.lines() {
         if line.ends_with(" no no") {
-            assert!(rt; time_of(line) < added);
+            must(
+                rt,
+                time_of(line) < added,
+                "in none of the sets before it was added",
+            );
         }
     }
 }
@@ -129,10 +139,10 @@ fn set_of(alloc: Global, count: u32) -> Result<String, AllocError> {
 
 // Looks that each of the files added its number.
 fn expect_sixty_four(rt: &impl Abort, text: &[u8], set: &str) {
-    assert_eq!(rt; count_ends(text, " yes"), 64);
-    assert_eq!(rt; count_ends(text, set), 1);
-    assert_eq!(rt; count_ends(text, ""), 129);
-    assert_eq!(rt; sum_after(text, "commits"), 64);
+    let lines = (count_ends(text, " yes"), count_ends(text, set));
+    assert_same(rt, &lines, &(64, 1), "lines of yes, and of the set");
+    let all = (count_ends(text, ""), sum_after(text, "commits"));
+    assert_same(rt, &all, &(129, 64), "all lines, and commits");
 }
 
 #[test]
@@ -153,17 +163,18 @@ fn sixty_four_files_run_at_once(rt: HostRuntime) -> Result<(), Fail> {
 #[test]
 fn a_generated_script_has_its_lines(rt: HostRuntime) -> Result<(), Fail> {
     let printed = print_texts(&rt, rt.alloc(), &["gen", "1", "0"], &[], &OpenGate)?;
-    assert_eq!(rt; printed.status, 0);
-    assert!(rt; matches!(printed.closed, Closed::No));
+    assert_same(&rt, &printed.status, &0, "the status");
+    must(&rt, matches!(printed.closed, Closed::No), "no domain");
     expect_generated(&rt, printed.out.bytes());
     Ok(())
 }
 
 // Looks at the lines and the length of a generated script, and at its beginning.
 fn expect_generated(rt: &impl Abort, text: &[u8]) {
-    assert_eq!(rt; count_ends(text, ""), 2000);
-    assert_eq!(rt; text.len(), 22_211);
-    assert!(rt; text.starts_with(b"add h3 40\nhas t4 64\nadd t6 0\n"));
+    let counts = (count_ends(text, ""), text.len());
+    assert_same(rt, &counts, &(2000, 22_211), "lines and bytes");
+    let begins = text.starts_with(b"add h3 40\nhas t4 64\nadd t6 0\n");
+    must(rt, begins, "the first three lines");
 }
 
 #[test]
@@ -178,28 +189,32 @@ fn the_closing_is_that_of_the_run(rt: HostRuntime) -> Result<(), Fail> {
         out: _,
         err: _,
     } = print(&rt, alloc, &words, texts, &OpenGate)?;
-    assert_eq!(rt; status, 0);
+    assert_same(&rt, &status, &0, "the status");
     let Closed::Sets(mut closing) = closed else {
         return Err(Fail::new("the domain was run"));
     };
-    assert_eq!(rt; closing.time(), 1);
+    assert_same(&rt, &closing.time(), &1, "the last time");
     expect_five(&rt, &read_all(alloc, &mut closing)?);
     expect_none_closed(&rt, alloc)
 }
 
 // Looks that 5 is the one key, and in the first set.
 fn expect_five(rt: &impl Abort, end: &Catalogue) {
-    assert_eq!(rt; end.keys(0), [5].as_slice());
-    assert_eq!(rt; end.values(0), [0].as_slice());
+    assert_same(rt, &end.keys(0), &[5].as_slice(), "keys of l0");
+    assert_same(rt, &end.values(0), &[0].as_slice(), "values of l0");
     for name in 1..30 {
-        assert!(rt; end.keys(name).is_empty());
+        must(rt, end.keys(name).is_empty(), "an empty set");
     }
 }
 
 // Looks that no words leave no domain.
 fn expect_none_closed<R: Abort + Threads + Wait + Sync>(rt: &R, alloc: Global) -> Result<(), Fail> {
     let none = print(rt, alloc, &[], Vec::new(alloc), &OpenGate)?;
-    assert_eq!(rt; none.status, 2);
-    assert!(rt; matches!(none.closed, Closed::No));
+    assert_same(rt, &none.status, &2, "the status of no words");
+    must(
+        rt,
+        matches!(none.closed, Closed::No),
+        "no domain of no words",
+    );
     Ok(())
 }

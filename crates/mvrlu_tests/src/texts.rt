@@ -36,6 +36,29 @@ pub fn count_ends(text: &[u8], end: &str) -> usize {
     count
 }
 
+/// How many lines have this start.
+pub fn count_starts(text: &[u8], start: &str) -> u64 {
+    let mut count: u64 = 0;
+    if let Ok(text) = str::from_utf8(text) {
+        for line in text.lines() {
+            if line.starts_with(start) {
+                count = count.saturating_add(1);
+            }
+        }
+    }
+    count
+}
+
+/// The number that stands behind a word of the first line with this start.
+pub fn number_in(text: &[u8], start: &str, word: &str) -> Option<u64> {
+    for line in str::from_utf8(text).ok()?.lines() {
+        if line.starts_with(start) {
+            return number_after(line, word);
+        }
+    }
+    None
+}
+
 /// Whether a summary counts no worn reply, and 8,000 that are yes or no.
 pub fn has_no_worn_of_8000(text: &[u8]) -> bool {
     let known = sum_after(text, "yes").saturating_add(sum_after(text, "no"));

@@ -5,7 +5,7 @@ use Rattle.run_kinds.specs.domain_loan.Shown.{handle_causes}
 use Rattle.mv_history.specs.Meaning.{Seat}
 use Rattle.run_kinds.specs.mvrlu.declared.closing.Closing.{Closing}
 use Rattle.pool_domain.specs.Whole.{PoolOf}
-use Rattle.run_kinds.specs.Kinds.{IsRunAlong, IsTextOfRead, Kind, config_of, usual_options}
+use Rattle.run_kinds.specs.Kinds.{IsTextOfRead, Kind, config_of, kind_along, usual_options}
 use Rattle.run_outside.specs.Outside.{Texts}
 use Rattle.run_report.specs.declared.line.Line.{Line}
 use Rattle.run_report.specs.Text.{text_of_run}
@@ -24,12 +24,8 @@ pool_chain_of script olds news own = PoolLinked (handle_causes IsOpening IsSetCo
 
 -- the commands of one script, by whichever of so many seats takes the next, on the sets
 abbrev pub pool_runs : Options → ℕ → List Command → Kind Maps
-pool_runs options seats script = record {
-  numbers = config_of options 16 seats;
-  is_run = λ lines end w.
-      IsRunAlong IsSetCommit (pool_chain_of script) (config_of options 16 seats) (λ past. PoolOf past seats script lines end w.tables) lines w;
-  text_of = text_of_run;
-}
+pool_runs options seats script =
+    kind_along IsSetCommit (pool_chain_of script) (config_of options 16 seats) (λ past. PoolOf past seats script) text_of_run
 
 -- the text of such a run of the script of this file
 abbrev pub IsTextOfPool : ℕ → Option Texts → List (List ℕ) → Closing SetRules → List ℕ → Type 0

@@ -15,9 +15,8 @@
 //!
 //! # Place
 //!
-//! It stands on `script_files` for reading, on `run_kinds` for the domain, on `pool_domain` for the pool over it, on
-//! `set_catalog` for the sets that are left, and on `run_report` for the order and the text of the lines. `mvrlu_run` calls it
-//! for `pool`.
+//! It stands on `script_files` for reading, on `run_kinds` for the domain and the text, on `pool_domain` for the pool over it, and on
+//! `set_catalog` for the sets that are left. `mvrlu_run` calls it for `pool`.
 #![tactic(auto)]
 
 mod pooling;

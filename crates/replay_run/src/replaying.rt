@@ -6,7 +6,7 @@ ghost use Rattle.script_files.specs.Scripts.{AnyStop, NoneFails, plans as by_pla
 use run_outside::Files;
 use script_files::step_replay::replay;
 use script_files::{Stop, read_plan};
-use std::alloc::{AllocError, Global};
+use std::alloc::Global;
 
 /// Reads the plan of this one file and makes the text of its replay. An error is why there is none: the file has no plan, or
 /// there is no memory.
@@ -20,12 +20,6 @@ pub fn make_replay<F: Files>(
         (λ stop. AnyStop stop by_plan (F.texts files.old) (map string_bytes names.now) (F.faults files.old) (F.faults files.new)) }
     ensures steady { IfErr result (λ stop. NoneFails stop (F.steady files.old) (F.texts files.old) (map string_bytes names.now)) }
 {
-    let plan = match read_plan(alloc, files, names) {
-        Ok(plan) => plan,
-        Err(stop) => return Err(stop),
-    };
-    match replay(alloc, &plan) {
-        Ok(text) => Ok(text),
-        Err(AllocError) => Err(Stop::Memory),
-    }
+    let plan = read_plan(alloc, files, names)?;
+    Ok(replay(alloc, &plan)?)
 }

@@ -1,5 +1,5 @@
 // Writing all bytes to a sink.
-ghost use Rattle.std.specs.Prelude.{◌<◌, OnOk, OnErr};
+ghost use Rattle.std.specs.Prelude.{OnOk, OnErr};
 ghost use Rattle.std.specs.Io.KnownBytes.{Appends};
 ghost use Rattle.run_outside.specs.Outside.{Rose};
 ghost use Rattle.run_ends.specs.Sent.{Sent};

@@ -50,6 +50,16 @@ pub record IsRunAlong (allows : List ℕ → State → Writes → Type 0) (chain
   pub same : IsPermutation own lines
   pub linked : MetAlong (λ olds news. chain olds news own) allows numbers (replicate numbers.objects no_words) firsts w
 
+-- The kind of runs that go along these chains, by commits that are allowed so, over a domain of these numbers: what makes lines, an end and tables
+-- those of one of them in a history, and their text.
+abbrev pub kind_along : {End : Type 0} → (List ℕ → State → Writes → Type 0) → (List Seat → List Seat → List Line → Type 0) → Config
+    → (Past → List Line → End → List LogTable → Type 0) → (List Line → End → List LogTable → List ℕ) → Kind End
+kind_along allows chain numbers is_run text_of = record {
+  numbers = numbers;
+  is_run = λ lines end w. IsRunAlong allows chain numbers (λ past. is_run past lines end w.tables) lines w;
+  text_of = text_of;
+}
+
 -- The numbers of a run that has no options. They stand here as numbers, and not as the code's constants, with
 -- which a run over fewer objects would meet the clauses too.
 abbrev pub usual_options : Options

@@ -1,4 +1,5 @@
-//! Kinds of run over a domain: what each is, in one record of one shape, and how the domain of a run is opened.
+//! Kinds of run over a domain: what each is, in one record of one shape, how the domain of a run is opened, and how the text of
+//! what it tells is made.
 //!
 //! # Model
 //!
@@ -15,20 +16,24 @@
 //! # Contract
 //!
 //! [`open_run`] opens the domain of a run: with all the numbers that it is to have, and objects that are all zero.
-//! [`ran_or_met`] lets the seats meet where a run was refused for want of memory. Lemmas: what a run hands back can
-//! meet (proofs/Opened.antt), and a run of the seats with which a domain was opened is one along their chains, once its lines
-//! are in their order and its sets are read (proofs/Along.antt).
+//! [`ran_or_met`] lets the seats meet where a run was refused for want of memory. What a run tells is a [`Told`], and [`tell`] makes
+//! the text of one on the sets, with the lines in their order. Lemmas: what a run hands back can meet (proofs/Opened.antt); the
+//! domain is left of a run along the chains of its seats, once its sets are read (proofs/Along.antt); and the text of the lines
+//! in their order is that of the run (proofs/InOrder.antt).
 //!
 //! # Place
 //!
 //! `script_run`, `block_run`, `pool_run` and `grow_run` stand on it side by side, and each adds its kind of run.
-//! It stands on `mvrlu` for the domain, on `domain_lines` for lines in its history, and on `run_words` for the numbers.
+//! It stands on `mvrlu` for the domain, on `domain_lines` for lines in its history, on `run_report` for their text, and on
+//! `run_words` for the numbers.
 //! Crates above name `domain_lines`, `domain_loan` and `mvrlu` through this crate.
 #![tactic(auto)]
 
 mod opening;
+mod telling;
 
 pub use domain_lines;
 pub use domain_loan;
 pub use mvrlu;
-pub use opening::{USUAL, open_run, ran_or_met};
+pub use opening::{USUAL, WRITE_MAX, open_run, ran_or_met};
+pub use telling::{FromRun, Told, tell};

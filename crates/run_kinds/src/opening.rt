@@ -19,6 +19,9 @@ pub const USUAL: Options = Options {
     base: 0,
 };
 
+/// How many objects a command of the sets may hold.
+pub const WRITE_MAX: u32 = 16;
+
 /// Opens a domain of these numbers, with so many seats, each of which may hold so many objects, at most half as many as its log
 /// has slots. All objects are zero. The error is want of memory.
 pub fn open_run<P: Protocol>(

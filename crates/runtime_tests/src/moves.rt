@@ -77,7 +77,7 @@ pub enum Move {
 }
 
 /// What a move is answered.
-#[derive(Clone, Copy, Debug, PartialEq, Eq)]
+#[derive(Clone, Copy, PartialEq, Eq)]
 pub enum Answer {
     Entered(u64),
     Left,

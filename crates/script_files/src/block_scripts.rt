@@ -32,14 +32,9 @@ pub fn read_block_scripts<R: Threads + Sync, F: Files>(
 {
     let mut texts = Vec::new(alloc);
     let read = read_texts(alloc, files, names, &mut texts);
-    let scripts = match parse_texts(rt, alloc, &texts) {
-        Ok(scripts) => scripts,
-        Err(stop) => return Err(stop),
-    };
-    match read {
-        Ok(()) => Ok(scripts),
-        Err(stop) => Err(stop),
-    }
+    let scripts = parse_texts(rt, alloc, &texts)?;
+    read?;
+    Ok(scripts)
 }
 
 // The scripts of blocks of these texts, each parsed in a thread of its own where one can be made. An error is the first
@@ -61,12 +56,8 @@ fn parse_texts<R: Threads + Sync>(
         ensures exact { HoldsAt (λ text. Answers parsed_blocks list_of Refuses text.items result) texts.entry.now place }
         ensures few { IfOk result (λ blocks. sum_by length blocks.items ≤ 65536) }
     { parse(alloc, &texts[place]) };
-    let Ok(parsed) = thread::map_indices(rt, alloc, texts.len(), &parse_at) else {
-        return Err(Stop::Memory);
-    };
-    let Ok(mut scripts) = Vec::with_capacity(alloc, parsed.len()) else {
-        return Err(Stop::Memory);
-    };
+    let parsed = thread::map_indices(rt, alloc, texts.len(), &parse_at)?;
+    let mut scripts = Vec::with_capacity(alloc, parsed.len())?;
     match take_values(parsed, &mut scripts) {
         Ok(()) => Ok(scripts),
         Err(BlockFault::At { line, kind }) => Err(Stop::BlockScript {

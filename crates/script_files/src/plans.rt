@@ -21,10 +21,8 @@ pub fn read_plan<F: Files>(alloc: Global, files: &mut F, names: &[String]) -> Re
     ensures fit { IfOk result (λ plan. IsFitPlan (plan_of plan)) }
 {
     let mut texts = Vec::new(alloc);
-    match read_texts(alloc, files, names, &mut texts) {
-        Ok(()) => parse_only(alloc, &texts[0]),
-        Err(stop) => Err(stop),
-    }
+    read_texts(alloc, files, names, &mut texts)?;
+    parse_only(alloc, &texts[0])
 }
 
 // The plan of these bytes, which are those of the only file, or its first fault.

@@ -1,5 +1,5 @@
 // Reading the texts of files.
-ghost use Rattle.std.specs.Prelude.{◌≡◌, ◌≤◌, ◌<◌, ◌+◌, [], ℕ, Some, length, map, slice_get, string_bytes, All, IfErr, IfOk, IsOk, IsTrue};
+ghost use Rattle.std.specs.Prelude.{◌≡◌, ◌≤◌, ◌<◌, [], ℕ, Some, length, map, slice_get, string_bytes, All, IfErr, IfOk, IsOk, IsTrue};
 ghost use Rattle.run_outside.specs.Outside.{HasText, IsTold};
 ghost use Rattle.script_files.specs.Reading.{AreFirstTexts, IsTextAt, text_of};
 ghost use Rattle.script_files.specs.Scripts.{FirstStands, IsReadText, NoText, NoneFailed, NoneFails};
@@ -41,9 +41,7 @@ pub fn read_texts<F: Files>(
     ensures steady { IfErr result (λ stop. NoneFails stop (F.steady files.old) (F.texts files.old) (map string_bytes names.now)) }
     ensures short { All (λ text. length text.items ≤ MOST_BYTES) texts.new.items }
 {
-    let Ok(mut piece) = zeros(alloc, PIECE_BYTES) else {
-        return Err(Stop::Memory);
-    };
+    let mut piece = zeros(alloc, PIECE_BYTES)?;
     read_each(alloc, files, names, &mut piece, texts)
 }
 
@@ -67,13 +65,8 @@ fn read_each<F: Files>(
     ensures short { All (λ text. length text.items ≤ MOST_BYTES) texts.new.items }
 {
     for place in 0..names.len() {
-        match copy_text(alloc, files, names, place, piece) {
-            Ok(text) => match texts.push(text) {
-                Ok(()) => {}
-                Err(_) => return Err(Stop::Memory),
-            },
-            Err(stop) => return Err(stop),
-        }
+        let text = copy_text(alloc, files, names, place, piece)?;
+        texts.push(text)?;
     }
     Ok(())
 }

@@ -45,14 +45,9 @@ pub fn read_scripts<R: Threads + Sync, F: Files>(
 {
     let mut texts = Vec::new(alloc);
     let read = read_texts(alloc, files, names, &mut texts);
-    let scripts = match parse_texts(rt, alloc, &texts, grammar) {
-        Ok(scripts) => scripts,
-        Err(stop) => return Err(stop),
-    };
-    match read {
-        Ok(()) => Ok(scripts),
-        Err(stop) => Err(stop),
-    }
+    let scripts = parse_texts(rt, alloc, &texts, grammar)?;
+    read?;
+    Ok(scripts)
 }
 
 // The scripts of these texts, each parsed in a thread of its own where one can be made. An error is the first fault.
@@ -76,12 +71,8 @@ fn parse_texts<R: Threads + Sync>(
         ensures few { IfOk result (λ commands. length commands.items ≤ MOST_COMMANDS) }
         ensures fit { IfOk result (λ commands. AreOf grammar commands.items) }
     { parse_by(grammar, alloc, &texts[place]) };
-    let Ok(parsed) = thread::map_indices(rt, alloc, texts.len(), &parse_at) else {
-        return Err(Stop::Memory);
-    };
-    let Ok(mut scripts) = Vec::with_capacity(alloc, parsed.len()) else {
-        return Err(Stop::Memory);
-    };
+    let parsed = thread::map_indices(rt, alloc, texts.len(), &parse_at)?;
+    let mut scripts = Vec::with_capacity(alloc, parsed.len())?;
     match take_values(parsed, &mut scripts) {
         Ok(()) => Ok(scripts),
         Err(ScriptFault::At { line, kind }) => Err(Stop::Script {

@@ -1,6 +1,10 @@
 // Why files have no scripts.
+ghost use Rattle.std.specs.Prelude.{◌≡◌};
+ghost use Rattle.script_files.specs.declared.stop.Stop.TheVariants.{Memory as WantOfMemory};
+
 use block_parser::BlockKind;
 use script_parser::FaultKind;
+use std::alloc::{AllocError, AllocFailed};
 use step_replay::PlanKind;
 
 /// The most bytes of a script.
@@ -37,4 +41,20 @@ pub enum Stop {
     },
     /// Want of memory.
     Memory,
+}
+
+impl From<AllocError> for Stop {
+    ghost from_gives = { λ _ stop. stop ≡ WantOfMemory };
+
+    fn from(_error: AllocError) -> Stop {
+        Stop::Memory
+    }
+}
+
+impl<T: Drop> From<AllocFailed<T>> for Stop {
+    ghost from_gives = { λ _ stop. stop ≡ WantOfMemory };
+
+    fn from(_failed: AllocFailed<T>) -> Stop {
+        Stop::Memory
+    }
 }

@@ -1,4 +1,2 @@
-pub mod InOrder
-pub mod Still
 pub mod WorkTexts
 pub mod Four

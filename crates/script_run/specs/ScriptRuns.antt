@@ -2,9 +2,10 @@
 use Rattle.std.specs.Prelude.{◌≡◌, ℕ, List, length, Option}
 use Rattle.run_kinds.specs.domain_loan.Shown.{handle_causes}
 use Rattle.generated_runs.specs.OneAfterAnother.{NoneIsWorn, one_after_another, scripts_of, text_of_tally}
+use Rattle.mv_history.specs.declared.answers.LogTable.{LogTable}
 use Rattle.mv_history.specs.Meaning.{Seat}
 use Rattle.run_kinds.specs.mvrlu.declared.closing.Closing.{Closing}
-use Rattle.run_kinds.specs.Kinds.{IsRunAlong, IsTextOf, IsTextOfRead, Kind, config_of}
+use Rattle.run_kinds.specs.Kinds.{IsTextOf, IsTextOfRead, Kind, config_of, kind_along}
 use Rattle.run_outside.specs.Outside.{Texts}
 use Rattle.run_report.specs.declared.line.Line.{Line}
 use Rattle.run_report.specs.Summary.{summary}
@@ -24,14 +25,14 @@ use Rattle.set_script.specs.declared.rules.SetRules.{SetRules}
 abbrev pub chain_of : List (List Command) → List Seat → List Seat → List Line → Type 0
 chain_of scripts olds news own = AllLinked (handle_causes IsOpening IsSetCommit) olds news scripts own
 
--- scripts, each by a seat of its own, on the sets
+-- scripts, each by a seat of its own, on the sets, with such a text
+abbrev pub runs_with : (List Line → Maps → List LogTable → List ℕ) → Options → List (List Command) → Kind Maps
+runs_with text_of options scripts =
+    kind_along IsSetCommit (chain_of scripts) (config_of options 16 (length scripts)) (λ past. RunOf past scripts) text_of
+
+-- and with the text that has all lines
 abbrev pub runs : Options → List (List Command) → Kind Maps
-runs options scripts = record {
-  numbers = config_of options 16 (length scripts);
-  is_run = λ lines end w.
-      IsRunAlong IsSetCommit (chain_of scripts) (config_of options 16 (length scripts)) (λ past. RunOf past scripts lines end w.tables) lines w;
-  text_of = text_of_run;
-}
+runs = runs_with text_of_run
 
 -- the text of a run of the scripts of these files
 abbrev pub IsTextOfScripts : Options → Option Texts → List (List ℕ) → Closing SetRules → List ℕ → Type 0
@@ -43,13 +44,7 @@ work_options = record { objects = 16384; slots = 1024; base = 0 }
 
 -- the four generated scripts of a number, likewise: their text is a summary
 abbrev pub works : ℕ → Kind Maps
-works number = record {
-  numbers = config_of work_options 16 (length (scripts_of number));
-  is_run = λ lines end w.
-      IsRunAlong IsSetCommit (chain_of (scripts_of number)) (config_of work_options 16 (length (scripts_of number)))
-      (λ past. RunOf past (scripts_of number) lines end w.tables) lines w;
-  text_of = λ lines end tables. summary number lines end;
-}
+works number = runs_with (λ lines end tables. summary number lines end) work_options (scripts_of number)
 
 -- the nodes that a run of generated scripts has for keys
 abbrev pub work_room : ℕ

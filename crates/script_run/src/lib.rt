@@ -20,9 +20,9 @@
 //!
 //! # Place
 //!
-//! It stands on `script_files` for reading, on `run_kinds` for the domain, on `script_domain` for the run over it, on
-//! `set_catalog` for the sets that are left, and on `run_report` for the order and the text of the lines. `mvrlu_run` calls it
-//! for `run` and `work`.
+//! It stands on `script_files` for reading, on `run_kinds` for the domain and the text, on `script_domain` for the run over it, on
+//! `set_catalog` for the sets that are left, on `script_gen` for generated scripts, and on `run_report` for their summary.
+//! `mvrlu_run` calls it for `run` and `work`.
 #![tactic(auto)]
 
 mod generated;

@@ -1,17 +1,12 @@
 // The run of scripts over a domain of the sets.
-ghost use Rattle.std.specs.Prelude.{◌≡◌, ◌≤◌, All, IfErr, IfOk, Ok, length, map, replicate};
-ghost use Rattle.set_script.specs.Objects.{no_words};
-ghost use Rattle.run_kinds.specs.mvrlu.Opened.{IsOpened};
-ghost use Rattle.run_kinds.specs.mvrlu.Meeting.{AreAll};
+ghost use Rattle.std.specs.Prelude.{◌≤◌, All, IfOk, length, map};
 ghost use Rattle.run_words.specs.Words.{FitOptions};
 ghost use Rattle.script_workers.specs.Workers.{items_of};
-ghost use Rattle.run_kinds.specs.Kinds.{IsLeft, config_of};
+ghost use Rattle.run_kinds.specs.Kinds.{IsLeft};
 ghost use Rattle.script_run.specs.ScriptRuns.{runs};
 
-use run_kinds::mvrlu::Closing;
-use run_kinds::{open_run, ran_or_met};
+use run_kinds::{Told, WRITE_MAX, open_run, ran_or_met};
 use run_outside::Gate;
-use run_report::Line;
 use run_words::Options;
 use script_domain::run_domain;
 use set_catalog::read_all;
@@ -20,27 +15,15 @@ use std::alloc::{AllocError, Global};
 use std::sync::Wait;
 use std::thread::Threads;
 
-// How many objects a command may hold.
-const WRITE_MAX: u32 = 16;
-
-/// What a run of scripts gives: what is left of its domain, which has the table of each seat's log, its lines, those
-/// of one seat behind those of another, and the sets as they are at the end.
-#[derive(Drop)]
-pub struct Told {
-    pub closing: Closing<SetRules>,
-    pub lines: Vec<Line>,
-    pub end: Catalogue,
-}
-
-/// Runs the scripts over a domain of these numbers, script i as seat i. The gate is called around each command. The
-/// error is want of memory.
+/// Runs the scripts over a domain of these numbers, script i as seat i, and reads the sets as they are at the end. The lines of
+/// one seat stand behind those of another. The gate is called around each command. The error is want of memory.
 pub fn run_sets<R: Threads + Wait + Sync, G: Gate>(
     rt: &R,
     alloc: Global,
     options: Options,
     scripts: &[Vec<Command>],
     gate: &G,
-) -> Result<Told, AllocError>
+) -> Result<Told<SetRules, Catalogue>, AllocError>
     requires fit { FitOptions options }
     requires some { 1 ≤ length scripts.now }
     requires few { length scripts.now ≤ 64 }

@@ -1,11 +1,11 @@
 // What tables ask: commands by the indices of their sets, questions of one set, and the words of objects.
+use crate::comparing::{assert_read, assert_row, must};
 use mv_history::{Store, View, Words};
 use section_work::Place;
 use set_catalog::{Attempt, Hints, attempt_with};
 use set_script::{Command, Name, Reply, SetRules};
 use std::alloc::{AllocError, Global};
 use std::process::Abort;
-use std::test::*;
 
 // A command of a script. A set is its index, below 30.
 #[derive(Clone, Copy)]
@@ -77,13 +77,20 @@ pub(crate) fn attempt_hinting<S: Store<Rules = SetRules>>(
     hints: &mut Hints,
     command: &Command,
 ) -> (S, Attempt) {
-    assert!(rt; store.write_max() >= 5);
+    must(rt, store.write_max() >= 5, "a write set of five objects");
     attempt_with(store, hints, command)
 }
 
 // Looks that a command was done at this place, with this reply.
-pub(crate) fn expect_attempt(rt: &impl Abort, answer: Attempt, reply: Reply, place: Place) {
-    assert_eq!(rt; answer, Attempt::Done { reply, place });
+pub(crate) fn expect_attempt(
+    rt: &impl Abort,
+    answer: Attempt,
+    reply: Reply,
+    place: Place,
+    name: &str,
+    row: usize,
+) {
+    assert_row(rt, &answer, &Attempt::Done { reply, place }, name, row);
 }
 
 // The commands, in their order.
@@ -99,15 +106,16 @@ pub(crate) fn commands_of(
     Ok(commands)
 }
 
-// Looks that the commands that were found are those that are wanted.
+// Looks that the commands that were found are those that are wanted of this text.
 pub(crate) fn expect_commands(
     rt: &impl Abort,
     alloc: Global,
     found: &[Command],
     asks: &[Ask],
+    text: &[u8],
 ) -> Result<(), AllocError> {
     let want = commands_of(rt, alloc, asks)?;
-    assert_eq!(rt; found, want.as_slice());
+    assert_read(rt, &found, &want.as_slice(), text);
     Ok(())
 }
 
@@ -125,8 +133,8 @@ pub(crate) type Object = (u32, Words);
 
 // Looks that these objects have these words.
 pub(crate) fn expect_words<V: View>(rt: &impl Abort, view: &mut V, rows: &[Object]) {
-    for (object, words) in rows {
-        assert!(rt; *object < view.objects());
-        assert_eq!(rt; view.read(*object), *words, "object {object}");
+    for (row, (object, words)) in rows.iter().enumerate() {
+        must(rt, *object < view.objects(), "an object of the view");
+        assert_row(rt, &view.read(*object), words, "words of an object", row);
     }
 }

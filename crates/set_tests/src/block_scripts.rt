@@ -1,13 +1,14 @@
 // Scripts of blocks that are accepted, and those that are refused, with their line and their fault; and which commands are a block.
 use crate::asked::Ask::{Add, Put, Size};
 use crate::asked::{Ask, commands_of, expect_commands};
+use crate::comparing::{assert_read, assert_row, assert_same, must};
 use block_parser::{BlockFault, BlockKind, parse_blocks};
 use script_parser::FaultKind;
 use set_blocks::Block;
 use set_script::MOST_COMMANDS;
 use std::alloc::{AllocError, Global};
 use std::process::Abort;
-use std::test::*;
+use std::test::Fail;
 
 // A text, and the commands of its blocks.
 type Good = (&'static [u8], &'static [&'static [Ask]]);
@@ -17,7 +18,11 @@ type Broken = (&'static [u8], u32, BlockKind);
 
 // The blocks of a text, or its fault.
 fn parsed(rt: &impl Abort, alloc: Global, text: &[u8]) -> Result<Vec<Block>, BlockFault> {
-    assert!(rt; text.len() <= 1_048_577);
+    must(
+        rt,
+        text.len() <= 1_048_577,
+        "no longer text than a script may be",
+    );
     parse_blocks(alloc, text)
 }
 
@@ -27,10 +32,11 @@ fn expect_blocks(
     alloc: Global,
     found: &[Block],
     blocks: &[&[Ask]],
+    text: &[u8],
 ) -> Result<(), AllocError> {
     for (index, asks) in blocks.iter().enumerate() {
-        assert!(rt; index < found.len());
-        expect_commands(rt, alloc, found[index].commands(), asks)?;
+        must(rt, index < found.len(), "a block");
+        expect_commands(rt, alloc, found[index].commands(), asks, text)?;
     }
     Ok(())
 }
@@ -43,14 +49,14 @@ fn accepts(
     blocks: &[&[Ask]],
 ) -> Result<(), AllocError> {
     let answer = parsed(rt, alloc, text).ok().expect(rt, "a script");
-    assert_eq!(rt; answer.len(), blocks.len(), "of {text:?}");
-    expect_blocks(rt, alloc, &answer, blocks)
+    assert_read(rt, &answer.len(), &blocks.len(), text);
+    expect_blocks(rt, alloc, &answer, blocks, text)
 }
 
 // Looks that the text has its first fault on this line.
 fn refuses(rt: &impl Abort, alloc: Global, text: &[u8], line: u32, kind: BlockKind) {
     let fault = parsed(rt, alloc, text).err().expect(rt, "a fault");
-    assert_eq!(rt; fault, BlockFault::At { line, kind }, "of {text:?}");
+    assert_read(rt, &fault, &BlockFault::At { line, kind }, text);
 }
 
 fn refuses_all(rt: &impl Abort, alloc: Global, rows: &[Broken]) {
@@ -204,7 +210,8 @@ fn refuses_behind(
 #[test]
 fn the_commands_of_all_blocks_are_counted(rt: HostRuntime) -> Result<(), Fail> {
     let text = most_blocks(rt.alloc())?;
-    assert_eq!(rt; count_blocks(&rt, rt.alloc(), &text), 8_192);
+    let count = count_blocks(&rt, rt.alloc(), &text);
+    assert_same(&rt, &count, &8_192, "blocks");
     Ok(refuses_behind(&rt, rt.alloc(), text, &BEHIND_MOST)?)
 }
 
@@ -229,7 +236,7 @@ fn too_many_comes_before_too_long(rt: HostRuntime) -> Result<(), Fail> {
         65_538,
         BlockKind::Line(FaultKind::Many),
     );
-    assert_eq!(rt; MOST_COMMANDS, 65_536);
+    assert_same(&rt, &MOST_COMMANDS, &65_536, "commands");
     Ok(())
 }
 
@@ -272,19 +279,15 @@ fn is_block(rt: &impl Abort, alloc: Global, asks: &[Ask]) -> Result<bool, AllocE
     let Some(block) = Block::new(commands_of(rt, alloc, asks)?) else {
         return Ok(false);
     };
-    expect_commands(rt, alloc, block.commands(), asks)?;
+    expect_commands(rt, alloc, block.commands(), asks, b"")?;
     Ok(true)
 }
 
 #[test]
 fn which_commands_are_a_block(rt: HostRuntime) -> Result<(), Fail> {
-    for (asks, whether) in &MADE {
-        assert_eq!(rt;
-            is_block(&rt, rt.alloc(), asks)?,
-            *whether,
-            "{} commands",
-            asks.len()
-        );
+    for (row, (asks, whether)) in MADE.iter().enumerate() {
+        let found = is_block(&rt, rt.alloc(), asks)?;
+        assert_row(&rt, &found, whether, "commands of a block", row);
     }
     Ok(())
 }

@@ -1,52 +1,71 @@
 // Blocks over the plain store, row by row.
-ghost use Rattle.std.specs.Prelude.{◌≡◌, ◌<◌, ◌≤◌, length, IfOk};
-ghost use Rattle.set_script.specs.Objects.{most_objects};
-
 use crate::asked::Ask::{Add, Del, Get, Has, Move, Next, Pair, Put, Size};
 use crate::asked::{Ask, commands_of};
+use crate::comparing::{assert_row, must};
 use mv_history::{Store, WORDS};
 use plain_store::PlainStore;
 use section_work::Place;
 use section_work::Place::{Commit, Read};
 use set_blocks::{Block, BlockAttempt, BlockRules, Replies, attempt_block};
-use set_script::Reply;
+use set_script::{MOST_OBJECTS, Reply};
 use std::alloc::{AllocError, Global};
 use std::process::Abort;
-use std::test::*;
+use std::test::Fail;
 
 // The commands of a block, its replies, and its place.
 type Row = (&'static [Ask], &'static [Reply], Place);
 
+// What a new store is asked.
+struct Case {
+    // What it shows.
+    name: &'static str,
+    objects: u32,
+    // How many commits the store has room for.
+    room: u32,
+    rows: &'static [Row],
+}
+
 // A store of so many objects of zeros with room for so many commits, whose times begin at 0.
-fn open(alloc: Global, count: u32, room: u32) -> Result<PlainStore<BlockRules>, AllocError>
-    requires some { 180 < count }
-    requires few { count ≤ most_objects }
-{
+fn open(
+    rt: &impl Abort,
+    alloc: Global,
+    count: u32,
+    room: u32,
+) -> Result<PlainStore<BlockRules>, AllocError> {
+    must(rt, count > 180, "an object behind the roots");
+    must(rt, count <= MOST_OBJECTS, "no more objects than sets take");
     let zeros = vec![in alloc; [0; WORDS]; count as usize]?;
     PlainStore::new(alloc, &zeros, 0, room)
 }
 
-// Looks that these are the replies.
-fn expect_replies(rt: &impl Abort, said: &Replies, replies: &[Reply]) {
-    let count = said.len();
-    assert_eq!(rt; count as usize, replies.len());
+// Looks that these are the replies of a row.
+fn expect_replies(rt: &impl Abort, said: &Replies, replies: &[Reply], name: &str, row: usize) {
+    let count = said.len() as usize;
+    assert_row(rt, &count, &replies.len(), name, row);
     for (index, reply) in replies.iter().enumerate() {
-        assert!(rt; index < count as usize);
-        assert_eq!(rt; said.get(index as u32), *reply);
+        must(rt, index < count, "a reply");
+        assert_row(rt, &said.get(index as u32), reply, name, row);
     }
 }
 
-// Looks that the block was done at this place, with these replies.
-fn expect_done(rt: &impl Abort, answer: BlockAttempt, replies: &[Reply], place: Place) {
+// Looks that the block of a row was done at this place, with these replies.
+fn expect_done(
+    rt: &impl Abort,
+    answer: BlockAttempt,
+    replies: &[Reply],
+    place: Place,
+    name: &str,
+    row: usize,
+) {
     let BlockAttempt::Done {
         replies: said,
         place: at,
     } = answer
     else {
-        panic!(rt; "given up");
+        panic!(rt; "{name}: row {row} was given up");
     };
-    assert_eq!(rt; at, place);
-    expect_replies(rt, &said, replies);
+    assert_row(rt, &at, &place, name, row);
+    expect_replies(rt, &said, replies, name, row);
 }
 
 // Attempts a block of at most three commands, each of which locks five objects at most.
@@ -55,8 +74,8 @@ fn attempt_few<S: Store<Rules = BlockRules>>(
     store: S,
     block: &Block,
 ) -> (S, BlockAttempt) {
-    assert!(rt; block.commands().len() <= 3);
-    assert!(rt; store.write_max() >= 15);
+    must(rt, block.commands().len() <= 3, "three commands");
+    must(rt, store.write_max() >= 15, "a write set of 15 objects");
     attempt_block(store, block)
 }
 
@@ -65,18 +84,18 @@ fn play<S: Store<Rules = BlockRules> + Drop>(
     rt: &impl Abort,
     alloc: Global,
     mut store: S,
-    rows: &[Row],
+    case: &Case,
 ) -> Result<(), AllocError> {
-    for (asks, replies, place) in rows {
+    for (row, (asks, replies, place)) in case.rows.iter().enumerate() {
         let block = Block::new(commands_of(rt, alloc, asks)?).expect(rt, "a block");
         let (after, answer) = attempt_few(rt, store, &block);
-        expect_done(rt, answer, replies, *place);
+        expect_done(rt, answer, replies, *place, case.name, row);
         store = after;
     }
     Ok(())
 }
 
-static ONE_COMMIT: [Row; 2] = [
+const ONE_COMMIT: [Row; 2] = [
     (
         &[Add(0, 5), Move(0, 20, 5), Pair(0, 20, 5)],
         &[
@@ -92,13 +111,7 @@ static ONE_COMMIT: [Row; 2] = [
     (&[Has(20, 5)], &[Reply::Yes], Read(1)),
 ];
 
-#[test]
-fn a_block_is_one_commit(rt: HostRuntime) -> Result<(), Fail> {
-    let store = open(rt.alloc(), 4096, 8)?;
-    Ok(play(&rt, rt.alloc(), store, &ONE_COMMIT)?)
-}
-
-static FULL_IN_PART: [Row; 4] = [
+const FULL_IN_PART: [Row; 4] = [
     (
         &[Add(0, 1), Add(10, 2), Add(0, 3)],
         &[Reply::Full, Reply::Full, Reply::Full],
@@ -117,13 +130,7 @@ static FULL_IN_PART: [Row; 4] = [
     (&[Has(0, 1), Has(0, 3)], &[Reply::No, Reply::Yes], Read(1)),
 ];
 
-#[test]
-fn a_block_that_is_full_in_part_changes_nothing(rt: HostRuntime) -> Result<(), Fail> {
-    let store = open(rt.alloc(), 182, 8)?;
-    Ok(play(&rt, rt.alloc(), store, &FULL_IN_PART)?)
-}
-
-static UNDONE: [Row; 2] = [
+const UNDONE: [Row; 2] = [
     (
         &[Add(20, 7), Del(20, 7)],
         &[Reply::Yes, Reply::Yes],
@@ -132,13 +139,7 @@ static UNDONE: [Row; 2] = [
     (&[Del(20, 7), Has(20, 7)], &[Reply::No, Reply::No], Read(1)),
 ];
 
-#[test]
-fn what_a_later_command_undoes_is_a_commit(rt: HostRuntime) -> Result<(), Fail> {
-    let store = open(rt.alloc(), 190, 8)?;
-    Ok(play(&rt, rt.alloc(), store, &UNDONE)?)
-}
-
-static SEEN: [Row; 2] = [
+const SEEN: [Row; 2] = [
     (
         &[Put(3, 7, 9), Get(3, 7), Put(3, 7, 8)],
         &[Reply::Yes, Reply::Value { value: 9 }, Reply::Yes],
@@ -151,13 +152,13 @@ static SEEN: [Row; 2] = [
     ),
 ];
 
-#[test]
-fn a_command_sees_what_those_before_it_do(rt: HostRuntime) -> Result<(), Fail> {
-    let store = open(rt.alloc(), 190, 8)?;
-    Ok(play(&rt, rt.alloc(), store, &SEEN)?)
-}
+const ADDED: [Row; 1] = [(
+    &[Add(3, 1), Has(3, 1)],
+    &[Reply::Yes, Reply::Yes],
+    Commit(1),
+)];
 
-static WHOLE_SET: [Row; 3] = [
+const WHOLE_SET: [Row; 3] = [
     (
         &[Add(0, 4), Add(0, 2)],
         &[Reply::Yes, Reply::Yes],
@@ -167,13 +168,7 @@ static WHOLE_SET: [Row; 3] = [
     (&[Next(0, 3)], &[Reply::Key { key: 4 }], Read(1)),
 ];
 
-#[test]
-fn a_block_that_reads_a_whole_set_is_a_read(rt: HostRuntime) -> Result<(), Fail> {
-    let store = open(rt.alloc(), 190, 8)?;
-    Ok(play(&rt, rt.alloc(), store, &WHOLE_SET)?)
-}
-
-static LAST_TIME: [Row; 3] = [
+const LAST_TIME: [Row; 3] = [
     (&[Add(0, 1)], &[Reply::Yes], Commit(1)),
     (
         &[Has(0, 1), Add(0, 2)],
@@ -183,8 +178,56 @@ static LAST_TIME: [Row; 3] = [
     (&[Has(0, 1), Add(0, 1)], &[Reply::Yes, Reply::No], Read(1)),
 ];
 
+static CASES: [Case; 7] = [
+    Case {
+        name: "a block is one commit",
+        objects: 4096,
+        room: 8,
+        rows: &ONE_COMMIT,
+    },
+    Case {
+        name: "a block that is full in part changes nothing",
+        objects: 182,
+        room: 8,
+        rows: &FULL_IN_PART,
+    },
+    Case {
+        name: "what a later command undoes is a commit",
+        objects: 190,
+        room: 8,
+        rows: &UNDONE,
+    },
+    Case {
+        name: "a command sees what those before it do",
+        objects: 190,
+        room: 8,
+        rows: &SEEN,
+    },
+    Case {
+        name: "a has sees the add before it",
+        objects: 190,
+        room: 8,
+        rows: &ADDED,
+    },
+    Case {
+        name: "a block that reads a whole set is a read",
+        objects: 190,
+        room: 8,
+        rows: &WHOLE_SET,
+    },
+    Case {
+        name: "at the last time a change is worn",
+        objects: 190,
+        room: 1,
+        rows: &LAST_TIME,
+    },
+];
+
 #[test]
-fn at_the_last_time_a_change_is_worn(rt: HostRuntime) -> Result<(), Fail> {
-    let store = open(rt.alloc(), 190, 1)?;
-    Ok(play(&rt, rt.alloc(), store, &LAST_TIME)?)
+fn blocks_have_their_replies_and_their_place(rt: HostRuntime) -> Result<(), Fail> {
+    for case in &CASES {
+        let store = open(&rt, rt.alloc(), case.objects, case.room)?;
+        play(&rt, rt.alloc(), store, case)?;
+    }
+    Ok(())
 }

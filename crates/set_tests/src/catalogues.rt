@@ -1,8 +1,9 @@
 // A catalogue in memory: keys with their values, by name.
+use crate::comparing::{assert_row, must};
 use set_script::Catalogue;
 use std::alloc::AllocError;
 use std::process::Abort;
-use std::test::*;
+use std::test::Fail;
 
 // A name, a key, a value, and whether the key is new.
 static INSERTS: [(u32, u32, u64, bool); 6] = [
@@ -15,9 +16,10 @@ static INSERTS: [(u32, u32, u64, bool); 6] = [
 ];
 
 fn insert_all(rt: &impl Abort, catalogue: &mut Catalogue) -> Result<(), AllocError> {
-    for (name, key, value, added) in &INSERTS {
-        assert!(rt; *name < 30);
-        assert_eq!(rt; catalogue.insert(*name, *key, *value)?, *added);
+    for (row, (name, key, value, added)) in INSERTS.iter().enumerate() {
+        must(rt, *name < 30, "a set");
+        let found = catalogue.insert(*name, *key, *value)?;
+        assert_row(rt, &found, added, "inserts", row);
     }
     Ok(())
 }
@@ -26,9 +28,9 @@ fn insert_all(rt: &impl Abort, catalogue: &mut Catalogue) -> Result<(), AllocErr
 static REMOVES: [(u32, u32, bool); 3] = [(0, 4, true), (0, 4, false), (1, 5, false)];
 
 fn remove_all(rt: &impl Abort, catalogue: &mut Catalogue) {
-    for (name, key, taken) in &REMOVES {
-        assert!(rt; *name < 30);
-        assert_eq!(rt; catalogue.remove(*name, *key), *taken);
+    for (row, (name, key, taken)) in REMOVES.iter().enumerate() {
+        must(rt, *name < 30, "a set");
+        assert_row(rt, &catalogue.remove(*name, *key), taken, "removes", row);
     }
 }
 
@@ -40,10 +42,10 @@ static LEFT: [(u32, &[u32], &[u64]); 3] = [
 ];
 
 fn expect_all(rt: &impl Abort, catalogue: &Catalogue) {
-    for (name, keys, values) in &LEFT {
-        assert!(rt; *name < 30);
-        assert_eq!(rt; catalogue.keys(*name), *keys);
-        assert_eq!(rt; catalogue.values(*name), *values);
+    for (row, (name, keys, values)) in LEFT.iter().enumerate() {
+        must(rt, *name < 30, "a set");
+        assert_row(rt, &catalogue.keys(*name), keys, "keys that are left", row);
+        assert_row(rt, &catalogue.values(*name), values, "their values", row);
     }
 }
 

@@ -1,29 +1,44 @@
 // Commands over the plain store, row by row.
-ghost use Rattle.std.specs.Prelude.{◌≡◌, ◌<◌, ◌≤◌, length, IfOk};
-ghost use Rattle.set_script.specs.Objects.{most_objects};
-
 use crate::asked::Ask::{Add, Del, Get, Has, Move, Next, Put, Size};
 use crate::asked::{Ask, attempt_hinting, command, expect_attempt};
-use mv_history::{Section, Store, WORDS};
-use plain_store::PlainStore;
+use crate::comparing::{assert_same, must};
+use crate::opening::open_sets;
+use mv_history::{Section, Store};
 use section_work::Place;
 use section_work::Place::{Commit, Read};
 use set_catalog::{Attempt, Hints, attempt, read_all};
 use set_script::{Catalogue, Command, Reply, SetRules};
 use std::alloc::{AllocError, Global};
 use std::process::Abort;
-use std::test::*;
+use std::test::Fail;
 
 // A command, its reply, and its place.
 type Row = (Ask, Reply, Place);
 
-// A store of so many objects of zeros, whose times begin at 0.
-fn open(alloc: Global, count: u32, room: u32) -> Result<PlainStore<SetRules>, AllocError>
-    requires some { 180 < count }
-    requires few { count ≤ most_objects }
-{
-    let zeros = vec![in alloc; [0; WORDS]; count as usize]?;
-    PlainStore::new(alloc, &zeros, 0, room)
+// A set, and its keys.
+type Keys = (u32, &'static [u32]);
+
+// What a new store is asked.
+struct Case {
+    // What it shows.
+    name: &'static str,
+    objects: u32,
+    // How many commits the store has room for.
+    room: u32,
+    rows: &'static [Row],
+    // The sets that have keys at the end.
+    end: &'static [Keys],
+}
+
+// The same with hints.
+struct Hinted {
+    case: Case,
+    // How many objects they have room for.
+    room: u32,
+    // The objects that are noted at first, from this one on and below that one.
+    noted: (u32, u32),
+    // How many are noted at the end.
+    left: u32,
 }
 
 // Attempts one command, which locks five objects at most.
@@ -32,15 +47,15 @@ fn attempt_one<S: Store<Rules = SetRules>>(
     store: S,
     command: &Command,
 ) -> (S, Attempt) {
-    assert!(rt; store.write_max() >= 5);
+    must(rt, store.write_max() >= 5, "a write set of five objects");
     attempt(store, command)
 }
 
 // Attempts the commands, one after another, and looks at their replies and their places.
-fn play<S: Store<Rules = SetRules>>(rt: &impl Abort, mut store: S, rows: &[Row]) -> S {
-    for (ask, reply, place) in rows {
+fn play<S: Store<Rules = SetRules>>(rt: &impl Abort, mut store: S, case: &Case) -> S {
+    for (row, (ask, reply, place)) in case.rows.iter().enumerate() {
         let (after, answer) = attempt_one(rt, store, &command(rt, *ask));
-        expect_attempt(rt, answer, *reply, *place);
+        expect_attempt(rt, answer, *reply, *place, case.name, row);
         store = after;
     }
     store
@@ -51,11 +66,11 @@ fn play_with<S: Store<Rules = SetRules>>(
     rt: &impl Abort,
     mut store: S,
     hints: &mut Hints,
-    rows: &[Row],
+    case: &Case,
 ) -> S {
-    for (ask, reply, place) in rows {
+    for (row, (ask, reply, place)) in case.rows.iter().enumerate() {
         let (after, answer) = attempt_hinting(rt, store, hints, &command(rt, *ask));
-        expect_attempt(rt, answer, *reply, *place);
+        expect_attempt(rt, answer, *reply, *place, case.name, row);
         store = after;
     }
     store
@@ -71,9 +86,6 @@ fn read_end<S: Store<Rules = SetRules>>(
     (section.leave(), all)
 }
 
-// A set, and its keys.
-type Keys = (u32, &'static [u32]);
-
 // The keys of a set in a table of those that have some.
 fn keys_in(rows: &[Keys], index: u32) -> &'static [u32] {
     for (set, keys) in rows {
@@ -84,26 +96,47 @@ fn keys_in(rows: &[Keys], index: u32) -> &'static [u32] {
     &[]
 }
 
-// Looks that these sets have these keys, and that all others are empty.
-fn expect_keys(rt: &impl Abort, all: &Catalogue, rows: &[Keys]) {
+// Looks that the sets at the end have their keys, and that all others are empty.
+fn expect_keys(rt: &impl Abort, all: &Catalogue, case: &Case) {
     for index in 0..30 {
-        assert_eq!(rt; all.keys(index), keys_in(rows, index), "set {index}");
+        let wanted = keys_in(case.end, index);
+        assert_same(rt, &(index, all.keys(index)), &(index, wanted), case.name);
     }
 }
 
-// Looks for these keys in the catalogue that a store has come to.
+// Looks at the catalogue that a store has come to.
 fn expect_end<S: Store<Rules = SetRules> + Drop>(
     rt: &impl Abort,
     alloc: Global,
     store: S,
-    rows: &[Keys],
+    case: &Case,
 ) -> Result<(), AllocError> {
     let (_store, all) = read_end(alloc, store);
-    expect_keys(rt, &all?, rows);
+    expect_keys(rt, &all?, case);
     Ok(())
 }
 
-static ROOM_FOR_TWO: [Row; 6] = [
+// Plays a case in a new store.
+fn play_case(rt: &impl Abort, alloc: Global, case: &Case) -> Result<(), AllocError> {
+    let store = open_sets(rt, alloc, case.objects, case.room)?;
+    expect_end(rt, alloc, play(rt, store, case), case)
+}
+
+// The same, with hints.
+fn play_hinted(rt: &impl Abort, alloc: Global, hinted: &Hinted) -> Result<(), AllocError> {
+    let case = &hinted.case;
+    let mut hints = Hints::new(alloc, hinted.room)?;
+    let (first, end) = hinted.noted;
+    for object in first..end {
+        hints.note(object);
+    }
+    let store = open_sets(rt, alloc, case.objects, case.room)?;
+    let store = play_with(rt, store, &mut hints, case);
+    assert_same(rt, &hints.len(), &hinted.left, case.name);
+    expect_end(rt, alloc, store, case)
+}
+
+const ROOM_FOR_TWO: [Row; 6] = [
     (Add(0, 1), Reply::Yes, Commit(1)),
     (Add(10, 2), Reply::Yes, Commit(2)),
     (Add(0, 3), Reply::Full, Read(2)),
@@ -112,15 +145,7 @@ static ROOM_FOR_TWO: [Row; 6] = [
     (Move(10, 1, 2), Reply::Yes, Commit(5)),
 ];
 
-static ENDS_OF_TWO: [Keys; 2] = [(0, &[3]), (1, &[2])];
-
-#[test]
-fn a_store_is_full_and_has_room_again_after_a_del(rt: HostRuntime) -> Result<(), Fail> {
-    let store = play(&rt, open(rt.alloc(), 182, 8)?, &ROOM_FOR_TWO);
-    Ok(expect_end(&rt, rt.alloc(), store, &ENDS_OF_TWO)?)
-}
-
-static TREE_AND_LIST: [Row; 6] = [
+const TREE_AND_LIST: [Row; 6] = [
     (Add(20, 5), Reply::Yes, Commit(1)),
     (Add(20, 3), Reply::Yes, Commit(2)),
     (Add(0, 1), Reply::Full, Read(2)),
@@ -129,26 +154,12 @@ static TREE_AND_LIST: [Row; 6] = [
     (Move(20, 0, 3), Reply::Yes, Commit(5)),
 ];
 
-static END_OF_LIST: [Keys; 1] = [(0, &[1, 3])];
-
-#[test]
-fn a_tree_takes_two_nodes_for_its_second_key(rt: HostRuntime) -> Result<(), Fail> {
-    let store = play(&rt, open(rt.alloc(), 183, 8)?, &TREE_AND_LIST);
-    Ok(expect_end(&rt, rt.alloc(), store, &END_OF_LIST)?)
-}
-
-static LAST_TIME: [Row; 2] = [
+const LAST_TIME: [Row; 2] = [
     (Add(0, 1), Reply::Yes, Commit(1)),
     (Add(0, 2), Reply::Worn, Read(1)),
 ];
 
-#[test]
-fn no_time_is_left_after_the_last_commit(rt: HostRuntime) -> Result<(), Fail> {
-    let _store = play(&rt, open(rt.alloc(), 182, 1)?, &LAST_TIME);
-    Ok(())
-}
-
-static VALUES: [Row; 8] = [
+const VALUES: [Row; 8] = [
     (Get(20, 7), Reply::NoKey, Read(0)),
     (Put(20, 7, 9), Reply::Yes, Commit(1)),
     (Put(20, 7, 9), Reply::No, Read(1)),
@@ -159,29 +170,15 @@ static VALUES: [Row; 8] = [
     (Del(10, 7), Reply::Yes, Commit(4)),
 ];
 
-#[test]
-fn values_are_put_got_and_moved(rt: HostRuntime) -> Result<(), Fail> {
-    let mut hints = Hints::new(rt.alloc(), 4)?;
-    let _store = play_with(&rt, open(rt.alloc(), 190, 8)?, &mut hints, &VALUES);
-    assert_eq!(rt; hints.len(), 1);
-    Ok(())
-}
-
 // Of the sixteen buckets the one that is asked last has the least key.
-static NEXT_KEY: [Row; 3] = [
+const NEXT_KEY: [Row; 3] = [
     (Add(10, 16), Reply::Yes, Commit(1)),
     (Add(10, 15), Reply::Yes, Commit(2)),
     (Next(10, 0), Reply::Key { key: 15 }, Read(2)),
 ];
 
-#[test]
-fn the_next_key_of_a_table_may_be_in_its_last_bucket(rt: HostRuntime) -> Result<(), Fail> {
-    let _store = play(&rt, open(rt.alloc(), 182, 2)?, &NEXT_KEY);
-    Ok(())
-}
-
 // Nodes of a list and of a tree among the last of 70,000 objects.
-static LAST_OBJECTS: [Row; 8] = [
+const LAST_OBJECTS: [Row; 8] = [
     (Add(0, 7), Reply::Yes, Commit(1)),
     (Has(0, 7), Reply::Yes, Read(1)),
     (Add(20, 9), Reply::Yes, Commit(2)),
@@ -192,16 +189,76 @@ static LAST_OBJECTS: [Row; 8] = [
     (Has(0, 7), Reply::No, Read(4)),
 ];
 
-static ENDS_OF_LAST: [Keys; 1] = [(20, &[5, 9])];
+static CASES: [Case; 4] = [
+    Case {
+        name: "a store is full, and has room again after a del",
+        objects: 182,
+        room: 8,
+        rows: &ROOM_FOR_TWO,
+        end: &[(0, &[3]), (1, &[2])],
+    },
+    Case {
+        name: "a tree takes two nodes for its second key",
+        objects: 183,
+        room: 8,
+        rows: &TREE_AND_LIST,
+        end: &[(0, &[1, 3])],
+    },
+    Case {
+        name: "no time is left after the last commit",
+        objects: 182,
+        room: 1,
+        rows: &LAST_TIME,
+        end: &[(0, &[1])],
+    },
+    Case {
+        name: "the next key of a table may be in its last bucket",
+        objects: 182,
+        room: 2,
+        rows: &NEXT_KEY,
+        end: &[(10, &[15, 16])],
+    },
+];
 
 #[test]
-fn links_lead_to_objects_above_65_535(rt: HostRuntime) -> Result<(), Fail> {
-    let mut hints = Hints::new(rt.alloc(), 8)?;
-    for object in 69_992..70_000 {
-        hints.note(object);
+fn each_command_has_its_reply_and_its_place(rt: HostRuntime) -> Result<(), Fail> {
+    for case in &CASES {
+        play_case(&rt, rt.alloc(), case)?;
     }
-    let store = open(rt.alloc(), 70_000, 8)?;
-    let store = play_with(&rt, store, &mut hints, &LAST_OBJECTS);
-    assert_eq!(rt; hints.len(), 5);
-    Ok(expect_end(&rt, rt.alloc(), store, &ENDS_OF_LAST)?)
+    Ok(())
+}
+
+static HINTED: [Hinted; 2] = [
+    Hinted {
+        case: Case {
+            name: "values are put, got and moved",
+            objects: 190,
+            room: 8,
+            rows: &VALUES,
+            end: &[],
+        },
+        room: 4,
+        noted: (0, 0),
+        left: 1,
+    },
+    Hinted {
+        case: Case {
+            name: "links lead to objects above 65,535",
+            objects: 70_000,
+            room: 8,
+            rows: &LAST_OBJECTS,
+            end: &[(20, &[5, 9])],
+        },
+        room: 8,
+        noted: (69_992, 70_000),
+        left: 5,
+    },
+];
+
+#[test]
+fn commands_note_what_they_free(rt: HostRuntime) -> Result<(), Fail> {
+    for hinted in &HINTED {
+        play_hinted(&rt, rt.alloc(), hinted)?;
+    }
+    Ok(())
 }

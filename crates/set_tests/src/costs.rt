@@ -1,29 +1,18 @@
 // How many reads of objects it takes to count the keys of a set, to read the whole catalogue, and to
 // answer that a store is full.
-ghost use Rattle.std.specs.Prelude.{◌≡◌, ◌<◌, ◌≤◌, length, IfOk};
-ghost use Rattle.set_script.specs.Objects.{most_objects};
-
 use crate::asked::Ask::{Add, Del, Has, Move, Next, Put, Size};
 use crate::asked::{Ask, attempt_hinting, command, expect_attempt};
+use crate::comparing::{assert_row, assert_same, must};
 use crate::counted::Counted;
-use mv_history::{Section, Store, WORDS};
-use plain_store::PlainStore;
+use crate::opening::open_sets;
+use mv_history::{Section, Store};
 use section_work::Place;
 use section_work::Place::{Commit, Read};
 use set_catalog::{Attempt, HintedStore, Hints, Memo, read_all};
 use set_script::{Catalogue, Command, Reply, SetRules};
 use std::alloc::{AllocError, Global};
 use std::process::Abort;
-use std::test::*;
-
-// A store of so many objects of zeros, with room for so many commits.
-pub(crate) fn open(alloc: Global, count: u32, room: u32) -> Result<PlainStore<SetRules>, AllocError>
-    requires some { 180 < count }
-    requires few { count ≤ most_objects }
-{
-    let zeros = vec![in alloc; [0; WORDS]; count as usize]?;
-    PlainStore::new(alloc, &zeros, 0, room)
-}
+use std::test::Fail;
 
 // Adds a key to the set of this index.
 pub(crate) fn add<S: Store<Rules = SetRules>>(
@@ -60,10 +49,10 @@ fn expect_sizes<S: Store<Rules = SetRules>>(
     count: u64,
     time: u64,
 ) -> S {
-    for (index, most) in sizes {
+    for (row, (index, most)) in sizes.iter().enumerate() {
         let (after, answer, reads) = count_reads(rt, store, hints, Size(*index));
-        expect_attempt(rt, answer, Reply::Count { count }, Read(time));
-        assert_eq!(rt; reads, *most);
+        expect_attempt(rt, answer, Reply::Count { count }, Read(time), "sizes", row);
+        assert_row(rt, &reads, most, "reads of a size", row);
         store = after;
     }
     store
@@ -79,14 +68,6 @@ fn fill_two<S: Store<Rules = SetRules>>(rt: &impl Abort, mut store: S, hints: &m
         store = add(rt, store, hints, 13, i);
     }
     store
-}
-
-#[test]
-fn a_list_and_a_table_are_read_once(rt: HostRuntime) -> Result<(), Fail> {
-    let mut hints = Hints::new(rt.alloc(), 1)?;
-    let store = fill_two(&rt, open(rt.alloc(), 1000, 1000)?, &mut hints);
-    let _store = expect_sizes(&rt, store, &mut hints, &LIST_AND_TABLE, 200, 400);
-    Ok(())
 }
 
 // The root and 259 nodes, and one node twice where more than 64 links are pending.
@@ -114,11 +95,28 @@ fn fill_trees<S: Store<Rules = SetRules>>(rt: &impl Abort, mut store: S, hints: 
     store
 }
 
+// Fills sets, and looks at the sizes of a list and a table, or of three trees.
+fn look_at_sizes<S: Store<Rules = SetRules>>(
+    rt: &impl Abort,
+    store: S,
+    hints: &mut Hints,
+    are_trees: bool,
+) -> S {
+    if are_trees {
+        let store = fill_trees(rt, store, hints);
+        return expect_sizes(rt, store, hints, &TREES, 130, 780);
+    }
+    let store = fill_two(rt, store, hints);
+    expect_sizes(rt, store, hints, &LIST_AND_TABLE, 200, 400)
+}
+
 #[test]
-fn a_tree_is_read_once_whatever_its_form(rt: HostRuntime) -> Result<(), Fail> {
-    let mut hints = Hints::new(rt.alloc(), 1)?;
-    let store = fill_trees(&rt, open(rt.alloc(), 1000, 1000)?, &mut hints);
-    let _store = expect_sizes(&rt, store, &mut hints, &TREES, 130, 780);
+fn a_set_is_read_once_whatever_its_form(rt: HostRuntime) -> Result<(), Fail> {
+    for are_trees in [false, true] {
+        let mut hints = Hints::new(rt.alloc(), 1)?;
+        let store = open_sets(&rt, rt.alloc(), 1000, 1000)?;
+        let _store = look_at_sizes(&rt, store, &mut hints, are_trees);
+    }
     Ok(())
 }
 
@@ -147,24 +145,41 @@ fn look_at_tree<S: Store<Rules = SetRules> + Drop>(
         store = add(rt, store, hints, 20, i);
     }
     let (_store, all, reads) = counted_catalogue(alloc, store);
-    assert_eq!(rt; all?.keys(20).len(), 130);
+    assert_same(rt, &all?.keys(20).len(), &130, "keys of the tree");
     // The heads and the 259 nodes of the tree.
-    assert_eq!(rt; reads, 180 + 259);
+    assert_same(rt, &reads, &(180 + 259), "reads of the catalogue");
     Ok(())
 }
 
 #[test]
 fn a_catalogue_is_read_once(rt: HostRuntime) -> Result<(), Fail> {
     let mut hints = Hints::new(rt.alloc(), 1)?;
-    let store = open(rt.alloc(), 1000, 1000)?;
+    let store = open_sets(&rt, rt.alloc(), 1000, 1000)?;
     Ok(look_at_tree(&rt, rt.alloc(), store, &mut hints)?)
 }
 
 // A command, its reply, its place, and how many reads it takes.
 type Row = (Ask, Reply, Place, u32);
 
+// A set, and how many keys are added to it, from 1 on.
+type Keys = (u32, u32);
+
+// What a new store is asked, whose reads are counted.
+struct Case {
+    // What it shows.
+    name: &'static str,
+    objects: u32,
+    // How many hints its memo has room for.
+    memo: u32,
+    // The keys that are added first, in falling order, without hints and fingers.
+    before: Keys,
+    // Those that are added then, in rising order, with them.
+    then: Keys,
+    rows: &'static [Row],
+}
+
 // What a store of ten nodes is asked that has the keys 1 to 10 in `l3`.
-static FULL: [Row; 16] = [
+const FULL: [Row; 16] = [
     // A list's search reads the key and the link of each object up to where it ends, and for a change all words of
     // the two between which the key is: the head, the first node, both again, and a look through ten nodes;
     // then no look.
@@ -200,7 +215,8 @@ fn attempt_hinted<S: Store<Rules = SetRules>>(
     store: HintedStore<S>,
     command: &Command,
 ) -> (HintedStore<S>, Attempt) {
-    assert!(rt; store.store().write_max() >= 5);
+    let most = store.store().write_max();
+    must(rt, most >= 5, "a write set of five objects");
     store.attempt(command)
 }
 
@@ -208,51 +224,58 @@ fn attempt_hinted<S: Store<Rules = SetRules>>(
 fn play<S: Store<Rules = SetRules>>(
     rt: &impl Abort,
     mut store: HintedStore<Counted<S>>,
-    rows: &[Row],
+    case: &Case,
 ) -> S {
-    for (ask, reply, place, reads) in rows {
+    for (row, (ask, reply, place, reads)) in case.rows.iter().enumerate() {
         let before = store.store().reads;
         let (after, answer) = attempt_hinted(rt, store, &command(rt, *ask));
-        expect_attempt(rt, answer, *reply, *place);
-        assert_eq!(rt; after.store().reads.saturating_sub(before), *reads);
+        expect_attempt(rt, answer, *reply, *place, case.name, row);
+        let more = after.store().reads.saturating_sub(before);
+        assert_row(rt, &more, reads, case.name, row);
         store = after;
     }
     let Counted { view, reads: _ } = store.into_store();
     view
 }
 
-// Adds the keys 1 to 10 to the list 3.
-fn add_ten<S: Store<Rules = SetRules>>(
-    rt: &impl Abort,
-    mut store: HintedStore<S>,
-) -> HintedStore<S> {
-    for key in 1..11 {
-        store = attempt_hinted(rt, store, &command(rt, Add(3, key))).0;
+// Adds keys without hints and fingers. Falling ones are added at the head, where no walk is long.
+fn fill<S: Store<Rules = SetRules>>(rt: &impl Abort, mut store: S, keys: Keys) -> S {
+    let (index, count) = keys;
+    let mut hints = Hints::none();
+    for i in 0..count {
+        store = add(rt, store, &mut hints, index, count - i);
     }
     store
 }
 
-// A plain store has one seat, so no commit of another one comes between.
-#[test]
-fn a_full_store_is_looked_through_once(rt: HostRuntime) -> Result<(), Fail> {
-    let memo = Memo::new(rt.alloc(), 0)?;
-    let store = add_ten(&rt, counted(open(rt.alloc(), 190, 100)?, memo));
-    let _store = play(&rt, store, &FULL);
+// Adds keys with them.
+fn fill_hinted<S: Store<Rules = SetRules>>(
+    rt: &impl Abort,
+    mut store: HintedStore<S>,
+    keys: Keys,
+) -> HintedStore<S> {
+    let (index, count) = keys;
+    for i in 0..count {
+        store = attempt_hinted(rt, store, &command(rt, Add(index, i + 1))).0;
+    }
+    store
+}
+
+// Plays a case in a new store. A plain store has one seat, so no commit of another one comes between.
+fn play_case(rt: &impl Abort, alloc: Global, case: &Case) -> Result<(), AllocError> {
+    let store = fill(rt, open_sets(rt, alloc, case.objects, 1000)?, case.before);
+    let memo = Memo::new(alloc, case.memo)?;
+    let store = fill_hinted(rt, counted(store, memo), case.then);
+    let _store = play(rt, store, case);
     Ok(())
 }
 
-// A store whose list 3 has the keys 1 to 100. Falling keys are added at its head, where no walk is long.
-fn open_long(rt: &impl Abort, alloc: Global) -> Result<PlainStore<SetRules>, AllocError> {
-    let mut hints = Hints::none();
-    let mut store = open(alloc, 1000, 1000)?;
-    for i in 0..100 {
-        store = add(rt, store, &mut hints, 3, 100 - i);
-    }
-    Ok(store)
-}
-
 // What a store is asked that has the keys 1 to 100 in `l3`, and no finger yet.
-static FINGERS: [Row; 11] = [
+//
+// A search reads a finger's owner and its key, and where these are right then the key and the link of each node behind it
+// up to where it ends, else of the head and each node from there; a change then reads all words of the two between which
+// the key is.
+const FINGERS: [Row; 11] = [
     // From the head, past 89 nodes; a finger stays at 89.
     (Has(3, 90), Reply::Yes, Read(100), 91),
     (Has(3, 90), Reply::Yes, Read(100), 3),
@@ -271,29 +294,10 @@ static FINGERS: [Row; 11] = [
     (Has(3, 101), Reply::No, Read(103), 13),
 ];
 
-// A search reads a finger's owner and its key, and where these are right then the key and the link of each node behind it
-// up to where it ends, else of the head and each node from there; a change then reads all words of the two between which
-// the key is.
-#[test]
-fn a_search_begins_at_a_finger(rt: HostRuntime) -> Result<(), Fail> {
-    let memo = Memo::new(rt.alloc(), 1)?;
-    let store = counted(open_long(&rt, rt.alloc())?, memo);
-    let _store = play(&rt, store, &FINGERS);
-    Ok(())
-}
-
-// A store whose table 10 has the keys 1 to 32, so two in each bucket.
-fn open_table(rt: &impl Abort, alloc: Global) -> Result<PlainStore<SetRules>, AllocError> {
-    let mut hints = Hints::none();
-    let mut store = open(alloc, 1000, 1000)?;
-    for i in 0..32 {
-        store = add(rt, store, &mut hints, 10, i + 1);
-    }
-    Ok(store)
-}
-
 // What a store is asked that has the keys 1 to 32 in `h0`.
-static TABLE: [Row; 7] = [
+//
+// A table is asked bucket by bucket from the key's own on, until no bucket can have a lesser key than was found.
+const TABLE: [Row; 7] = [
     // The bucket of 5 alone: no other one has a key from 5 on that is below 5.
     (Next(10, 5), Reply::Key { key: 5 }, Read(32), 2),
     (Del(10, 6), Reply::Yes, Commit(33), 4),
@@ -307,11 +311,37 @@ static TABLE: [Row; 7] = [
     (Has(10, 38), Reply::No, Read(33), 2),
 ];
 
-// A table is asked bucket by bucket from the key's own on, until no bucket can have a lesser key than was found.
+static CASES: [Case; 3] = [
+    Case {
+        name: "a full store is looked through once",
+        objects: 190,
+        memo: 0,
+        before: (3, 0),
+        then: (3, 10),
+        rows: &FULL,
+    },
+    Case {
+        name: "a search begins at a finger",
+        objects: 1000,
+        memo: 1,
+        before: (3, 100),
+        then: (3, 0),
+        rows: &FINGERS,
+    },
+    Case {
+        name: "a table is asked from the bucket of the key on",
+        objects: 1000,
+        memo: 1,
+        before: (10, 32),
+        then: (10, 0),
+        rows: &TABLE,
+    },
+];
+
 #[test]
-fn a_table_is_asked_from_the_bucket_of_the_key_on(rt: HostRuntime) -> Result<(), Fail> {
-    let memo = Memo::new(rt.alloc(), 1)?;
-    let store = counted(open_table(&rt, rt.alloc())?, memo);
-    let _store = play(&rt, store, &TABLE);
+fn each_command_takes_so_many_reads(rt: HostRuntime) -> Result<(), Fail> {
+    for case in &CASES {
+        play_case(&rt, rt.alloc(), case)?;
+    }
     Ok(())
 }

@@ -1,13 +1,15 @@
 // How deep a tree gets whose keys are added one after another, each by a command of its own.
-use crate::costs::{add, open};
+use crate::comparing::must;
+use crate::costs::add;
+use crate::opening::open_sets;
 use mv_history::{Section, Store, View};
 use set_catalog::Hints;
 use set_script::SetRules;
 use std::process::Abort;
-use std::test::*;
+use std::test::Fail;
 
 // The order in which the keys from 0 on are added.
-#[derive(Clone, Copy, Debug)]
+#[derive(Clone, Copy)]
 enum Order {
     Rising,
     Falling,
@@ -76,22 +78,27 @@ fn add_all<S: Store<Rules = SetRules>>(
     store
 }
 
-// An order, how many keys are added in it, and how deep the tree may be then: an AVL tree of so many
+// An order by its name, how many keys are added in it, and how deep the tree may be then: an AVL tree of so many
 // leaves is at most so deep, since one of depth d + 2 has at least the leaves of one of d and of one of d + 1.
-static ORDERS: [(Order, u32, u32); 3] = [
-    (Order::Rising, 376, 11),
-    (Order::Falling, 376, 11),
-    (Order::FromBothEndsInwards, 376, 11),
+static ORDERS: [(&str, Order, u32, u32); 3] = [
+    ("rising keys", Order::Rising, 376, 11),
+    ("falling keys", Order::Falling, 376, 11),
+    (
+        "keys from both ends inwards",
+        Order::FromBothEndsInwards,
+        376,
+        11,
+    ),
 ];
 
 #[test]
 fn a_tree_stays_short_whatever_the_order_of_its_keys(rt: HostRuntime) -> Result<(), Fail> {
-    for (order, count, most) in &ORDERS {
+    for (name, order, count, most) in &ORDERS {
         let mut hints = Hints::new(rt.alloc(), 1)?;
-        let store = open(rt.alloc(), 1000, 1000)?;
+        let store = open_sets(&rt, rt.alloc(), 1000, 1000)?;
         let store = add_all(&rt, store, &mut hints, *order, *count);
         let (_store, deep) = deepest(store, *count);
-        assert!(rt; deep <= *most, "{:?}: {deep}", *order);
+        must(&rt, deep <= *most, name);
     }
     Ok(())
 }

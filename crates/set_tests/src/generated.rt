@@ -1,17 +1,14 @@
 // Generated scripts, whose words were computed apart, by the C code of the generator's paper, and what a command is for given words.
+use crate::asked::Ask::{Add, Del, Get, Has, Move, Next, Pair, Put, Size};
+use crate::asked::{Ask, command, commands_of};
+use crate::comparing::{assert_row, assert_same, must};
 use script_gen::{COMMANDS, DrawnWords, commands, text, write_line};
-use set_script::{Command, Name};
-use std::process::Abort;
-use std::test::*;
+use std::test::Fail;
 
 // A number, a seat, the script's first lines, its last ones, and its length.
 type Row = (u64, u32, &'static [u8], &'static [u8], usize);
 
-fn name(rt: &impl Abort, index: u32) -> Name {
-    Name::new(index).expect(rt, "an index below 30")
-}
-
-const SCRIPTS: [Row; 6] = [
+static SCRIPTS: [Row; 6] = [
     (
         0,
         0,
@@ -58,225 +55,89 @@ const SCRIPTS: [Row; 6] = [
 
 #[test]
 fn the_texts_of_scripts(rt: HostRuntime) -> Result<(), Fail> {
-    for (number, seat, first, last, length) in &SCRIPTS {
-        assert!(rt; *seat < 4);
+    for (row, (number, seat, first, last, length)) in SCRIPTS.iter().enumerate() {
+        must(&rt, *seat < 4, "a seat");
         let script = text(rt.alloc(), *number, *seat)?;
         let lines = script.iter().filter(|byte| **byte == b'\n').count();
         let ends = (script.starts_with(first), script.ends_with(last));
-        assert_eq!(rt;
-            (ends, script.len(), lines),
-            ((true, true), *length, 2000),
-            "of {number} {seat}"
-        );
+        let found = (ends, script.len(), lines);
+        let wanted = ((true, true), *length, 2000);
+        assert_row(&rt, &found, &wanted, "texts of scripts", row);
     }
     Ok(())
 }
+
+// The first and the last commands of the script 1 of seat 3.
+static FIRST: [Ask; 4] = [Add(24, 35), Move(13, 8, 119), Add(6, 15), Del(20, 171)];
+
+static LAST: [Ask; 1] = [Has(18, 71)];
 
 #[test]
 fn the_commands_of_a_script(rt: HostRuntime) -> Result<(), Fail> {
     let script = commands(rt.alloc(), 1, 3)?;
-    assert_eq!(rt; script.len(), COMMANDS);
-    let first = [
-        Command::Add {
-            name: name(&rt, 24),
-            key: 35,
-        },
-        Command::Move {
-            source: name(&rt, 13),
-            target: name(&rt, 8),
-            key: 119,
-        },
-        Command::Add {
-            name: name(&rt, 6),
-            key: 15,
-        },
-        Command::Del {
-            name: name(&rt, 20),
-            key: 171,
-        },
-    ];
-    assert!(rt; script.starts_with(&first));
-    let last = [Command::Has {
-        name: name(&rt, 18),
-        key: 71,
-    }];
-    assert!(rt; script.ends_with(&last));
+    assert_same(&rt, &script.len(), &COMMANDS, "commands");
+    let first = commands_of(&rt, rt.alloc(), &FIRST)?;
+    must(&rt, script.starts_with(&first), "the first commands");
+    let last = commands_of(&rt, rt.alloc(), &LAST)?;
+    must(&rt, script.ends_with(&last), "the last command");
     Ok(())
 }
 
+// The words of the action, the name, the other name and the key, the seat, and the command.
+static WORDS: [([u32; 4], u32, Ask); 10] = [
+    ([0, 0, 0, 0], 0, Add(0, 0)),
+    ([3, 29, 0, 63], 3, Add(29, 255)),
+    ([4, 30, 0, 64], 1, Del(0, 1)),
+    ([5, 59, 7, 1], 0, Del(29, 4)),
+    ([6, 31, 7, 2], 2, Has(1, 10)),
+    ([7, 0, 0, 0], 0, Move(0, 1, 0)),
+    ([7, 0, 28, 0], 0, Move(0, 29, 0)),
+    ([7, 29, 0, 0], 0, Move(29, 0, 0)),
+    ([15, 29, 57, 65], 3, Move(29, 28, 7)),
+    (
+        [u32::MAX, u32::MAX, u32::MAX, u32::MAX],
+        3,
+        Move(15, 1, 255),
+    ),
+];
+
 #[test]
 fn the_commands_of_words(rt: HostRuntime) {
-    // The four words and the seat, and the command.
-    let rows: [([u32; 4], u32, Command); 10] = [
-        (
-            [0, 0, 0, 0],
-            0,
-            Command::Add {
-                name: name(&rt, 0),
-                key: 0,
-            },
-        ),
-        (
-            [3, 29, 0, 63],
-            3,
-            Command::Add {
-                name: name(&rt, 29),
-                key: 255,
-            },
-        ),
-        (
-            [4, 30, 0, 64],
-            1,
-            Command::Del {
-                name: name(&rt, 0),
-                key: 1,
-            },
-        ),
-        (
-            [5, 59, 7, 1],
-            0,
-            Command::Del {
-                name: name(&rt, 29),
-                key: 4,
-            },
-        ),
-        (
-            [6, 31, 7, 2],
-            2,
-            Command::Has {
-                name: name(&rt, 1),
-                key: 10,
-            },
-        ),
-        (
-            [7, 0, 0, 0],
-            0,
-            Command::Move {
-                source: name(&rt, 0),
-                target: name(&rt, 1),
-                key: 0,
-            },
-        ),
-        (
-            [7, 0, 28, 0],
-            0,
-            Command::Move {
-                source: name(&rt, 0),
-                target: name(&rt, 29),
-                key: 0,
-            },
-        ),
-        (
-            [7, 29, 0, 0],
-            0,
-            Command::Move {
-                source: name(&rt, 29),
-                target: name(&rt, 0),
-                key: 0,
-            },
-        ),
-        (
-            [15, 29, 57, 65],
-            3,
-            Command::Move {
-                source: name(&rt, 29),
-                target: name(&rt, 28),
-                key: 7,
-            },
-        ),
-        (
-            [4294967295, 4294967295, 4294967295, 4294967295],
-            3,
-            Command::Move {
-                source: name(&rt, 15),
-                target: name(&rt, 1),
-                key: 255,
-            },
-        ),
-    ];
-    for ([action, first, other, key], seat, command) in &rows {
-        assert!(rt; *seat < 4);
+    for (row, ([action, name, other, key], seat, ask)) in WORDS.iter().enumerate() {
+        must(&rt, *seat < 4, "a seat");
         let words = DrawnWords {
             action: *action,
-            name: *first,
+            name: *name,
             other: *other,
             key: *key,
         };
-        assert_eq!(rt; words.command(*seat), *command);
+        let found = words.command(*seat);
+        assert_row(&rt, &found, &command(&rt, *ask), "words", row);
     }
 }
 
+// A command, and its line.
+static LINES: [(Ask, &str); 9] = [
+    (Add(0, u32::MAX), "add l0 4294967295\n"),
+    (
+        Put(29, u32::MAX, u64::MAX),
+        "put t9 4294967295 18446744073709551615\n",
+    ),
+    (Del(9, 0), "del l9 0\n"),
+    (Has(10, 9), "has h0 9\n"),
+    (Get(19, 10), "get h9 10\n"),
+    (Move(0, 29, u32::MAX), "move l0 t9 4294967295\n"),
+    (Pair(29, 0, 7), "pair t9 l0 7\n"),
+    (Size(20), "size t0\n"),
+    (Next(29, 1), "next t9 1\n"),
+];
+
 #[test]
 fn every_command_has_its_line(rt: HostRuntime) -> Result<(), Fail> {
-    let first = name(&rt, 0);
-    let second = name(&rt, 29);
-    let key = 4294967295;
-    let value = 18446744073709551615;
-    let rows: [(Command, &str); 9] = [
-        (Command::Add { name: first, key }, "add l0 4294967295\n"),
-        (
-            Command::Put {
-                name: second,
-                key,
-                value,
-            },
-            "put t9 4294967295 18446744073709551615\n",
-        ),
-        (
-            Command::Del {
-                name: name(&rt, 9),
-                key: 0,
-            },
-            "del l9 0\n",
-        ),
-        (
-            Command::Has {
-                name: name(&rt, 10),
-                key: 9,
-            },
-            "has h0 9\n",
-        ),
-        (
-            Command::Get {
-                name: name(&rt, 19),
-                key: 10,
-            },
-            "get h9 10\n",
-        ),
-        (
-            Command::Move {
-                source: first,
-                target: second,
-                key,
-            },
-            "move l0 t9 4294967295\n",
-        ),
-        (
-            Command::Pair {
-                first: second,
-                second: first,
-                key: 7,
-            },
-            "pair t9 l0 7\n",
-        ),
-        (
-            Command::Size {
-                name: name(&rt, 20),
-            },
-            "size t0\n",
-        ),
-        (
-            Command::Next {
-                name: second,
-                key: 1,
-            },
-            "next t9 1\n",
-        ),
-    ];
-    for (command, want) in &rows {
+    for (row, (ask, wanted)) in LINES.iter().enumerate() {
         let mut line = String::new(rt.alloc());
-        write_line(&mut line, *command)?;
-        assert_eq!(rt; line.as_str(), *want);
+        write_line(&mut line, command(&rt, *ask))?;
+        assert_row(&rt, &line.as_str(), wanted, "lines", row);
     }
     Ok(())
 }

@@ -5,6 +5,7 @@ ghost use Rattle.grow_hash.specs.Grown.{first_grown};
 ghost use Rattle.grow_hash.specs.GrowPlans.{IsOfGrown};
 ghost use Rattle.set_script.specs.Objects.{most_objects};
 
+use crate::comparing::{assert_row, must};
 use crate::counted::Counted;
 use grow_hash::{GROW_LEVELS, GrowRules, GrowStep, GrowingRules, attempt_grow};
 use mv_history::{Store, View, WORDS};
@@ -13,7 +14,7 @@ use section_work::Place;
 use set_script::{Command, Name, Reply};
 use std::alloc::{AllocError, Global};
 use std::process::Abort;
-use std::test::*;
+use std::test::Fail;
 
 // A command on the set.
 #[derive(Clone, Copy)]
@@ -54,7 +55,7 @@ fn count_reads<const LEVELS: u32, R: GrowingRules<LEVELS>, S: Store<Rules = R>>(
     store: S,
     ask: Ask,
 ) -> (S, GrowStep, u32) {
-    assert!(rt; store.write_max() >= 2);
+    must(rt, store.write_max() >= 2, "a write set of two objects");
     let counted = Counted {
         view: store,
         reads: 0,
@@ -86,21 +87,18 @@ static ROWS: [Row; 12] = [
     (Ask::Del(17), Reply::Yes, Place::Commit(8), 6),
 ];
 
-// Looks that a command was done at this place, with this reply.
-fn expect_step(rt: &impl Abort, answer: GrowStep, reply: Reply, place: Place) {
-    assert_eq!(rt; answer, GrowStep::Done { reply, place });
-}
-
 // Attempts the commands, one after another.
 fn play<const LEVELS: u32, R: GrowingRules<LEVELS>, S: Store<Rules = R>>(
     rt: &impl Abort,
     mut store: S,
     rows: &[Row],
+    name: &str,
 ) -> S {
-    for (ask, reply, place, most) in rows {
+    for (row, (ask, reply, place, most)) in rows.iter().enumerate() {
         let (after, answer, reads) = count_reads(rt, store, *ask);
-        expect_step(rt, answer, *reply, *place);
-        assert_eq!(rt; reads, *most);
+        let (reply, place) = (*reply, *place);
+        assert_row(rt, &answer, &GrowStep::Done { reply, place }, name, row);
+        assert_row(rt, &reads, most, name, row);
         store = after;
     }
     store
@@ -122,7 +120,12 @@ fn open<const LEVELS: u32>(
 
 #[test]
 fn one_walk_of_one_bucket(rt: HostRuntime) -> Result<(), Fail> {
-    let _store = play(&rt, open::<GROW_LEVELS>(rt.alloc(), 4096)?, &ROWS);
+    let _store = play(
+        &rt,
+        open::<GROW_LEVELS>(rt.alloc(), 4096)?,
+        &ROWS,
+        "one walk",
+    );
     Ok(())
 }
 
@@ -143,6 +146,6 @@ static MIXED: [Row; 7] = [
 
 #[test]
 fn mixed_keys_stand_apart(rt: HostRuntime) -> Result<(), Fail> {
-    let _store = play(&rt, open::<11>(rt.alloc(), 4096)?, &MIXED);
+    let _store = play(&rt, open::<11>(rt.alloc(), 4096)?, &MIXED, "mixed keys");
     Ok(())
 }

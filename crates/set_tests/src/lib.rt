@@ -22,6 +22,8 @@ mod catalogues;
 #[cfg(test)]
 mod commands;
 #[cfg(test)]
+mod comparing;
+#[cfg(test)]
 mod costs;
 #[cfg(test)]
 mod counted;

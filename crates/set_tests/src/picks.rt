@@ -1,7 +1,5 @@
 // Which objects are picked, and how many reads that takes.
-ghost use Rattle.std.specs.Prelude.{◌<◌, ◌≤◌};
-ghost use Rattle.set_script.specs.Objects.{most_objects};
-
+use crate::comparing::{assert_same, must};
 use crate::counted::Counted;
 use mv_history::{AnyRules, Section, Store, View, WORDS, Words};
 use plain_store::{PlainSection, PlainStore};
@@ -11,65 +9,31 @@ use std::alloc::{AllocError, Global};
 use std::process::Abort;
 use std::test::Fail;
 
-// A section over so many objects of zeros.
-fn open(alloc: Global, count: u32) -> Result<PlainSection<AnyRules>, AllocError>
-    requires some { 0 < count }
-    requires few { count ≤ most_objects }
-{
-    let zeros = vec![in alloc; [0; WORDS]; count as usize]?;
-    let store = PlainStore::<AnyRules>::new(alloc, &zeros, 0, 1)?;
-    Ok(store.enter())
+// Which object is to be picked.
+#[derive(Clone, Copy)]
+enum Wanted {
+    This(u32),
+    AnyBut(u32),
+    AnyFrom(u32),
+    Nothing,
 }
 
-// Makes an object not vacant, in the section alone.
-fn occupy<S: Section>(rt: &impl Abort, section: &mut S, object: u32) {
-    assert!(rt; object < section.objects());
-    section.try_lock(object);
-    assert!(rt; section.has_lock(object));
-    section.write(object, [1; WORDS]);
-}
-
-// Picks one vacant object.
-fn pick_one<V: View>(rt: &impl Abort, view: &mut V, hints: &mut Hints) -> Option<Picked> {
-    assert!(rt; view.objects() > 180);
-    assert!(rt; view.objects() <= MOST_OBJECTS);
-    pick(view, hints, 1)
-}
-
-#[test]
-fn a_right_hint_takes_one_read(rt: HostRuntime) -> Result<(), Fail> {
-    let mut hints = Hints::new(rt.alloc(), 8)?;
-    hints.note(4000);
-    let section = open(rt.alloc(), 4096)?;
-    let mut view = Counted {
-        view: section,
-        reads: 0,
-    };
-    let picked = pick_one(&rt, &mut view, &mut hints);
-    assert_eq!(rt;
-        picked,
-        Some(Picked {
-            first: 4000,
-            second: 0,
-        })
-    );
-    assert_eq!(rt; view.reads, 1);
-    let Counted { view, reads: _ } = view;
-    let _store = view.abort();
-    Ok(())
-}
-
-#[test]
-fn a_wrong_hint_is_dropped(rt: HostRuntime) -> Result<(), Fail> {
-    let mut hints = Hints::new(rt.alloc(), 8)?;
-    hints.note(4000);
-    let mut section = open(rt.alloc(), 4096)?;
-    occupy(&rt, &mut section, 4000);
-    let picked = pick_one(&rt, &mut section, &mut hints);
-    assert!(rt; picked.is_some_and(|p| p.first != 4000));
-    assert_eq!(rt; hints.len(), 0);
-    let _store = section.abort();
-    Ok(())
+// A look for one vacant object.
+struct Case {
+    // What it shows.
+    name: &'static str,
+    objects: u32,
+    // The end of the objects, from the first node on, that are not vacant.
+    taken: u32,
+    // Those that the section itself makes not vacant.
+    occupied: &'static [u32],
+    // Those that the hints have noted.
+    noted: &'static [u32],
+    wanted: Wanted,
+    // How many reads it takes, at least and at most.
+    reads: (u32, u32),
+    // How many objects stay noted, where it is said.
+    left: Option<u32>,
 }
 
 // So many objects, of which those from the first node to this one are not vacant.
@@ -82,34 +46,121 @@ fn taken_to(alloc: Global, count: u32, end: u32) -> Result<Vec<Words>, AllocErro
     Ok(words)
 }
 
-#[test]
-fn a_first_look_among_many_objects_passes_by_the_nodes_in_front(
-    rt: HostRuntime,
-) -> Result<(), Fail> {
-    let mut hints = Hints::new(rt.alloc(), 8)?;
-    let words = taken_to(rt.alloc(), 70_000, 63_000)?;
-    assert_eq!(rt; words.len(), 70_000);
-    let store = PlainStore::<AnyRules>::new(rt.alloc(), &words, 0, 1)?;
-    let mut view = Counted {
-        view: store.enter(),
-        reads: 0,
-    };
-    let picked = pick_one(&rt, &mut view, &mut hints);
-    assert!(rt; picked.is_some_and(|p| p.first >= 63_000));
-    assert!(rt; view.reads < 8 + 1_024);
-    let Counted { view, reads: _ } = view;
-    let _store = view.abort();
-    Ok(())
+// A section over the objects of a case.
+fn open(rt: &impl Abort, alloc: Global, case: &Case) -> Result<PlainSection<AnyRules>, AllocError> {
+    let words = taken_to(alloc, case.objects, case.taken)?;
+    let count = words.len();
+    must(rt, count > 0, "an object");
+    must(
+        rt,
+        count <= MOST_OBJECTS as usize,
+        "no more objects than sets take",
+    );
+    assert_same(rt, &count, &(case.objects as usize), case.name);
+    Ok(PlainStore::<AnyRules>::new(alloc, &words, 0, 1)?.enter())
 }
 
+// Makes an object not vacant, in the section alone: it has an owner.
+fn occupy<S: Section>(rt: &impl Abort, section: &mut S, object: u32) {
+    must(rt, object < section.objects(), "an object of the section");
+    section.try_lock(object);
+    must(rt, section.has_lock(object), "an object that is held");
+    section.write(object, [1, 0, 0, 0, 0, 0]);
+}
+
+// Picks one vacant object.
+fn pick_one<V: View>(rt: &impl Abort, view: &mut V, hints: &mut Hints) -> Option<Picked> {
+    must(rt, view.objects() > 180, "an object behind the roots");
+    must(
+        rt,
+        view.objects() <= MOST_OBJECTS,
+        "no more objects than sets take",
+    );
+    pick(view, hints, 1)
+}
+
+// Whether that is what is wanted.
+fn fits(picked: Option<Picked>, wanted: Wanted) -> bool {
+    match (picked, wanted) {
+        (Some(picked), Wanted::This(first)) => picked == Picked { first, second: 0 },
+        (Some(picked), Wanted::AnyBut(other)) => picked.first != other,
+        (Some(picked), Wanted::AnyFrom(first)) => picked.first >= first,
+        (None, Wanted::Nothing) => true,
+        _ => false,
+    }
+}
+
+// Looks for one vacant object, as the case says.
+fn look<S: Section>(rt: &impl Abort, mut section: S, hints: &mut Hints, case: &Case) -> S::Back {
+    for object in case.noted {
+        hints.note(*object);
+    }
+    for object in case.occupied {
+        occupy(rt, &mut section, *object);
+    }
+    let mut view = Counted {
+        view: section,
+        reads: 0,
+    };
+    let picked = pick_one(rt, &mut view, hints);
+    must(rt, fits(picked, case.wanted), case.name);
+    let Counted { view, reads } = view;
+    let (least, most) = case.reads;
+    must(rt, least <= reads && reads <= most, case.name);
+    if let Some(left) = case.left {
+        assert_same(rt, &hints.len(), &left, case.name);
+    }
+    view.abort()
+}
+
+static CASES: [Case; 4] = [
+    Case {
+        name: "a right hint takes one read",
+        objects: 4096,
+        taken: 0,
+        occupied: &[],
+        noted: &[4000],
+        wanted: Wanted::This(4000),
+        reads: (1, 1),
+        left: None,
+    },
+    Case {
+        name: "a wrong hint is dropped",
+        objects: 4096,
+        taken: 0,
+        occupied: &[4000],
+        noted: &[4000],
+        wanted: Wanted::AnyBut(4000),
+        reads: (0, u32::MAX),
+        left: Some(0),
+    },
+    Case {
+        name: "a first look among many objects passes by the nodes in front",
+        objects: 70_000,
+        taken: 63_000,
+        occupied: &[],
+        noted: &[],
+        wanted: Wanted::AnyFrom(63_000),
+        reads: (0, 8 + 1_023),
+        left: None,
+    },
+    Case {
+        name: "too few vacant objects are none",
+        objects: 182,
+        taken: 0,
+        occupied: &[180, 181],
+        noted: &[180],
+        wanted: Wanted::Nothing,
+        reads: (0, u32::MAX),
+        left: None,
+    },
+];
+
 #[test]
-fn too_few_vacant_objects_are_none(rt: HostRuntime) -> Result<(), Fail> {
-    let mut hints = Hints::new(rt.alloc(), 8)?;
-    hints.note(180);
-    let mut section = open(rt.alloc(), 182)?;
-    occupy(&rt, &mut section, 180);
-    occupy(&rt, &mut section, 181);
-    assert_eq!(rt; pick_one(&rt, &mut section, &mut hints), None);
-    let _store = section.abort();
+fn vacant_objects_are_picked(rt: HostRuntime) -> Result<(), Fail> {
+    for case in &CASES {
+        let mut hints = Hints::new(rt.alloc(), 8)?;
+        let _store = look(&rt, open(&rt, rt.alloc(), case)?, &mut hints, case);
+    }
     Ok(())
 }

@@ -1,11 +1,12 @@
 // Scripts that are accepted, and scripts that are refused, with their line and their fault.
 use crate::asked::Ask::{Add, Del, Get, Has, Move, Next, Pair, Put, Size};
 use crate::asked::{Ask, command, expect_commands, name};
+use crate::comparing::{assert_read, assert_same, must};
 use script_parser::{FaultKind, Format, ScriptFault, parse, parse_line};
 use set_script::{Command, MOST_COMMANDS, Name};
 use std::alloc::{AllocError, Global};
 use std::process::Abort;
-use std::test::*;
+use std::test::Fail;
 
 // A text, and its commands.
 type Good = (&'static [u8], &'static [Ask]);
@@ -15,7 +16,11 @@ type Broken = (&'static [u8], u32, FaultKind);
 
 // The commands of a text, or its fault.
 fn parsed(rt: &impl Abort, alloc: Global, text: &[u8]) -> Result<Vec<Command>, ScriptFault> {
-    assert!(rt; text.len() <= 1_048_577);
+    must(
+        rt,
+        text.len() <= 1_048_577,
+        "no longer text than a script may be",
+    );
     parse(alloc, text)
 }
 
@@ -26,7 +31,7 @@ fn format(rt: &impl Abort, number: u32) -> Format {
 // Looks that the text has these commands.
 fn accepts(rt: &impl Abort, alloc: Global, text: &[u8], asks: &[Ask]) -> Result<(), AllocError> {
     let answer = parsed(rt, alloc, text).ok().expect(rt, "a script");
-    expect_commands(rt, alloc, &answer, asks)
+    expect_commands(rt, alloc, &answer, asks, text)
 }
 
 fn accepts_all(rt: &impl Abort, alloc: Global, rows: &[Good]) -> Result<(), AllocError> {
@@ -39,7 +44,7 @@ fn accepts_all(rt: &impl Abort, alloc: Global, rows: &[Good]) -> Result<(), Allo
 // Looks that the text has its first fault on this line.
 fn refuses(rt: &impl Abort, alloc: Global, text: &[u8], line: u32, kind: FaultKind) {
     let fault = parsed(rt, alloc, text).err().expect(rt, "a fault");
-    assert_eq!(rt; fault, ScriptFault::At { line, kind }, "of {text:?}");
+    assert_read(rt, &fault, &ScriptFault::At { line, kind }, text);
 }
 
 fn refuses_all(rt: &impl Abort, alloc: Global, rows: &[Broken]) {
@@ -107,7 +112,7 @@ fn a_line_is_refused_for_what_is_wrong_first(rt: HostRuntime) {
     refuses_all(&rt, rt.alloc(), &WRONG_FIRST);
 }
 
-static BROKEN: [Broken; 15] = [
+static BROKEN: [Broken; 16] = [
     (b"has l0 1\nhas l0", 2, FaultKind::Count),
     (b"\n\nsize", 3, FaultKind::Count),
     (b"pair l0 l0 1 2", 1, FaultKind::Count),
@@ -123,6 +128,7 @@ static BROKEN: [Broken; 15] = [
     (b"has l0 1\r\r\n", 1, FaultKind::Key),
     (b"\xff", 1, FaultKind::Word),
     (b"Has l0 1", 1, FaultKind::Word),
+    (b"%ab", 1, FaultKind::Word),
 ];
 
 #[test]
@@ -202,8 +208,8 @@ fn count_commands(rt: &impl Abort, alloc: Global, text: &[u8]) -> usize {
 #[test]
 fn one_command_too_many(rt: HostRuntime) -> Result<(), Fail> {
     let mut text = most_commands(rt.alloc())?;
-    assert_eq!(rt; count_commands(&rt, rt.alloc(), &text), 65_536);
-    assert_eq!(rt; MOST_COMMANDS, 65_536);
+    let count = count_commands(&rt, rt.alloc(), &text);
+    assert_same(&rt, &(count, MOST_COMMANDS), &(65_536, 65_536), "commands");
     text.extend_from_slice(b"\nhas l0 1\nADD")?;
     refuses(&rt, rt.alloc(), &text, 65_539, FaultKind::Many);
     Ok(())
@@ -236,7 +242,7 @@ fn wanted(
 // Looks that the line is read as this in the format of this number.
 fn expect_line(rt: &impl Abort, text: &[u8], number: u32, line: Result<Option<Ask>, FaultKind>) {
     let found = parse_line(text, &format(rt, number));
-    assert_eq!(rt; found, wanted(rt, line), "of {text:?}");
+    assert_read(rt, &found, &wanted(rt, line), text);
 }
 
 #[test]
@@ -248,9 +254,9 @@ fn a_line_is_read_in_its_format(rt: HostRuntime) {
 
 #[test]
 fn numbers_of_names_and_formats(rt: HostRuntime) {
-    assert_eq!(rt; name(&rt, 29).index(), 29);
-    assert!(rt; Name::new(30).is_none());
-    assert!(rt; Format::new(0).is_none());
-    assert!(rt; Format::new(3).is_none());
-    assert_eq!(rt; Format::new(2), Some(format(&rt, 2)));
+    assert_same(&rt, &name(&rt, 29).index(), &29, "the last name");
+    must(&rt, Name::new(30).is_none(), "no further name");
+    let none = Format::new(0).is_none() && Format::new(3).is_none();
+    must(&rt, none, "no formats but 1 and 2");
+    assert_same(&rt, &Format::new(2), &Some(format(&rt, 2)), "format 2");
 }

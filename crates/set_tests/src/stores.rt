@@ -3,11 +3,12 @@ ghost use Rattle.std.specs.Prelude.{◌≡◌, ◌<◌, ◌≤◌, length, IfOk}
 ghost use Rattle.plain_store.specs.Meaning.{seat_of};
 ghost use Rattle.mv_history.specs.Calls.{GoesOn};
 
+use crate::comparing::{assert_same, must};
 use mv_history::{AnyRules, CommitAnswer, LockAnswer, Room, Section, Store, View, WORDS, Words};
 use plain_store::{PlainSection, PlainStore};
 use std::alloc::{AllocError, Global};
 use std::process::Abort;
-use std::test::*;
+use std::test::Fail;
 
 #[derive(Clone, Copy, Debug, PartialEq, Eq)]
 enum Outcome {
@@ -44,31 +45,28 @@ fn commit_one<S: Store<Rules = AnyRules>>(store: S, object: u32, words: Words) -
     }
 }
 
-// Looks that the object has these words in the last state.
-fn expect_state(rt: &impl Abort, store: &PlainStore<AnyRules>, object: u32, words: Words)
-    requires in_range { object < length (seat_of store.now).start }
-{
-    assert_eq!(rt; store.state(object), words);
-}
-
 #[test]
 fn plain_store_end(rt: HostRuntime) -> Result<(), Fail> {
     let store = open(rt.alloc(), 182, 40, 1)?;
     let (store, first) = commit_one(store, 181, [1, 2, 3, 4, 5, 6]);
     let (store, second) = commit_one(store, 180, [7; 6]);
-    assert_eq!(rt; (first, second), (Outcome::Done(41), Outcome::End));
-    expect_state(&rt, &store, 181, [1, 2, 3, 4, 5, 6]);
-    expect_state(&rt, &store, 180, [0; 6]);
+    let ended = (Outcome::Done(41), Outcome::End);
+    assert_same(&rt, &(first, second), &ended, "two commits");
+    let states = (store.state(181), store.state(180));
+    assert_same(&rt, &states, &([1, 2, 3, 4, 5, 6], [0; 6]), "states");
     Ok(())
 }
 
 // Looks at a store of 182 objects, in which nothing was done, and at a section in it.
 fn look_at_new<S: Store>(rt: &impl Abort, mut store: S) -> S {
-    assert_eq!(rt; (store.seat(), store.write_max()), (0, 16));
-    assert_eq!(rt; store.prepare(), Room::Enough);
+    let (seat, most) = (store.seat(), store.write_max());
+    assert_same(rt, &(seat, most), &(0, 16), "the seat");
+    assert_same(rt, &store.prepare(), &Room::Enough, "room");
     let section = store.enter();
-    assert_eq!(rt; (section.at(), section.last()), (0, 4_294_967_295));
-    assert_eq!(rt; (section.write_max(), section.objects()), (16, 182));
+    let times = (section.at(), section.last());
+    assert_same(rt, &times, &(0, 4_294_967_295), "times");
+    let (most, objects) = (section.write_max(), section.objects());
+    assert_same(rt, &(most, objects), &(16, 182), "the section");
     section.leave()
 }
 
@@ -82,7 +80,7 @@ fn a_new_store_has_room(rt: HostRuntime) -> Result<(), Fail> {
 fn words_of<V: View>(rt: &impl Abort, view: &mut V, object: u32) -> Words
     ensures { V.as_before view.old view.new }
 {
-    assert!(rt; object < view.objects());
+    must(rt, object < view.objects(), "an object of the view");
     view.read(object)
 }
 
@@ -90,9 +88,9 @@ fn words_of<V: View>(rt: &impl Abort, view: &mut V, object: u32) -> Words
 fn write_one<S: Section>(rt: &impl Abort, section: &mut S)
     ensures { GoesOn (S.section section.old) (S.section section.new) }
 {
-    assert!(rt; 3 < section.objects());
-    assert_eq!(rt; section.try_lock(3), LockAnswer::Held);
-    assert!(rt; section.has_lock(3));
+    must(rt, 3 < section.objects(), "an object of the section");
+    assert_same(rt, &section.try_lock(3), &LockAnswer::Held, "a lock");
+    must(rt, section.has_lock(3), "an object that is held");
     section.write(3, [9; 6]);
 }
 
@@ -101,9 +99,9 @@ fn write_and_look<S: Section>(rt: &impl Abort, section: &mut S)
     ensures { GoesOn (S.section section.old) (S.section section.new) }
 {
     write_one(rt, section);
-    assert_eq!(rt; words_of(rt, section, 3), [9; 6]);
-    assert_eq!(rt; words_of(rt, section, 4), [0; 6]);
-    assert_eq!(rt; section.held(), 1);
+    assert_same(rt, &words_of(rt, section, 3), &[9; 6], "what is written");
+    assert_same(rt, &words_of(rt, section, 4), &[0; 6], "the next object");
+    assert_same(rt, &section.held(), &1, "how many are held");
 }
 
 // Does so in a new section, and aborts it.
@@ -118,7 +116,8 @@ fn write_and_abort<S: Store>(rt: &impl Abort, store: S) -> S
 // Looks that a new section holds nothing.
 fn look_at_entered<S: Store>(rt: &impl Abort, store: S) -> S {
     let section = store.enter();
-    assert_eq!(rt; (section.at(), section.held()), (0, 0));
+    let found = (section.at(), section.held());
+    assert_same(rt, &found, &(0, 0), "a new section");
     section.leave()
 }
 
@@ -126,8 +125,24 @@ fn look_at_entered<S: Store>(rt: &impl Abort, store: S) -> S {
 fn an_abort_leaves_nothing(rt: HostRuntime) -> Result<(), Fail> {
     let store = open(rt.alloc(), 182, 0, 4_294_967_295)?;
     let store = write_and_abort(&rt, store);
-    expect_state(&rt, &store, 3, [0; 6]);
+    assert_same(&rt, &store.state(3), &[0; 6], "the state");
     let _store = look_at_entered(&rt, store);
+    Ok(())
+}
+
+// Locks an object, and looks at its words.
+fn lock_and_look<S: Section>(rt: &impl Abort, section: &mut S, object: u32, words: Words) {
+    assert!(rt; object < section.objects());
+    assert_eq!(rt; section.try_lock(object), LockAnswer::Held);
+    assert_eq!(rt; words_of(rt, section, object), words);
+}
+
+#[test]
+fn a_lock_has_the_words_of_its_object(rt: HostRuntime) -> Result<(), Fail> {
+    let two = [[1; WORDS], [2; WORDS]];
+    let mut section = PlainStore::<AnyRules>::new(rt.alloc(), &two, 0, 1)?.enter();
+    lock_and_look(&rt, &mut section, 1, [2; WORDS]);
+    let _store = section.abort();
     Ok(())
 }
 
@@ -140,32 +155,30 @@ fn enter_one(alloc: Global, words: Words) -> Result<PlainSection<AnyRules>, Allo
 fn expect_two<V: View>(rt: &impl Abort, view: &mut V, place: u32, want: (u64, u64))
     requires { place < 5 }
 {
-    assert!(rt; 0 < view.objects());
-    assert_eq!(rt; view.read_pair(0, place), want);
+    must(rt, 0 < view.objects(), "an object of the view");
+    assert_same(rt, &view.read_pair(0, place), &want, "a pair");
 }
 
 fn expect_four<V: View>(rt: &impl Abort, view: &mut V, place: u32, want: [u64; 4])
     requires { place < 3 }
 {
-    assert!(rt; 0 < view.objects());
-    assert_eq!(rt; view.read_four(0, place), want);
+    must(rt, 0 < view.objects(), "an object of the view");
+    assert_same(rt, &view.read_four(0, place), &want, "four words");
+}
+
+// Reads words next to each other.
+fn look_at_parts<S: Section>(rt: &impl Abort, mut section: S) -> S::Back {
+    expect_two(rt, &mut section, 0, (1, 2));
+    expect_two(rt, &mut section, 2, (3, 4));
+    expect_two(rt, &mut section, 4, (5, 6));
+    expect_four(rt, &mut section, 0, [1, 2, 3, 4]);
+    expect_four(rt, &mut section, 2, [3, 4, 5, 6]);
+    section.abort()
 }
 
 #[test]
-fn a_pair_is_two_words_next_to_each_other(rt: HostRuntime) -> Result<(), Fail> {
-    let mut section = enter_one(rt.alloc(), [1, 2, 3, 4, 5, 6])?;
-    expect_two(&rt, &mut section, 0, (1, 2));
-    expect_two(&rt, &mut section, 2, (3, 4));
-    expect_two(&rt, &mut section, 4, (5, 6));
-    let _store = section.abort();
-    Ok(())
-}
-
-#[test]
-fn four_words_stand_next_to_each_other(rt: HostRuntime) -> Result<(), Fail> {
-    let mut section = enter_one(rt.alloc(), [1, 2, 3, 4, 5, 6])?;
-    expect_four(&rt, &mut section, 0, [1, 2, 3, 4]);
-    expect_four(&rt, &mut section, 2, [3, 4, 5, 6]);
-    let _store = section.abort();
+fn a_pair_and_four_words_stand_next_to_each_other(rt: HostRuntime) -> Result<(), Fail> {
+    let section = enter_one(rt.alloc(), [1, 2, 3, 4, 5, 6])?;
+    let _store = look_at_parts(&rt, section);
     Ok(())
 }

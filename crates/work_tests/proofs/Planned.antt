@@ -9,7 +9,7 @@ use Rattle.mv_history.proofs.Drifting.{words-drifts, length-drifts}
 use Rattle.mv_history.proofs.Snapshots.{length-state_of}
 use Rattle.section_work.specs.Works.{IsPlanned}
 use Rattle.work_tests.specs.Counting.{IsCounter, CountsOne, count_meaning, one_more}
-use Rattle.work_tests.specs.declared.counter.Told.TheVariants.{Counted}
+use Rattle.work_tests.specs.declared.told.Told.TheVariants.{Counted}
 
 -- a section reads one object
 pub one_object : (s : InSection) (u : State) → u ≡ state_of s → IsSection IsCounter CountsOne s → 0 < length u

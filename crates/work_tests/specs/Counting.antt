@@ -3,8 +3,8 @@ use Rattle.std.specs.Prelude.{◌≡◌, ℕ, ◌+◌, ◌%◌, ◌^◌, ◌<◌
 use Rattle.mv_history.specs.State.{State, Writes, written}
 use Rattle.mv_history.specs.Meaning.{words_at}
 use Rattle.section_work.specs.Works.{Meaning}
-use Rattle.work_tests.specs.declared.counter.Told.{Told}
-use Rattle.work_tests.specs.declared.counter.Told.TheVariants.{Counted, Late}
+use Rattle.work_tests.specs.declared.told.Told.{Told}
+use Rattle.work_tests.specs.declared.told.Told.TheVariants.{Counted, Late}
 
 -- the words of the counter, once one more is counted
 abbrev pub one_more : State → List ℕ

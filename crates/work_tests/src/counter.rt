@@ -3,6 +3,7 @@ ghost use Rattle.std.specs.Prelude.{◌≡◌, ◌≤◌, length, vec_len, IfOk}
 ghost use Rattle.mvrlu.specs.Meant.{whole_of};
 ghost use Rattle.mvrlu.specs.Whole.{last_state};
 
+use crate::told::Told;
 use domain_run::{Task, config_of, run};
 use item_workers::{Runner, run_item};
 use mv_history::{Protocol, Store, Tag, View, Words};
@@ -27,15 +28,6 @@ impl Protocol for Counting {
     ghost one_start = { IsCounter-prop };
 
     ghost one_allowed = { CountsOne-prop };
-}
-
-/// What came of a count.
-#[derive(Clone, Copy, Debug, Drop, PartialEq, Eq)]
-pub enum Told {
-    /// It was counted.
-    Counted,
-    /// No time was left.
-    Late,
 }
 
 /// One more.
@@ -97,7 +89,7 @@ impl Work for Count {
 }
 
 /// One thread: how often it is to count, and what came of the last one.
-#[derive(Clone, Copy, Debug, Drop, PartialEq, Eq)]
+#[derive(Clone, Copy, Drop)]
 pub struct Counter {
     pub asked: u32,
     pub last: Told,

@@ -1,5 +1,6 @@
 // Four threads count one counter up.
-use crate::counter::{Counter, Told, count_together};
+use crate::counter::{Counter, count_together};
+use crate::told::Told;
 use mv_history::View;
 use std::test::*;
 
@@ -15,6 +16,10 @@ fn four_threads_count_to_a_thousand(rt: HostRuntime) -> Result<(), Fail> {
         return Err(Fail::new("there is memory for four threads"));
     };
     assert_eq!(rt; closing.read(0)[0], 1000);
-    assert!(rt; counters.iter().all(|counter| counter.last == Told::Counted));
+    assert!(rt;
+        counters
+            .iter()
+            .all(|counter| matches!(counter.last, Told::Counted))
+    );
     Ok(())
 }

@@ -5,6 +5,7 @@ ghost use Rattle.mvrlu.specs.Opened.{IsOpened};
 ghost use Rattle.set_script.specs.Objects.{no_words};
 ghost use Rattle.set_script.specs.declared.script.TheConstants.{MOST_COMMANDS};
 
+use crate::comparing::{assert_same, must};
 use mv_history::LogTable;
 use mv_layout::Config;
 use mvrlu::{Closing, Domain, OpenFault, Seat, open_zeros};
@@ -16,7 +17,7 @@ use set_script::{Command, Name, Reply, SetRules};
 use std::alloc::{AllocError, Global};
 use std::process::Abort;
 use std::sync::Wait;
-use std::test::*;
+use std::test::Fail;
 use std::thread::Threads;
 
 // Two seats, and times from 40 on.
@@ -168,7 +169,8 @@ static LINES: [[Line; 3]; 3] = [
 
 // Looks that it is one of them.
 fn expect_lines(rt: &impl Abort, lines: &[Line]) {
-    assert!(rt; LINES.iter().any(|can_come| lines == can_come.as_slice()));
+    let can_come = LINES.iter().any(|can_come| lines == can_come.as_slice());
+    must(rt, can_come, "lines that can come");
 }
 
 // Looks at the tables of the two logs: one commit of two objects each, and one or two objects for each attempt that met the other
@@ -183,18 +185,23 @@ fn expect_tables(rt: &impl Abort, tables: &[LogTable]) {
             aborts,
             rests,
         } = *table;
-        assert_eq!(rt; (commits, rests, freed), (1, 0, 0));
+        assert_same(rt, &(commits, rests, freed), &(1, 0, 0), "counts");
         let given_up = live.saturating_sub(2);
-        assert!(rt; live >= 2 && given_up >= aborts && given_up.saturating_sub(aborts) <= aborts);
+        let fits = given_up >= aborts && given_up.saturating_sub(aborts) <= aborts;
+        must(
+            rt,
+            live >= 2 && fits,
+            "objects of attempts that were given up",
+        );
     }
-    assert_eq!(rt; tables.len(), 2);
+    assert_same(rt, &tables.len(), &2, "tables");
 }
 
 #[test]
 fn two_scripts_make_one_history(rt: HostRuntime) -> Result<(), Fail> {
     let scripts = two_scripts(rt.alloc())?;
     let (closing, lines) = run_each(&rt, rt.alloc(), TWO, &scripts)?;
-    assert_eq!(rt; closing.time(), 42);
+    assert_same(&rt, &closing.time(), &42, "the last time");
     expect_lines(&rt, &lines);
     expect_tables(&rt, closing.tables());
     Ok(())

@@ -12,6 +12,8 @@
 #![tactic(auto)]
 
 #[cfg(test)]
+mod comparing;
+#[cfg(test)]
 mod domains;
 #[cfg(test)]
 mod outside;

@@ -1,12 +1,13 @@
 // The calls that take memory, and the system's files and streams.
 ghost use Rattle.std.specs.Prelude.{IsSome};
 
+use crate::comparing::{assert_same, must};
 use memory_outside::{MemFiles, MemSink, MemText};
 use run_outside::{Files, RealErr, RealFiles, RealOut, Sink};
 use std::alloc::{AllocError, Global};
 use std::fs;
 use std::process::Abort;
-use std::test::*;
+use std::test::Fail;
 
 // A piece, and how many of its bytes a call takes. None: the call fails.
 type Piece = (&'static [u8], Option<usize>);
@@ -14,8 +15,9 @@ type Piece = (&'static [u8], Option<usize>);
 // Writes the pieces, one after another.
 fn write_all<S: Sink>(rt: &impl Abort, sink: &mut S, rows: &[Piece]) {
     for (piece, count) in rows {
-        assert!(rt; 0 < piece.len());
-        assert_eq!(rt; sink.write(piece).ok(), *count, "{piece:?}");
+        must(rt, 0 < piece.len(), "a piece");
+        let name = str::from_utf8(piece).unwrap_or("a piece");
+        assert_same(rt, &sink.write(piece).ok(), count, name);
     }
 }
 
@@ -31,7 +33,7 @@ static PIECES: [Piece; 4] = [
 fn writes_to_memory_until_the_room_is_spent(rt: HostRuntime) -> Result<(), Fail> {
     let mut sink = MemSink::new(rt.alloc(), 5, 3, Vec::from_array(rt.alloc(), [2])?)?;
     write_all(&rt, &mut sink, &PIECES);
-    assert_eq!(rt; sink.bytes(), b"abcde".as_slice());
+    assert_same(&rt, &sink.bytes(), &b"abcde".as_slice(), "all five");
     Ok(())
 }
 
@@ -39,8 +41,8 @@ fn writes_to_memory_until_the_room_is_spent(rt: HostRuntime) -> Result<(), Fail>
 fn opens<F: Files>(rt: &impl Abort, files: &mut F, absent: &str, name: &str)
     ensures { IsSome (F.opened files.new) }
 {
-    assert!(rt; files.open(absent).is_err());
-    assert!(rt; files.open(name).is_ok());
+    must(rt, files.open(absent).is_err(), "no text of the name");
+    must(rt, files.open(name).is_ok(), "a text of the name");
 }
 
 // Reads into the buffer from this place on, and looks how many bytes come. None: the call fails.
@@ -54,8 +56,9 @@ fn reads<F: Files>(
     requires { IsSome (F.opened files.old) }
     ensures { IsSome (F.opened files.new) }
 {
-    assert!(rt; from < buffer.len());
-    assert_eq!(rt; files.read(&mut buffer[from..]).ok(), count);
+    must(rt, from < buffer.len(), "room");
+    let found = files.read(&mut buffer[from..]).ok();
+    assert_same(rt, &found, &count, "how many bytes come");
 }
 
 // A file of three bytes, of which two come in a call, and the third call fails.
@@ -77,7 +80,7 @@ fn reads_from_memory_to_the_end(rt: HostRuntime) -> Result<(), Fail> {
     reads(&rt, &mut files, &mut buffer, 0, Some(2));
     reads(&rt, &mut files, &mut buffer, 2, Some(1));
     reads(&rt, &mut files, &mut buffer, 3, Some(0));
-    assert_eq!(rt; buffer, *b"abc\0");
+    assert_same(&rt, &buffer, b"abc\0", "the bytes");
     Ok(())
 }
 
@@ -87,7 +90,7 @@ fn reads_abc<F: Files>(rt: &impl Abort, files: &mut F, path: &str) {
     opens(rt, files, "run_outside_test_absent.txt", path);
     reads(rt, files, &mut buffer, 0, Some(3));
     reads(rt, files, &mut buffer, 3, Some(0));
-    assert_eq!(rt; &buffer[..3], b"abc".as_slice());
+    assert_same(rt, &&buffer[..3], &b"abc".as_slice(), "the bytes");
 }
 
 #[test]
@@ -102,14 +105,14 @@ fn reads_a_file_of_the_system(rt: HostRuntime) -> Result<(), Fail> {
 #[test]
 fn writes_to_standard_output(rt: HostRuntime) -> Result<(), Fail> {
     let mut out = RealOut::new(&rt);
-    assert_eq!(rt; out.write(b"out\n").ok(), Some(4));
+    assert_same(&rt, &out.write(b"out\n").ok(), &Some(4), "the bytes");
     Ok(())
 }
 
 #[test]
 fn writes_text_to_standard_error(rt: HostRuntime) -> Result<(), Fail> {
     let mut err = RealErr::new(&rt);
-    assert_eq!(rt; err.write(b"err\n").ok(), Some(4));
-    assert!(rt; err.write(&[255]).is_err());
+    assert_same(&rt, &err.write(b"err\n").ok(), &Some(4), "a text");
+    must(&rt, err.write(&[255]).is_err(), "no text is refused");
     Ok(())
 }

@@ -1,10 +1,11 @@
 // The text of long runs, whose lines several threads put in order and render: it is that of one thread.
+use crate::comparing::must;
 use run_report::{Line, order, render, render_in_order};
 use section_work::Place;
 use set_script::{Catalogue, Reply};
 use std::alloc::{AllocError, Global};
 use std::process::Abort;
-use std::test::*;
+use std::test::Fail;
 use std::thread::Threads;
 
 // How many lines each seat has, of which there are three: enough for three parts.
@@ -60,7 +61,7 @@ fn same_text<R: Abort + Threads + Sync>(
     order(&mut ordered);
     let want = render(alloc, &ordered, &end, &[])?;
     let found = render_in_order(rt, alloc, threads, &mut lines, &end, &[])?;
-    assert!(rt; found == want);
+    must(rt, found == want, "the text of one thread");
     Ok(())
 }
 

@@ -2,6 +2,7 @@
 ghost use Rattle.std.specs.Prelude.{◌≡◌, ◌<◌, ◌≤◌, All, IfOk, length};
 ghost use Rattle.plain_store.specs.Meaning.{seat_of};
 
+use crate::comparing::{assert_same, must};
 use command_pool::run_pool;
 use mv_history::WORDS;
 use plain_store::PlainStore;
@@ -12,7 +13,7 @@ use set_script::{Command, Name, Reply, SetRules};
 use std::alloc::{AllocError, Global};
 use std::process::Abort;
 use std::sync::{Mutex, Wait};
-use std::test::*;
+use std::test::Fail;
 use std::thread::Threads;
 
 // A store of so many objects of zeros, whose times begin at 0, with room for 300 commits.
@@ -112,7 +113,7 @@ static DONE: [Line; 4] = [
 
 // Looks that these are the lines.
 fn expect_lines(rt: &impl Abort, found: &[Line], want: &[Line]) {
-    assert_eq!(rt; found, want);
+    assert_same(rt, &found, &want, "lines");
 }
 
 #[test]
@@ -120,7 +121,7 @@ fn one_store_does_all_in_order(rt: HostRuntime) -> Result<(), Fail> {
     let commands = four()?;
     let stores = open_one(rt.alloc())?;
     let (back, lines) = run(&rt, rt.alloc(), stores, &commands, &OpenGate)?;
-    assert_eq!(rt; back, 1);
+    assert_same(&rt, &back, &1, "stores");
     expect_lines(&rt, &lines, &DONE);
     Ok(())
 }
@@ -129,7 +130,7 @@ fn one_store_does_all_in_order(rt: HostRuntime) -> Result<(), Fail> {
 fn no_commands_have_no_lines(rt: HostRuntime) -> Result<(), Fail> {
     let stores = open_two(rt.alloc())?;
     let (back, lines) = run(&rt, rt.alloc(), stores, &[], &OpenGate)?;
-    assert_eq!(rt; (back, lines.len()), (2, 0));
+    assert_same(&rt, &(back, lines.len()), &(2, 0), "stores and lines");
     Ok(())
 }
 
@@ -161,9 +162,10 @@ fn three_stores_do_each_of_300_commands_once(rt: HostRuntime) -> Result<(), Fail
     let commands = adds(rt.alloc(), 300)?;
     let stores = open_three(rt.alloc())?;
     let (back, lines) = run(&rt, rt.alloc(), stores, &commands, &OpenGate)?;
-    assert_eq!(rt; (back, lines.len()), (3, 300));
+    assert_same(&rt, &(back, lines.len()), &(3, 300), "stores and lines");
     for number in 1..301 {
-        assert_eq!(rt; count_yes(&lines, number), 1);
+        let found = (number, count_yes(&lines, number));
+        assert_same(&rt, &found, &(number, 1), "how often a command is done");
     }
     Ok(())
 }
@@ -218,15 +220,17 @@ fn hold<R: Threads + Wait + Abort + Sync>(rt: &R, alloc: Global, held: u32) -> R
         }),
     };
     let (_back, lines) = run(rt, alloc, open_two(alloc)?, &commands, &gate)?;
-    assert_eq!(rt; lines.len(), 5);
+    assert_same(rt, &lines.len(), &5, "lines");
     let HoldGate {
         rt: _,
         held: _,
         seen,
     } = gate;
-    assert!(rt;
-        !seen.into_inner().ran_out,
-        "one worker did all, or the commands were shared out"
+    let waited = !seen.into_inner().ran_out;
+    must(
+        rt,
+        waited,
+        "each of two workers takes a command while the other one is held",
     );
     Ok(())
 }

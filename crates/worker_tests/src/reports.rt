@@ -1,11 +1,12 @@
 // The order and the text of runs.
+use crate::comparing::{assert_same, must};
 use mv_history::LogTable;
 use run_report::{Line, order, render, summary};
 use section_work::Place;
 use set_script::{Catalogue, Reply};
 use std::alloc::{AllocError, Global};
 use std::process::Abort;
-use std::test::*;
+use std::test::Fail;
 
 const NO_TABLE: LogTable = LogTable {
     live: 0,
@@ -34,12 +35,12 @@ fn lines_of(alloc: Global, rows: &[Row]) -> Result<Vec<Line>, AllocError> {
 
 /// Looks that these are the lines.
 pub fn expect_lines(rt: &impl Abort, found: &[Line], want: &[Line]) {
-    assert_eq!(rt; found, want);
+    assert_same(rt, &found, &want, "lines");
 }
 
 // Looks that this is the text.
 fn expect_text(rt: &impl Abort, found: &[u8], want: &[u8]) {
-    assert_eq!(rt; found, want);
+    assert_same(rt, &found, &want, "a text");
 }
 
 // A set, a key, and its value.
@@ -48,7 +49,7 @@ type Key = (u32, u32, u64);
 fn end_of(rt: &impl Abort, alloc: Global, keys: &[Key]) -> Result<Catalogue, AllocError> {
     let mut end = Catalogue::new(alloc)?;
     for (name, key, value) in keys {
-        assert!(rt; *name < 30);
+        must(rt, *name < 30, "a set");
         end.insert(*name, *key, *value)?;
     }
     Ok(end)

@@ -2,6 +2,7 @@
 ghost use Rattle.std.specs.Prelude.{◌≡◌, ◌<◌, IfOk, length};
 ghost use Rattle.plain_store.specs.Meaning.{seat_of};
 
+use crate::comparing::assert_same;
 use crate::reports::expect_lines;
 use mv_history::WORDS;
 use plain_store::PlainStore;
@@ -12,7 +13,7 @@ use section_work::Place;
 use set_script::{Command, Name, Reply, SetRules};
 use std::alloc::{AllocError, Global};
 use std::sync::Wait;
-use std::test::*;
+use std::test::Fail;
 use std::thread::Threads;
 
 // A store of so many objects of zeros, whose times begin at 40.
@@ -90,7 +91,7 @@ fn run<R: Threads + Wait + Sync>(
 #[test]
 fn a_line_for_each_command_in_order(rt: HostRuntime) -> Result<(), Fail> {
     let (back, lines) = run(&rt, rt.alloc(), five(rt.alloc())?)?;
-    assert_eq!(rt; back, 1);
+    assert_same(&rt, &back, &1, "stores");
     expect_lines(&rt, &lines, &DONE);
     Ok(())
 }
@@ -103,7 +104,7 @@ fn no_line_where_there_is_no_script(rt: HostRuntime) -> Result<(), Fail> {
         Ok(ran) => ran,
         Err((_stores, error)) => return Err(error.into()),
     };
-    assert_eq!(rt; stores.len(), 0);
-    assert_eq!(rt; lines.len(), 0);
+    let counts = (stores.len(), lines.len());
+    assert_same(&rt, &counts, &(0, 0), "stores and lines");
     Ok(())
 }

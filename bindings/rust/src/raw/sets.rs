@@ -1,40 +1,19 @@
 //! The calls of the library on seats of sets.
 
+use super::handle::{Call, Handle, Open, Part};
+use super::replies::{RawOptions, RawReply};
 use super::Status;
 use crate::block::Command;
-use crate::sets::{Entry, Set, SetsOptions};
+use crate::sets::{Entry, Set};
 use crate::Counts;
-use std::ffi::c_void;
 use std::mem::size_of;
-use std::ptr::null_mut;
 
-/// What the library owns of a seat of sets: closed, or the block of an open one. It may be moved between calls, and isn't copied.
-#[repr(C)]
+/// The part of sets.
 #[derive(Debug)]
-pub(crate) struct RawSets {
-    is_open: u8,
-    at: *mut c_void,
-}
+pub(crate) enum OfSets {}
 
-/// The options as the library reads them.
-#[repr(C)]
-struct RawOptions {
-    size: u32,
-    objects: u32,
-    slots: u32,
-    opening_time: u64,
-}
-
-/// What the library tells of a command.
-#[repr(C)]
-#[derive(Clone, Copy, Debug, Default)]
-pub(crate) struct RawReply {
-    pub(crate) value: u64,
-    pub(crate) time: u64,
-    committed: u32,
-    second: u32,
-    status: i32,
-}
+/// A seat of sets.
+pub(crate) type RawSets = Handle<OfSets>;
 
 /// A command of a block as the library reads it.
 #[repr(C)]
@@ -57,9 +36,7 @@ pub(crate) struct RawWalk {
     more: u32,
 }
 
-const _: () = assert!(size_of::<RawWalk>() == 24 && size_of::<Entry>() == 16);
-const _: () = assert!(size_of::<RawSets>() == 16 && size_of::<RawOptions>() == 24);
-const _: () = assert!(size_of::<RawReply>() == 32 && size_of::<RawCommand>() == 24);
+const _: () = assert!(size_of::<RawWalk>() == 24 && size_of::<Entry>() == 16 && size_of::<RawCommand>() == 24);
 
 extern "C" {
     fn mvrlu_raw_sets_open(options: &RawOptions, seats: *mut RawSets, count: usize) -> i32;
@@ -92,21 +69,6 @@ extern "C" {
     ) -> i32;
 }
 
-impl RawReply {
-    pub(crate) fn status(&self) -> Status {
-        Status::of(self.status)
-    }
-
-    pub(crate) fn committed(&self) -> bool {
-        self.committed != 0
-    }
-
-    /// Of a pair.
-    pub(crate) fn both(&self) -> (bool, bool) {
-        (self.value != 0, self.second != 0)
-    }
-}
-
 impl RawWalk {
     /// The least key for which there was no room.
     pub(crate) fn next(&self) -> Option<u32> {
@@ -129,45 +91,18 @@ impl RawCommand {
     }
 }
 
-// SAFETY: `Send` is proved of the library's own type of a seat of sets. What hands a seat to another thread orders the two, and
-// the calls of a seat take it by `&mut`, so one thread uses it at a time.
-unsafe impl Send for RawSets {}
+// SAFETY: these are the calls of the library on seats of sets, and it asks no more of its caller.
+unsafe impl Part for OfSets {
+    type Options = RawOptions;
+    const OPEN: Open<Self> = mvrlu_raw_sets_open;
+    const CLOSE: Call<Self, u64> = mvrlu_raw_sets_close;
+    const TIDY: Call<Self, u32> = mvrlu_raw_sets_tidy;
+    const COUNT: Call<Self, Counts> = mvrlu_raw_sets_counts;
+}
 
-/// Each call is safe: a seat is closed, or it is as the library left it, since its fields are seen by the library alone and no
-/// copy of it is ever made. It and what is read or written are references, which are valid and, where written, unshared for
-/// the length of the call, and the library keeps none of them.
+/// Each call is safe: a seat is closed, or it is as the library left it. It and what is read or written are references, which are
+/// valid and, where written, unshared for the length of the call, and the library keeps none of them.
 impl RawSets {
-    /// A closed seat.
-    pub(crate) const CLOSED: RawSets = RawSets { is_open: 0, at: null_mut() };
-
-    /// Opens a domain with these seats, all of them or none.
-    pub(crate) fn open_all(options: SetsOptions, seats: &mut [RawSets]) -> Status {
-        let SetsOptions { objects, slots, opening_time } = options;
-        let options = RawOptions { size: size_of::<RawOptions>() as u32, objects, slots, opening_time };
-        // SAFETY: as said above; the pointer and the count are those of one slice that is borrowed mutably.
-        Status::of(unsafe { mvrlu_raw_sets_open(&options, seats.as_mut_ptr(), seats.len()) })
-    }
-
-    /// Closes it. The last time of its domain, where it was open and the last one.
-    pub(crate) fn close(&mut self) -> Option<u64> {
-        let mut last = 0;
-        if self.is_open == 0 {
-            return None;
-        }
-        // SAFETY: as said above.
-        Status::of(unsafe { mvrlu_raw_sets_close(self, &mut last) }).tells_last(last)
-    }
-
-    pub(crate) fn tidy(&mut self, live: &mut u32) -> Status {
-        // SAFETY: as said above.
-        Status::of(unsafe { mvrlu_raw_sets_tidy(self, live) })
-    }
-
-    pub(crate) fn count(&mut self, counts: &mut Counts) -> Status {
-        // SAFETY: as said above.
-        Status::of(unsafe { mvrlu_raw_sets_counts(self, counts) })
-    }
-
     pub(crate) fn add(&mut self, set: Set, key: u32, told: &mut RawReply) -> Status {
         // SAFETY: as said above.
         Status::of(unsafe { mvrlu_raw_sets_add(self, set.number(), key, told) })

@@ -1,17 +1,15 @@
-use Rattle.std.proofs.Common.{◌∙◌, ap, length, map, sym}
+use Rattle.std.proofs.Common.{ap, length, map, sym}
 use Rattle.std.proofs.lemmas.List.{length-map}
-use Rattle.mv_layout.specs.declared.config.Config.{Config}
-use Rattle.script_files.proofs.set_blocks_lemmas.Remaining.{lawful_after}
-use Rattle.block_workers.specs.Workers.{blocks_of}
-use Rattle.block_domain.proofs.OneRun.{run_permuted}
+use Rattle.std.proofs.lemmas.List.Sorted.{IsPermutation-refl}
 use Rattle.block_domain.specs.Whole.{BlocksRunOf}
+use Rattle.block_workers.specs.Workers.{blocks_of}
+use Rattle.run_kinds.specs.Kinds.{config_of}
+use Rattle.run_kinds.proofs.Along.{left_along}
+use Rattle.run_kinds.proofs.Opened.{back_meets}
+use Rattle.run_kinds.proofs.domain_loan_lemmas.Opened.{opened_new}
+use Rattle.script_files.proofs.set_blocks_lemmas.Remaining.{lawful_after}
 use Rattle.script_files.specs.set_blocks.BlockRules.{IsBlockCommit}
 use Rattle.block_run.specs.BlockRuns.{block_chain_of}
-use Rattle.run_kinds.specs.Kinds.{config_of}
-use Rattle.run_kinds.proofs.Along.{run_along}
-use Rattle.block_run.proofs.Still.{still_blocks}
-use Rattle.run_kinds.proofs.domain_loan_lemmas.Opened.{opened_new}
-use Rattle.run_kinds.proofs.Opened.{back_meets}
 use Rattle.block_run.proofs.blocking.run_block_sets.Goals as goal
 
 pub run_block_domain-requires-clause-new : goal.run_block_domain-requires-clause-new
@@ -28,23 +26,14 @@ read_all-requires g c =
     let run = rw c.in_ok-closing.ensures at c.run_block_domain.ensures.ran in
     record { lawful = lawful_after c.in_ok-closing.closing.last.start c.in_ok-closing.closing.last.history run.opening run.allowed }
 
-pub returns-clause-ran : goal.returns-clause-ran
-returns-clause-ran g c =
+pub returns : goal.returns
+returns g c =
     let run = rw c.in_ok-closing.ensures at c.run_block_domain.ensures.ran in
-    let still = c.read_all.ensures.as_before in
-    let ends = rw c.in_ok-closing.ensures at c.run_block_domain.ensures.opening in
     let linked = rw c.in_ok-closing.ensures at c.run_block_domain.ensures.linked in
     let many = sym (length-map c.args.scripts.now blocks_of) in
     let scripts = map blocks_of c.args.scripts.now in
-    let lines = c.order.new.lines.items in
-    record {
-      start = still.start ∙ ends.0 ∙ c.in_ok-domain.ensures.opening;
-      base = still.base ∙ ends.1 ∙ ap (λ (n : Config). n.base) c.in_ok-domain.ensures.numbers;
-      run = run_along c.in_ok-domain.domain c.in_ok-domain.seats.items _ (config_of c.args.options 64 (length scripts)) c.in_ok-domain.ensures
-          (ap (config_of c.args.options 64) many) IsBlockCommit (block_chain_of scripts)
-          (λ past. BlocksRunOf past scripts lines c.in_ok-end.end c.read_all.new.view.last.tables)
-          c.in_ok-closing.lines.items lines
-          c.in_ok-closing.closing.last c.read_all.new.view.last c.order.ensures.permutation still linked
-          (still_blocks c.in_ok-closing.closing.last c.read_all.new.view.last scripts lines c.in_ok-end.end still
-          c.in_ok-end.ensures.catalogue (run_permuted _ _ _ _ _ _ c.order.ensures.permutation run));
-    }
+    let lines = c.in_ok-closing.lines.items in
+    left_along c.in_ok-domain.domain c.in_ok-domain.seats.items _ (config_of c.args.options 64 (length scripts)) c.in_ok-domain.ensures
+    (ap (config_of c.args.options 64) many) IsBlockCommit (block_chain_of scripts) (λ past. BlocksRunOf past scripts) lines lines c.in_ok-end.end
+    c.in_ok-closing.closing.last c.read_all.new.view (IsPermutation-refl lines) c.read_all.ensures.as_before linked
+    (rw c.in_ok-end.ensures.catalogue run)

@@ -1,13 +1,19 @@
-use Rattle.std.proofs.Common.{map, subst}
+use Rattle.std.proofs.Common.{◌∙◌, map}
+use Rattle.grow_report.specs.Text.{text_of_grown}
 use Rattle.script_workers.specs.Workers.{items_of}
-use Rattle.run_kinds.specs.Kinds.{IsTextOf, usual_options}
-use Rattle.grow_run.specs.GrowRuns.{grow_runs}
 use Rattle.grow_run.proofs.growing.make_grown.Goals as goal
 
-pub returns-in-Ok-grown_text-clause-made : goal.returns-in-Ok-grown_text-clause-made
-returns-in-Ok-grown_text-clause-made g c =
-    let made = c.in-Ok-grown_text.made in record {
-      read = map items_of c.in-Ok.scripts.items;
-      files = c.in-Ok.ensures.stop;
-      printed = subst (λ ss. IsTextOf (grow_runs usual_options (map items_of ss)) made.1 made.0.items) c.deref.ensures.value c.in-Ok-grown_text.ensures;
+pub returns-clause-made : goal.returns-clause-made
+returns-clause-made g c =
+    let told = c.in_ok-closing.field-0 in
+    record {
+      read = map items_of c.in_ok-scripts.scripts.items;
+      files = c.in_ok-scripts.ensures.stop;
+      printed = record {
+        lines = told.lines.items;
+        end = told.end;
+        left = rw c.deref.ensures.value at c.in_ok-closing.ensures.ran;
+        ordered = c.in_ok-closing.ensures.ordered;
+        is = c.in_ok-text.ensures ∙ (λ i. text_of_grown (c.deref-2.ensures.value i) told.end.set told.end.splits (c.tables.ensures i));
+      };
     }

@@ -1,17 +1,17 @@
-use Rattle.std.proofs.Common.{◌∙◌, ap, length, map, subst, sym, arith}
+use Rattle.std.proofs.Common.{◌≡◌, ◌∙◌, ap, length, map, subst, sym, arith}
 use Rattle.std.proofs.lemmas.List.{length-map}
 use Rattle.grow_hash.specs.Grown.{IsGrown, grown_catalogue}
-use Rattle.mv_layout.specs.declared.config.Config.{Config}
 use Rattle.script_workers.specs.Workers.{items_of}
 use Rattle.run_kinds.specs.mvrlu.Whole.{last_state}
 use Rattle.grow_run.proofs.GrownBuckets.{few_splits}
 use Rattle.run_kinds.specs.mvrlu.WholeLaws.{still_long, still_state}
 use Rattle.grow_hash.specs.GrowRules.{IsGrowCommit}
+use Rattle.grow_hash.specs.Splits.{count_splits}
 use Rattle.grow_report.specs.Whole.{GrowRunOf}
 use Rattle.run_kinds.specs.Kinds.{config_of}
 use Rattle.grow_run.specs.GrowRuns.{grow_chain_of}
-use Rattle.run_kinds.proofs.Along.{run_along}
-use Rattle.grow_run.proofs.Still.{still_grown}
+use Rattle.grow_run.specs.declared.growing.GrownEnd.{GrownEnd}
+use Rattle.run_kinds.proofs.Along.{left_along}
 use Rattle.run_kinds.proofs.domain_loan_lemmas.Opened.{opened_new}
 use Rattle.run_kinds.proofs.Opened.{back_meets}
 use Rattle.grow_run.proofs.growing.run_grown_set.Goals as goal
@@ -46,25 +46,19 @@ returns-clause-few g c =
 pub returns-clause-ran : goal.returns-clause-ran
 returns-clause-ran g c =
     let run = rw c.in_ok-closing.ensures at c.run_grow_domain.ensures.ran in
-    let counted = c.count_splits-splits.ensures in
-    let still = still_long c.in_ok-closing.closing.last
-    c.count_splits-splits.new.view.last c.read_grown.new.view.last counted.as_before c.read_grown.ensures.as_before in
-    let same = still_state c.in_ok-closing.closing.last c.count_splits-splits.new.view.last counted.as_before in
-    let ends = rw c.in_ok-closing.ensures at c.run_grow_domain.ensures.opening in
     let linked = rw c.in_ok-closing.ensures at c.run_grow_domain.ensures.linked in
+    let counted = c.count_splits-splits.ensures in
+    let v = c.in_ok-closing.closing.last in
+    let still = still_long v c.count_splits-splits.new.view.last c.read_grown.new.view.last counted.as_before c.read_grown.ensures.as_before in
+    let set = c.in_ok-set.ensures.catalogue ∙ ap (grown_catalogue grow_levels) (still_state v c.count_splits-splits.new.view.last counted.as_before) in
+    let splits = c.count_splits-splits.result in
+    let same : splits ≡ count_splits v.history = omega (arith, counted.splits, run.buckets_are) in
     let many = sym (length-map c.args.scripts.now items_of) in
     let scripts = map items_of c.args.scripts.now in
     let lines = c.order_grown.new.lines.items in
-    let splits = c.count_splits-splits.result in
-    record {
-      start = still.start ∙ ends.0 ∙ c.in_ok-domain.ensures.opening;
-      base = still.base ∙ ends.1 ∙ ap (λ (n : Config). n.base) c.in_ok-domain.ensures.numbers;
-      run = run_along c.in_ok-domain.domain c.in_ok-domain.seats.items _ (config_of c.args.options 64 (length scripts)) c.in_ok-domain.ensures
-          (ap (config_of c.args.options 64) many) (IsGrowCommit grow_levels) (grow_chain_of scripts)
-          (λ past. GrowRunOf past scripts lines c.in_ok-end.end splits c.read_grown.new.view.last.tables)
-          c.in_ok-closing.lines.items lines
-          c.in_ok-closing.closing.last c.read_grown.new.view.last c.order_grown.ensures.permutation still linked
-          (still_grown c.in_ok-closing.closing.last c.read_grown.new.view.last scripts lines c.in_ok-end.end _ splits
-          still (c.in_ok-end.ensures.catalogue ∙ ap (grown_catalogue grow_levels) same)
-          (omega (arith, counted.splits, run.buckets_are)) (c.order_grown.ensures.whole _ _ _ _ _ run));
-    }
+    let ordered = c.order_grown.ensures.whole _ _ _ _ _ run in
+    left_along {End = GrownEnd} c.in_ok-domain.domain c.in_ok-domain.seats.items _ (config_of c.args.options 64 (length scripts))
+    c.in_ok-domain.ensures (ap (config_of c.args.options 64) many) (IsGrowCommit grow_levels) (grow_chain_of scripts)
+    (λ past lines end. GrowRunOf past scripts lines end.set end.splits) c.in_ok-closing.lines.items lines
+    (record { set = c.in_ok-set.set; splits = splits }) v c.read_grown.new.view c.order_grown.ensures.permutation still linked
+    (rw (set, same) ordered)

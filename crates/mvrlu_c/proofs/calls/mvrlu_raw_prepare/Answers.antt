@@ -9,5 +9,5 @@ returns c =
     let on = c.on_open-answer in
     let is = ap (λ z. to_z w32 (of_z w32 z)) (c.code.ensures ∙ ap code_of c.of_prepared.ensures) ∙ reads_back (told_by status_of_room on.result) in
     record {
-      tells = tells_by status_of_room c.args.seat.now on.new.handle calls.MakesRoom on.result _ _ (λ a said. said.1) on.ensures.closed on.ensures.open is;
+      tells = tells_by status_of_room c.args.seat.now on.new.handle calls.MakesRoom on.result _ _ (λ a said. said) on.ensures.closed on.ensures.open is;
     }

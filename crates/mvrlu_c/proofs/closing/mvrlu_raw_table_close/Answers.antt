@@ -10,7 +10,7 @@ use Rattle.mvrlu_c.proofs.closing.mvrlu_raw_table_close.Goals as goal
 
 pub returns : goal.returns
 returns c =
-    let made = c.close_table-answer in
+    let made = c.close_by-answer in
     let told = c.of_closed.ensures in
     let is = ap (λ z. to_z w32 (of_z w32 z)) (c.code.ensures ∙ ap code_of told.status) ∙ reads_back (status_of_close made.result) in
     record {

@@ -26,9 +26,9 @@ pub tell_block-requires : goal.tell_block-requires
 tell_block-requires c =
     let long : length c.args.replies.now ≡ length c.args.commands.now = search rules in
     record {
-      as_many = many_told c.args.sets.now c.on_sets-answer.new.handle c.in-Ok.block c.in-Some.answer (length c.args.replies.now)
+      as_many = many_told c.args.sets.now c.on_open-answer.new.handle c.in-Ok.block c.in-Some.answer (length c.args.replies.now)
           (λ shut. let none : Some c.in-Some.answer ≡ None = (c.in-Some.ensures.closed shut).0 in cc)
-          (λ is. ((c.in-Some.ensures.open is).1).1)
+          (λ is. (c.in-Some.ensures.open is).1)
           (long ∙ sym (as_many_said c.args.commands.now c.in-Ok.block c.in-Ok.ensures.block.said));
     }
 
@@ -41,7 +41,7 @@ returns c =
         open_is = λ is. (c.in-Some.ensures.open is).0;
         answered = λ is. (
           c.in-Some.answer,
-          ((c.in-Some.ensures.open is).1).1,
+          (c.in-Some.ensures.open is).1,
           c.tell_block.ensures.replies,
           code_back (status_of_block c.in-Some.answer) c.code-in-Some.result (c.code-in-Some.ensures ∙ ap code_of c.tell_block.ensures.status),
         );

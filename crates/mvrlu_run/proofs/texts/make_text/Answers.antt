@@ -1,17 +1,17 @@
 use Rattle.std.proofs.Common.{refl}
 use Rattle.mvrlu_run.proofs.texts.make_text.Goals as goal
 
-pub returns-in-Ok-clause-made : goal.returns-in-Ok-clause-made
-returns-in-Ok-clause-made g c = rw c.in-Run.is (c.in-Ok.closing, refl, c.in-Ok.ensures.made)
+pub returns-in_ok-text-in-Run-clause-made : goal.returns-in_ok-text-in-Run-clause-made
+returns-in_ok-text-in-Run-clause-made g c = rw c.in-Run.is (c.in_ok-text-in-Run.closing, refl, c.in_ok-text-in-Run.ensures.made)
 
-pub returns-in-Ok-make_blocks-clause-made : goal.returns-in-Ok-make_blocks-clause-made
-returns-in-Ok-make_blocks-clause-made g c = rw c.in-Block.is (c.in-Ok-make_blocks.closing, refl, c.in-Ok-make_blocks.ensures.made)
+pub returns-in_ok-text-in-Block-clause-made : goal.returns-in_ok-text-in-Block-clause-made
+returns-in_ok-text-in-Block-clause-made g c = rw c.in-Block.is (c.in_ok-text-in-Block.closing, refl, c.in_ok-text-in-Block.ensures.made)
 
-pub returns-in-Ok-make_pool-clause-made : goal.returns-in-Ok-make_pool-clause-made
-returns-in-Ok-make_pool-clause-made g c = rw c.in-Pool.is (c.in-Ok-make_pool.closing, refl, c.in-Ok-make_pool.ensures.made)
+pub returns-in_ok-text-in-Pool-clause-made : goal.returns-in_ok-text-in-Pool-clause-made
+returns-in_ok-text-in-Pool-clause-made g c = rw c.in-Pool.is (c.in_ok-text-in-Pool.closing, refl, c.in_ok-text-in-Pool.ensures.made)
 
-pub returns-in-Ok-make_grown-clause-made : goal.returns-in-Ok-make_grown-clause-made
-returns-in-Ok-make_grown-clause-made g c = rw c.in-Grow.is (c.in-Ok-make_grown.closing, refl, c.in-Ok-make_grown.ensures.made)
+pub returns-in_ok-text-in-Grow-clause-made : goal.returns-in_ok-text-in-Grow-clause-made
+returns-in_ok-text-in-Grow-clause-made g c = rw c.in-Grow.is (c.in_ok-text-in-Grow.closing, refl, c.in_ok-text-in-Grow.ensures.made)
 
-pub returns-in-Ok-work_text-clause-made : goal.returns-in-Ok-work_text-clause-made
-returns-in-Ok-work_text-clause-made g c = rw c.in-Work.is (c.in-Ok-work_text.closing, refl, c.in-Ok-work_text.ensures)
+pub returns-in_ok-text-in-Work-clause-made : goal.returns-in_ok-text-in-Work-clause-made
+returns-in_ok-text-in-Work-clause-made g c = rw c.in-Work.is (c.in_ok-text-in-Work.closing, refl, c.in_ok-text-in-Work.ensures)

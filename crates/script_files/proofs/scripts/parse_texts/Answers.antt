@@ -8,40 +8,40 @@ use Rattle.script_files.specs.Scripts.{AreOf, parsed_by}
 use Rattle.script_files.proofs.FileTexts.{all_ok, all_parse, answers_from_each, first_refused}
 use Rattle.script_files.proofs.scripts.parse_texts.Goals as goal
 
-pub returns-in-Ok-take_values-clause-parsed : goal.returns-in-Ok-take_values-clause-parsed
-returns-in-Ok-take_values-clause-parsed g c =
-    let results = c.in-Ok.parsed.items in
-    let long = c.in-Ok.parsed.ok.0 in
-    let len : length results ≡ length c.args.texts.now = omega (arith, long, c.in-Ok.ensures.len) in
+pub returns-in-Ok-clause-parsed : goal.returns-in-Ok-clause-parsed
+returns-in-Ok-clause-parsed g c =
+    let results = c.in_ok-parsed.parsed.items in
+    let long = c.in_ok-parsed.parsed.ok.0 in
+    let len : length results ≡ length c.args.texts.now = omega (arith, long, c.in_ok-parsed.ensures.len) in
     let answers = answers_from_each (parsed_by c.args.grammar) list_of Refuses c.args.texts.now results len
-    (λ i d e lt. (c.in-Ok.ensures.each i e lt).1.met.0 d) in
-    all_parse (parsed_by c.args.grammar) list_of Refuses c.args.texts.now results c.take_values.new.values.items answers c.in-Ok-take_values.ensures
+    (λ i d e lt. (c.in_ok-parsed.ensures.each i e lt).1.met.0 d) in
+    all_parse (parsed_by c.args.grammar) list_of Refuses c.args.texts.now results c.take_values.new.values.items answers c.in-Ok.ensures
 
-pub returns-in-Ok-take_values-clause-short : goal.returns-in-Ok-take_values-clause-short
-returns-in-Ok-take_values-clause-short g c =
-    let long = c.in-Ok.parsed.ok.0 in
+pub returns-in-Ok-clause-short : goal.returns-in-Ok-clause-short
+returns-in-Ok-clause-short g c =
+    let long = c.in_ok-parsed.parsed.ok.0 in
     let P : Vec Command Global → Type 0 = λ script. length script.items ≤ 65536 in
-    let each : All {X = Result (Vec Command Global) ScriptFault} (λ result. IfOk result P) c.in-Ok.parsed.items =
-    λ k e lt. (c.in-Ok.ensures.each k e (omega (arith, lt, long, c.in-Ok.ensures.len))).1.met.1.0 in
+    let each : All {X = Result (Vec Command Global) ScriptFault} (λ result. IfOk result P) c.in_ok-parsed.parsed.items =
+    λ k e lt. (c.in_ok-parsed.ensures.each k e (omega (arith, lt, long, c.in_ok-parsed.ensures.len))).1.met.1.0 in
     all_ok P c.take_values.new.values.items
-    (subst (All {X = Result (Vec Command Global) ScriptFault} (λ result. IfOk result P)) c.in-Ok-take_values.ensures each)
+    (subst (All {X = Result (Vec Command Global) ScriptFault} (λ result. IfOk result P)) c.in-Ok.ensures each)
 
-pub returns-in-Ok-take_values-clause-fit : goal.returns-in-Ok-take_values-clause-fit
-returns-in-Ok-take_values-clause-fit g c =
-    let long = c.in-Ok.parsed.ok.0 in
+pub returns-in-Ok-clause-fit : goal.returns-in-Ok-clause-fit
+returns-in-Ok-clause-fit g c =
+    let long = c.in_ok-parsed.parsed.ok.0 in
     let P : Vec Command Global → Type 0 = λ script. AreOf c.args.grammar script.items in
-    let each : All {X = Result (Vec Command Global) ScriptFault} (λ result. IfOk result P) c.in-Ok.parsed.items =
-    λ k e lt. (c.in-Ok.ensures.each k e (omega (arith, lt, long, c.in-Ok.ensures.len))).1.met.1.1 in
+    let each : All {X = Result (Vec Command Global) ScriptFault} (λ result. IfOk result P) c.in_ok-parsed.parsed.items =
+    λ k e lt. (c.in_ok-parsed.ensures.each k e (omega (arith, lt, long, c.in_ok-parsed.ensures.len))).1.met.1.1 in
     all_ok P c.take_values.new.values.items
-    (subst (All {X = Result (Vec Command Global) ScriptFault} (λ result. IfOk result P)) c.in-Ok-take_values.ensures each)
+    (subst (All {X = Result (Vec Command Global) ScriptFault} (λ result. IfOk result P)) c.in-Ok.ensures each)
 
 pub returns-in-Err-At-clause-parsed : goal.returns-in-Err-At-clause-parsed
 returns-in-Err-At-clause-parsed g c =
-    let results = c.in-Ok.parsed.items in
-    let long = c.in-Ok.parsed.ok.0 in
-    let len : length results ≡ length c.args.texts.now = omega (arith, long, c.in-Ok.ensures.len) in
+    let results = c.in_ok-parsed.parsed.items in
+    let long = c.in_ok-parsed.parsed.ok.0 in
+    let len : length results ≡ length c.args.texts.now = omega (arith, long, c.in_ok-parsed.ensures.len) in
     let answers = answers_from_each (parsed_by c.args.grammar) list_of Refuses c.args.texts.now results len
-    (λ i d e lt. (c.in-Ok.ensures.each i e lt).1.met.0 d) in
+    (λ i d e lt. (c.in_ok-parsed.ensures.each i e lt).1.met.0 d) in
     let before = c.take_values.new.values.items in
     let many = c.take_values.new.values.ok.0 in
     let place : c.len-in-Err-At.result ≡ length before = omega (arith, many, c.len-in-Err-At.ensures) in

@@ -1,17 +1,15 @@
-use Rattle.std.proofs.Common.{◌∙◌, ap, length, map, sym}
+use Rattle.std.proofs.Common.{ap, length, map, sym}
 use Rattle.std.proofs.lemmas.List.{length-map}
 use Rattle.std.proofs.lemmas.List.Sorted.{IsPermutation-refl}
-use Rattle.mv_layout.specs.declared.config.Config.{Config}
 use Rattle.set_script.proofs.Times.{lawful_after}
+use Rattle.set_script.specs.Rules.{IsSetCommit}
 use Rattle.script_workers.specs.Workers.{items_of}
 use Rattle.run_report.specs.Whole.{RunOf}
-use Rattle.set_script.specs.Rules.{IsSetCommit}
-use Rattle.script_run.specs.ScriptRuns.{chain_of}
 use Rattle.run_kinds.specs.Kinds.{config_of}
-use Rattle.run_kinds.proofs.Along.{run_along}
-use Rattle.script_run.proofs.Still.{still_run}
-use Rattle.run_kinds.proofs.domain_loan_lemmas.Opened.{opened_new}
+use Rattle.run_kinds.proofs.Along.{left_along}
 use Rattle.run_kinds.proofs.Opened.{back_meets}
+use Rattle.run_kinds.proofs.domain_loan_lemmas.Opened.{opened_new}
+use Rattle.script_run.specs.ScriptRuns.{chain_of}
 use Rattle.script_run.proofs.running.run_sets.Goals as goal
 
 pub run_domain-requires-clause-new : goal.run_domain-requires-clause-new
@@ -31,20 +29,11 @@ read_all-requires g c =
 pub returns : goal.returns
 returns g c =
     let run = rw c.in_ok-closing.ensures at c.run_domain.ensures.ran in
-    let still = c.read_all.ensures.as_before in
-    let ends = rw c.in_ok-closing.ensures at c.run_domain.ensures.opening in
     let linked = rw c.in_ok-closing.ensures at c.run_domain.ensures.linked in
     let many = sym (length-map c.args.scripts.now items_of) in
     let scripts = map items_of c.args.scripts.now in
     let lines = c.in_ok-closing.lines.items in
-    record {
-      start = still.start ∙ ends.0 ∙ c.in_ok-domain.ensures.opening;
-      base = still.base ∙ ends.1 ∙ ap (λ (n : Config). n.base) c.in_ok-domain.ensures.numbers;
-      run = run_along c.in_ok-domain.domain c.in_ok-domain.seats.items _ (config_of c.args.options 16 (length scripts)) c.in_ok-domain.ensures
-          (ap (config_of c.args.options 16) many) IsSetCommit (chain_of scripts)
-          (λ past. RunOf past scripts lines c.in_ok-end.end c.read_all.new.view.last.tables)
-          c.in_ok-closing.lines.items lines
-          c.in_ok-closing.closing.last c.read_all.new.view.last (IsPermutation-refl lines) still linked
-          (still_run c.in_ok-closing.closing.last c.read_all.new.view.last scripts lines c.in_ok-end.end still
-          c.in_ok-end.ensures.catalogue run);
-    }
+    left_along c.in_ok-domain.domain c.in_ok-domain.seats.items _ (config_of c.args.options 16 (length scripts)) c.in_ok-domain.ensures
+    (ap (config_of c.args.options 16) many) IsSetCommit (chain_of scripts) (λ past. RunOf past scripts) lines lines c.in_ok-end.end
+    c.in_ok-closing.closing.last c.read_all.new.view (IsPermutation-refl lines) c.read_all.ensures.as_before linked
+    (rw c.in_ok-end.ensures.catalogue run)

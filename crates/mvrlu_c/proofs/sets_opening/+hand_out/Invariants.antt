@@ -1,5 +1,0 @@
-use Rattle.std.specs.Prelude.{length}
-use Rattle.mvrlu_c.proofs.sets_opening.+hand_out.Given as goal
-
-abbrev pub decreases-hand_out : goal.decreases-hand_out
-decreases-hand_out l = length l.handles.now

@@ -1,0 +1,43 @@
+// What was found, beside what is wanted. The proof of a comparison is dear, and so all tests share these.
+ghost use Rattle.std.specs.Prelude.{◌≡◌, true};
+
+use std::fmt::Debug;
+use std::process::Abort;
+
+// Ends the test where the two differ.
+pub(crate) fn assert_same<T: Debug + PartialEq>(
+    rt: &impl Abort,
+    found: &T,
+    wanted: &T,
+    name: &str,
+) {
+    assert_eq!(rt; *found, *wanted, "{name}");
+}
+
+// The same of a row of a table, by its place there.
+pub(crate) fn assert_row<T: Debug + PartialEq>(
+    rt: &impl Abort,
+    found: &T,
+    wanted: &T,
+    name: &str,
+    row: usize,
+) {
+    assert_eq!(rt; *found, *wanted, "{name}: row {row}");
+}
+
+// The same of what a text is read as.
+pub(crate) fn assert_read<T: Debug + PartialEq>(
+    rt: &impl Abort,
+    found: &T,
+    wanted: &T,
+    text: &[u8],
+) {
+    assert_eq!(rt; *found, *wanted, "of {text:?}");
+}
+
+// Ends the test where this is false.
+pub(crate) fn must(rt: &impl Abort, whether: bool, name: &str)
+    ensures { whether ≡ true }
+{
+    assert!(rt; whether, "{name}");
+}

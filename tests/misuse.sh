@@ -1,16 +1,13 @@
 #!/bin/bash
-# Stores, sections, seats and handles must be spent, and once, and the conditions of a domain's calls must hold: each text of
-# tests/misuse/ is checked as a crate over mv_history and mvrlu. In a text with lines '// refused: WORDS' the check must
-# refuse each function under such a line, with these words: an error, or the condition of a call. A text without such lines
-# must be proved, so that the refusals come from the misuse alone.
+# Stores, sections, seats and handles must be spent, and once: each text of tests/misuse/ is tried as a crate over mv_history and
+# mvrlu, before any proof, and the compiler must refuse each function under a line '// refused: WORDS' with these words. The same
+# without the misuse is the crate must_be_spent, which the gate proves; its edits are the calls whose conditions don't hold.
 set -u
 here=$(cd "$(dirname "$0")/.." && pwd)
 scratch=$(mktemp -d) || exit 1
 trap 'rm -rf "$scratch"' EXIT
-mkdir "$scratch/crates" "$scratch/logs"
+mkdir "$scratch/crates"
 cp "$here/HANDLES" "$scratch/"
-
-# The crates below, without their edits: `rt ci` takes what an earlier run on this machine proved of them.
 below="mv_history mv_layout mv_core version_chain commit_clock reader_marks seat_log object_lock commit_abort log_reclaim mvrlu"
 for crate in $below; do
     mkdir "$scratch/crates/$crate"
@@ -19,16 +16,6 @@ for crate in $below; do
     done
     grep "^$crate:" "$here/crates.txt"
 done > "$scratch/crates.txt"
-for text in "$here"/tests/misuse/*.txt; do
-    crate=misuse_$(basename "$text" .txt)
-    mkdir -p "$scratch/crates/$crate/src"
-    cp "$text" "$scratch/crates/$crate/src/lib.rt"
-    echo "$crate: mvrlu mv_history" >> "$scratch/crates.txt"
-done
-
-# All of them in one run, and a log for each: what stands under its name, and its verdict.
-(cd "$scratch" && rt ci) > "$scratch/whole" 2>&1
-awk -v to="$scratch/logs/" '/^== / { log_of = $2 } log_of { print > (to log_of) }' "$scratch/whole"
 
 # Prints, for each line '// refused: WORDS', its number, the number of the next one or a great one, and the words.
 list_wanted() {
@@ -43,35 +30,28 @@ is_refused() {
             line = substr($0, RSTART + 11, RLENGTH - 11) + 0
             if (from < line && line < to) found = 1
         }
-        END { exit !found }' "$log"
+        END { exit !found }' "$scratch/log"
 }
 
 refused=0
 status=0
 for text in "$here"/tests/misuse/*.txt; do
     name=$(basename "$text" .txt)
-    log=$scratch/logs/misuse_$name
-    touch "$log"
+    mkdir -p "$scratch/crates/misuse_$name/src"
+    cp "$text" "$scratch/crates/misuse_$name/src/lib.rt"
+    echo "misuse_$name: mvrlu mv_history" >> "$scratch/crates.txt"
+    (cd "$scratch/crates/misuse_$name" && rt try --test) > "$scratch/log" 2>&1
     list_wanted "$text" > "$scratch/wanted"
-    # A text that an earlier run proved is kept, and has no log.
-    if [ ! -s "$scratch/wanted" ] && ! grep -qE "^rt: misuse_$name (proved$|is kept: )" "$scratch/whole"; then
-        echo "misuse: $name must be proved, and is not:"
-        failed=1
-    else
-        failed=0
-    fi
     while read -r from to words; do
-        if grep -qx "rt: misuse_$name NOT PROVED" "$scratch/whole" && is_refused "$from" "$to" "$words"; then
+        if is_refused "$from" "$to" "$words"; then
             refused=$((refused + 1))
         else
             echo "misuse: line $from of $name must be refused with $words, and is not:"
-            failed=1
+            tail -n 20 "$scratch/log"
+            status=1
         fi
     done < "$scratch/wanted"
-    if [ "$failed" -ne 0 ]; then
-        tail -n 20 "$log" "$scratch/whole"
-        status=1
-    fi
+    [ -s "$scratch/wanted" ] || { echo "misuse: $name says of no function that it must be refused"; status=1; }
 done
 echo "misuse: $refused refused"
 exit $status

@@ -14,7 +14,7 @@ from concurrent.futures import ThreadPoolExecutor, as_completed
 from crates import CRATES, TOP, below, read_crates
 
 # Each with its words. tests/mvrlu.sh then leaves out what needs the proved program.
-SCRIPTS = (("mvrlu.sh", "unproved"), ("view.sh",), ("replay.sh",), ("docs.sh",), ("accesses.sh",))
+SCRIPTS = (("mvrlu.sh", "unproved"), ("view.sh",), ("replay.sh",), ("misuse.sh",), ("docs.sh",), ("accesses.sh",))
 # How long the tests of a crate may take, with their checks.
 SECONDS = "400"
 

@@ -1,4 +1,8 @@
-//! The same without the misuse: this must be proved.
+//! Stores, sections, seats and handles are spent, and once; a domain isn't given away while it is lent.
+//!
+//! These functions use a store and a domain as they have to be used. Beside each stands a misuse that is refused: an edit of must-fail/ at
+//! the condition of a call, a text of tests/misuse/ by an error of the compiler (a value that was moved or is lent, a linear value that is
+//! let go). No crate stands on this one.
 #![tactic(auto)]
 
 ghost use Rattle.std.specs.Prelude.{◌≡◌, ◌≢◌, [], length, All, AllPairs};
@@ -8,13 +12,23 @@ ghost use Rattle.mvrlu.specs.Meeting.{AreAll};
 use mv_history::{Protocol, Section, Store};
 use mvrlu::{Closing, Domain, Handle, Seat, Session};
 
-/// Spends a section once, and hands the store back.
-pub fn spend<S: Store>(store: S) -> (S, u32, u64) {
-    let seat = store.seat();
+/// Reads the number of a store, and hands the store back.
+pub fn number<S: Store>(store: S) -> (S, u32) {
+    let number = store.seat();
+    (store, number)
+}
+
+/// Reads the time of a section, and gives it up.
+pub fn time<S: Store>(store: S) -> (<S::Open as Section>::Back, u64) {
+    let opened = store.enter();
+    let time = opened.at();
+    (opened.abort(), time)
+}
+
+/// Begins a section, and gives it up.
+pub fn give_up<S: Store>(store: S) -> <S::Open as Section>::Back {
     let section = store.enter();
-    let at = section.at();
-    let back = section.abort();
-    (back, seat, at)
+    section.abort()
 }
 
 /// Begins two sections with one handle, one after the other.
@@ -24,11 +38,30 @@ pub fn enter_twice<'d, P: Protocol>(handle: Handle<'d, P>) -> Session<'d, P> {
     handle.enter()
 }
 
+/// Leaves a section that holds nothing.
+pub fn leave<'d, P: Protocol>(session: Session<'d, P>) -> Handle<'d, P>
+    requires none { (section_of session).own ≡ [] }
+{
+    session.leave()
+}
+
 /// Begins a section of a domain, and gives the seat back.
 pub fn give_back<P: Protocol>(handle: Handle<'_, P>) -> (u64, Seat<P>) {
     let session = handle.enter();
-    let at = session.at();
-    (at, session.leave().into_seat())
+    let time = session.at();
+    (time, session.leave().into_seat())
+}
+
+/// Gives the loan of a domain back.
+pub fn end_loan<P: Protocol>(lent: Handle<'_, P>) -> Seat<P> {
+    lent.into_seat()
+}
+
+/// Lends a domain to a seat of it.
+pub fn lend<'d, P: Protocol>(one: &'d Domain<P>, seat: Seat<P>) -> Handle<'d, P>
+    requires own { IsSeatOf one.now seat }
+{
+    one.handle(seat)
 }
 
 /// Counts seats before they meet.
@@ -53,13 +86,6 @@ pub fn meet_lent<P: Protocol>(
     (domain.meet(seats), seat)
 }
 
-/// Lends a domain to a seat of it.
-pub fn lend<'d, P: Protocol>(one: &'d Domain<P>, seat: Seat<P>) -> Handle<'d, P>
-    requires own { IsSeatOf one.now seat }
-{
-    one.handle(seat)
-}
-
 /// Lets the seats of a domain meet, none of which is missing.
 pub fn meet<P: Protocol>(domain: Domain<P>, seats: Vec<Seat<P>>) -> Closing<P>
     requires many { length seats.items ≡ (numbers_of domain).seats }
@@ -67,11 +93,4 @@ pub fn meet<P: Protocol>(domain: Domain<P>, seats: Vec<Seat<P>>) -> Closing<P>
     requires apart { AllPairs (λ s t. (seat_of s).number ≢ (seat_of t).number) seats.items }
 {
     domain.meet(seats)
-}
-
-/// Leaves a section that holds nothing.
-pub fn leave<'d, P: Protocol>(session: Session<'d, P>) -> Handle<'d, P>
-    requires none { (section_of session).own ≡ [] }
-{
-    session.leave()
 }

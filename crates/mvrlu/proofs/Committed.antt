@@ -1,5 +1,5 @@
 -- What trying to commit means.
-use Rattle.std.proofs.Common.{◌≡◌, ℕ, ◌+◌, ◌-◌, ◌<◌, List, [], ◌∷◌, ◌++◌, length, refl, sym, ap, ◌∙◌, subst, arith}
+use Rattle.std.proofs.Common.{◌≡◌, ℕ, ◌+◌, ◌-◌, ◌<◌, ◌≤◌, List, [], ◌∷◌, ◌++◌, length, refl, sym, ap, ◌∙◌, subst, arith}
 use Rattle.std.specs.Prelude.{None, slice_get}
 use Rattle.mv_history.specs.declared.Entry.TheVariants.{Change}
 use Rattle.mv_history.specs.declared.Step.{Step}
@@ -21,6 +21,7 @@ use Rattle.object_lock.specs.mv_core.Times.{IsEntry}
 use Rattle.object_lock.specs.mv_core.Views.{time_in}
 use Rattle.object_lock.specs.mv_core.WalkSteps.{IsWalking}
 use Rattle.object_lock.proofs.mv_core_lemmas.history.Fronts.{begins_by}
+use Rattle.object_lock.specs.seat_log.Notes.{Noted}
 use Rattle.object_lock.specs.seat_log.Stands.{Stands}
 use Rattle.object_lock.specs.version_chain.Walks.{inside_of, section_in, MayWalk}
 use Rattle.object_lock.proofs.OwnNotes.{own_long}
@@ -28,7 +29,7 @@ use Rattle.commit_abort.specs.Commits.{MayCommit, LoadsClock, Commits, IsKept, I
 use Rattle.mvrlu.specs.Placed.{Placed, seat_from, section_from, IsIdle, IsBusy}
 use Rattle.mvrlu.specs.Causes.{Loaded}
 use Rattle.mvrlu.proofs.Trails.{made}
-use Rattle.mvrlu.proofs.Continuing.{continues, placed_on}
+use Rattle.mvrlu.proofs.Continuing.{continues, placed_on, busy_on}
 
 -- a section that holds something may commit it, where the drift condition holds
 pub may_commit : (starts : State → Type 0) (allows : List ℕ → State → Writes → Type 0) (p : Placed) (tag : List ℕ) → IsBusy starts allows p
@@ -116,7 +117,7 @@ module _ (p q : Placed) (config : q.config ≡ p.config) (table : q.table ≡ p.
       own = ap (λ (d : Config). own_of d q.view.ring) config ∙ ap (λ (u : View). own_of p.config u.ring) k.rest;
     }
 
-    pub kept_may : MayWalk p.view → MayWalk q.view
+    kept_may : MayWalk p.view → MayWalk q.view
     kept_may may =
         let walking : IsWalking q.view (section_in p.view) = record {
           phase = same_phase ∙ may.phase;
@@ -125,6 +126,13 @@ module _ (p q : Placed) (config : q.config ≡ p.config) (table : q.table ≡ p.
           no_back = ap (λ (u : View). u.back) k.rest ∙ may.no_back;
         } in
         subst (IsWalking q.view) (sym (ap inside_of same_phase)) walking
+
+    pub kept_busy : (starts : State → Type 0) (allows : List ℕ → State → Writes → Type 0) → IsBusy starts allows p
+        → ∥ Known starts allows q.view ∥₁ → Stands q.config q.view q.log → q.log ≡ p.log → IsBusy starts allows q
+    kept_busy starts allows is known stands log =
+        busy_on starts allows p q config is (ap (λ (u : View). u.number) k.rest) (ap (λ (u : View). u.base) k.rest) (ap (λ (u : View). u.scan) k.rest)
+        known (kept_may is.may) stands (ap (λ (n : Noted). n.built) log ∙ is.placed.unbuilt)
+        (subst (λ (d : Config). q.log.held ≤ d.write_max) (sym config) (subst (λ (n : Noted). n.held ≤ p.config.write_max) (sym log) is.few))
 
     same_base_kept : q.view.base ≡ p.config.base
     same_base_kept = ap (λ (u : View). u.base) k.rest ∙ base

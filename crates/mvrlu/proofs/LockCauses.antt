@@ -1,12 +1,11 @@
 -- What the answers of a lock tell of the section.
 use Rattle.std.specs.Prelude.{slice_get, Some}
-use Rattle.std.proofs.Common.{◌≡◌, ◌≢◌, ◌↔◌, ℕ, ◌+◌, ◌-◌, ◌<◌, Bool, true, false, List, refl, sym, ap, ◌∙◌, subst, arith}
+use Rattle.std.proofs.Common.{◌≡◌, ◌≢◌, ◌↔◌, ℕ, ◌+◌, ◌-◌, ◌<◌, true, List, refl, sym, ap, ◌∙◌, subst, arith}
 use Rattle.mv_history.specs.declared.Entry.{Entry}
 use Rattle.mv_history.specs.declared.Entry.TheVariants.{Change, Rest}
 use Rattle.mv_history.specs.declared.Step.{Step}
 use Rattle.mv_history.specs.declared.answers.LockAnswer.{LockAnswer}
 use Rattle.mv_history.specs.declared.answers.LockAnswer.TheVariants.{Held, Busy, Stale, SetFull, LogFull}
-use Rattle.mv_history.specs.State.{touches}
 use Rattle.mv_history.specs.Meaning.{Lacks}
 use Rattle.mv_history.specs.Calls.{IsAsBefore, IsLogFull, IsStale}
 use Rattle.mv_history.specs.Calls.{IsSetFull as IsFullSection}

@@ -49,10 +49,11 @@ IsEarly s = s.base + length s.seen < 35184372088831
 abbrev pub RestsAtMostOnce : Seat → Seat → Type 0
 RestsAtMostOnce old new = (new.rests ≡ old.rests) ⊎ (new.rests ≡ old.rests + 1)
 
--- the steps that a round may make, and those of a tidy
+-- how many steps a round may make
 abbrev pub round_steps : Seat → ℕ
 round_steps s = 4 + seats_of s + 20 * slots_of s
 
+-- how many steps a tidy may make
 abbrev pub tidy_steps : Seat → ℕ
 tidy_steps s = 2 * round_steps s + 8
 

@@ -1,15 +1,20 @@
 -- What a reclaiming call leaves of a seat: its place is lawful, its history goes on, and its slots are counted.
 use Rattle.std.proofs.Common.{◌≡◌, ◌≢◌, ℕ, ◌+◌, ◌≤◌, Bool, false, count_by, List, [], ◌∷◌, ◌++◌, length, drop, refl, sym, ap, ◌∙◌}
-use Rattle.std.proofs.Common.{arith, length-append}
+use Rattle.std.proofs.Common.{arith, length-append, subst}
 use Rattle.std.proofs.lemmas.List.Sums.{sum_by-append}
 use Rattle.mv_history.specs.State.{State, Writes}
+use Rattle.mv_history.specs.Meaning.{IsSeat}
+use Rattle.mv_history.specs.declared.Protocol.{Ghosts}
 use Rattle.mv_history.specs.declared.Step.{Step}
 use Rattle.mv_history.specs.declared.StepKind.{StepKind}
 use Rattle.mv_history.specs.declared.StepKind.TheVariants.{NameCommit}
 use Rattle.mv_history.specs.Trail.{is_commit_exchange, commit_exchanges}
 use Rattle.mv_history.specs.Calls.{Prepares}
 use Rattle.mv_layout.specs.declared.Config.{Config}
+use Rattle.object_lock.specs.mv_core.declared.shared.Shared.{Shared}
+use Rattle.object_lock.specs.mv_core.declared.shared.Pass.{Pass}
 use Rattle.object_lock.specs.mv_core.declared.view.View.{View}
+use Rattle.object_lock.specs.mv_core.Passes.{view, config_of, IsSame}
 use Rattle.object_lock.specs.mv_core.Rings.{spare_count}
 use Rattle.object_lock.specs.mv_core.Known.{Known}
 use Rattle.object_lock.proofs.mv_core_lemmas.logs.Counts.{one_if}
@@ -17,7 +22,11 @@ use Rattle.object_lock.specs.seat_log.Notes.{Noted}
 use Rattle.object_lock.specs.seat_log.Stands.{is_free, Stands}
 use Rattle.log_reclaim.specs.Parts.{IsReclaimKind, Reclaims, Shrinks, grace_load}
 use Rattle.log_reclaim.specs.Rounds.{FreesFirst}
-use Rattle.mvrlu.specs.Placed.{Placed, seat_from, IsIdle}
+use Rattle.mvrlu.specs.declared.places.Place.{Place}
+use Rattle.mvrlu.specs.Placed.{Placed, placed, seat_from, IsIdle, Fits}
+use Rattle.mvrlu.proofs.Names.{fits_on}
+use Rattle.mvrlu.proofs.Behind.{Lent}
+use Rattle.mvrlu.proofs.Lawful.{seat_lawful}
 use Rattle.mvrlu.proofs.Trails.{made as made_since, none_named}
 use Rattle.mvrlu.proofs.Continuing.{continues, placed_on}
 
@@ -84,3 +93,26 @@ module _ (starts : State → Type 0) (allows : List ℕ → State → Writes →
       let long : length q.view.trail ≡ length p.view.trail + length made = ap length reclaims.trail ∙ length-append p.view.trail made in
       let here : length (drop (length p.view.trail) q.view.trail) ≡ length made = ap length trail_is in
       omega arith
+
+-- what a round and a tidy both leave of a seat, of which they have had this place
+pub record HasReclaimed {P : Type 0} {g : Ghosts P} (s : Shared P) (old : Placed) (pass : Pass P g) (log : Noted) : Type 0 where
+  pub fits : Fits s (placed pass log)
+  pub idle : IsIdle g.start g.allowed (placed pass log)
+  pub lawful : IsSeat g.start g.allowed (seat_from (placed pass log))
+  pub aborts : log.aborts ≡ old.log.aborts
+
+module _ {P : Type 0} {g : Ghosts P} {s : Shared P} {old : Placed} {i : Place P g} (l : Lent s (IsIdle g.start g.allowed) old i) (pass : Pass P g)
+    (log : Noted) (same : IsSame i.pass pass) (freed : ℕ) (shrinks : Shrinks i.log log freed) (stands : Stands (config_of s) (view pass) log)
+    (made : List Step) (reclaims : Reclaims (view i.pass) (view pass) made) where
+  idle_on : IsIdle g.start g.allowed (placed pass log)
+  idle_on =
+      idle_after g.start g.allowed (placed i.pass i.log) (placed pass log) made same.2 same.0 l.is reclaims pass.known
+      (subst (λ (d : Config). Stands d (view pass) log) (l.config ∙ sym same.2) stands) (ap (λ (n : Noted). n.built) shrinks.rest)
+
+  pub has_reclaimed : HasReclaimed s old pass log
+  has_reclaimed = record {
+    fits = fits_on s i.pass pass i.log log same l.fits;
+    idle = idle_on;
+    lawful = seat_lawful g.start g.allowed g.one_start g.one_allowed (placed pass log) idle_on.placed;
+    aborts = ap (λ (n : Noted). n.aborts) shrinks.rest ∙ ap (λ (x : Placed). x.log.aborts) l.view_is;
+  }

@@ -1,5 +1,5 @@
 -- What one round leaves of a seat.
-use Rattle.std.proofs.Common.{◌≡◌, ℕ, ◌+◌, ◌*◌, ◌≤◌, true, false, List, [], length, drop, sym, ap, subst}
+use Rattle.std.proofs.Common.{◌≡◌, ℕ, ◌+◌, ◌*◌, ◌≤◌, true, false, List, [], length, drop, sym, subst}
 use Rattle.mv_history.specs.State.{State, Writes}
 use Rattle.mv_history.specs.declared.Step.{Step}
 use Rattle.mv_history.specs.Trail.{clock_exchanges}
@@ -14,7 +14,7 @@ use Rattle.log_reclaim.specs.Holders.{RoundHolds, HeldSo}
 use Rattle.log_reclaim.specs.Rounds.{FreesFirst, SweptSo}
 use Rattle.mvrlu.specs.Placed.{Placed, IsIdle}
 use Rattle.mvrlu.specs.Holding.{Rounds}
-use Rattle.mvrlu.proofs.rooms.Left.{trail_is, idle_after, prepared, freed_is, spare_is, some_step, few_steps}
+use Rattle.mvrlu.proofs.rooms.Left.{trail_is, prepared, freed_is, spare_is, some_step, few_steps}
 
 -- what a round with write-backs has told of the views and logs before and after it
 pub record HasRounded (c : Config) (v w : View) (l m : Noted) (t : Tidy) : Type 0 where
@@ -54,12 +54,6 @@ has_rounded c d is v w l m t stands live shrinks rests r trail =
 module _ (starts : State → Type 0) (allows : List ℕ → State → Writes → Type 0) (p q : Placed) (t : Tidy) (config : q.config ≡ p.config)
     (table : q.table ≡ p.table) (idle : IsIdle starts allows p) (known : ∥ Known starts allows q.view ∥₁)
     (k : HasRounded q.config p.view q.view p.log q.log t) where
-  built : q.log.built ≡ p.log.built
-  built = ap (λ (l : Noted). l.built) k.shrinks.rest
-
-  pub rounded_idle : IsIdle starts allows q
-  rounded_idle = idle_after starts allows p q k.made config table idle k.reclaims known k.stands built
-
   steps_is : drop (length p.view.trail) q.view.trail ≡ k.made
   steps_is = trail_is starts allows p q k.made config table idle k.reclaims known k.stands
 

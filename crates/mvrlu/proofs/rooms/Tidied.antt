@@ -73,7 +73,7 @@ module _ (starts : State → Type 0) (allows : List ℕ → State → Writes →
   built : q.log.built ≡ p.log.built
   built = ap (λ (l : Noted). l.built) k.shrinks.rest
 
-  pub tidied_idle : IsIdle starts allows q
+  tidied_idle : IsIdle starts allows q
   tidied_idle = idle_after starts allows p q k.made config table idle k.reclaims known k.stands built
 
   steps_is : drop (length p.view.trail) q.view.trail ≡ k.made

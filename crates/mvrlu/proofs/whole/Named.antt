@@ -1,8 +1,8 @@
 -- The seats that met are those that a closing tells of.
-use Rattle.std.proofs.Common.{◌≡◌, ◌≢◌, ℕ, zero, suc, ◌+◌, ◌<◌, List, [], ◌∷◌, ◌++◌, length, map, All}
+use Rattle.std.proofs.Common.{◌≡◌, ◌≢◌, ℕ, zero, suc, ◌+◌, List, [], ◌∷◌, ◌++◌, length, map, All}
 use Rattle.std.proofs.Common.{refl, sym, ap, ◌∙◌, subst, inl, inr, ⊎_elim, append_assoc, arith}
 use Rattle.std.specs.Prelude.{AllPairs, Contains}
-use Rattle.std.proofs.lemmas.List.Elements.{All-nil, All-cons, All-map}
+use Rattle.std.proofs.lemmas.List.Elements.{All-nil, All-map}
 use Rattle.std.proofs.lemmas.List.Kept.{AllPairs-cons}
 use mathlib.Core.Option.{some}
 use lib.ListN.{get_elem?}
@@ -14,7 +14,7 @@ use Rattle.object_lock.specs.mv_core.declared.view.Note.{Note}
 use Rattle.object_lock.specs.reader_marks.Sections.{IsEnterStep}
 use Rattle.mvrlu.specs.Joined.{IsOwn, IsNoted, IsKept}
 use Rattle.mvrlu.specs.MetSeats.{MetSeat, met_seat, noted_seat, IsLookStep, MeetsBy}
-use Rattle.mvrlu.specs.Whole.{Whole, IsMetSeat, IsLeftSeat}
+use Rattle.mvrlu.specs.Whole.{Whole, IsMetSeat}
 use Rattle.mvrlu.proofs.AllSeats.{all_from_places}
 
 -- what an element becomes is among what all become

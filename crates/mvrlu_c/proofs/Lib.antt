@@ -1,5 +1,7 @@
+pub mod Terms
 pub mod Values
 pub mod HandleValues
+pub mod HandleWalks
 pub mod Telling
 pub mod SetsTelling
 pub mod TableTelling

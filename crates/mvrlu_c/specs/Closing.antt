@@ -34,5 +34,6 @@ module _ {P : Type 0} {rules : _} where
   ClosesAs starts allows g before after status.No = after ≡ before
   ClosesAs starts allows g before after other = ⊥
 
+  -- The same, by the number that is answered.
   abbrev pub TellsClose : (State → Type 0) → (List ℕ → State → Writes → Type 0) → Gathering P rules → ℕ → ℕ → ℤ → Type 0
   TellsClose starts allows g before after code = (told : Status) × (code ≡ code_of told) × ClosesAs starts allows g before after told

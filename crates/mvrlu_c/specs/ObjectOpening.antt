@@ -12,6 +12,7 @@ use Rattle.mvrlu_c.specs.declared.status.Status.{Status}
 use Rattle.mvrlu_c.specs.Opening.{OpensAll}
 use Rattle.mvrlu_c.specs.Statuses.{code_of}
 
+-- whether a handle of a seat of objects is open
 abbrev pub opened : MvrluSeat → Bool
 opened h = h.is_open
 
@@ -41,5 +42,6 @@ abbrev pub OpensAs : MvrluOptions → List MvrluSeat → List MvrluSeat → Stat
 OpensAs o old new status =
     OpensAll opened seat_in (AreOpened (config_of o (length old))) (IsBadNumber o (length old)) (Checked (config_of o (length old))) old new status
 
+-- The same, by the number that is answered.
 abbrev pub Opens : MvrluOptions → List MvrluSeat → List MvrluSeat → ℤ → Type 0
 Opens o old new code = (status : Status) × (code ≡ code_of status) × OpensAs o old new status

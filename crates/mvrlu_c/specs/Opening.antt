@@ -4,9 +4,11 @@ use Rattle.mvrlu_c.specs.declared.status.Status.{Status}
 use Rattle.mvrlu_c.specs.declared.status.Status.TheVariants.{Done, InUse, BadNumber, NoMemory}
 
 module _ {H S : Type 0} (opened : H → Bool) (seat_in : H → S) where
+  -- the handle is closed
   abbrev pub IsClosed : H → Type 0
   IsClosed h = opened h ≡ false
 
+  -- the handle is open
   abbrev pub IsOpen : H → Type 0
   IsOpen h = opened h ≡ true
 

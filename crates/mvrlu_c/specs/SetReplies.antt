@@ -14,6 +14,7 @@ use Rattle.mvrlu_c.specs.declared.status.Status.{Status}
 use Rattle.mvrlu_c.specs.declared.status.Status.TheVariants as status
 use Rattle.mvrlu_c.specs.Statuses.{code_of}
 
+-- the status of a reply: no where nothing was to be changed or nothing was found, full, worn, and else done
 abbrev pub status_of_reply : Reply → Status
 status_of_reply reply.Yes = status.Done
 status_of_reply reply.No = status.No
@@ -52,11 +53,12 @@ culprit_of (Lock (refusal.Stale object time)) = time
 culprit_of (Rival rival) = rival.time
 culprit_of (LogFull holder) = 0
 
--- where a command took place
+-- the time where a command took place: of its commit, or of the state that it read
 abbrev pub time_of : Place → ℕ
 time_of (Commit time) = time
 time_of (Read time) = time
 
+-- 1 where it took place as a commit, and 0 where it read
 abbrev pub committed_of : Place → ℕ
 committed_of (Commit time) = 1
 committed_of (Read time) = 0

@@ -26,17 +26,21 @@ use Rattle.mvrlu_c.specs.Statuses.{code_of}
 abbrev pub in_set : ℕ → Result ℕ Status
 in_set set = if nat_lt set 30 then Ok set else Err status.BadSet
 
+-- a move of the key from the one set to the other, if that is a set and another one
 abbrev pub move_to : ℕ → ℕ → Result ℕ Status → Result Command Status
 move_to source key (Err why) = Err why
 move_to source key (Ok target) = if target == source then Err status.SameSet else Ok (Move source target key)
 
+-- what a move says, by the number of the set to which it goes
 abbrev pub move_said : ℕ → ℕ → ℕ → Result Command Status
 move_said source other key = move_to source key (in_set other)
 
+-- a pair of the key in the one set and the other, if that is a set
 abbrev pub pair_with : ℕ → ℕ → Result ℕ Status → Result Command Status
 pair_with first key (Err why) = Err why
 pair_with first key (Ok second) = Ok (Pair first second key)
 
+-- what a pair says, by the number of its second set
 abbrev pub pair_said : ℕ → ℕ → ℕ → Result Command Status
 pair_said first other key = pair_with first key (in_set other)
 
@@ -71,6 +75,7 @@ status_of_all (reply.Full ∷ rest) = status.Full
 status_of_all (reply.Worn ∷ rest) = status.Worn
 status_of_all other = status.Done
 
+-- the status of a block that was attempted: it took place, or was given up
 abbrev pub status_of_block : BlockAttempt → Status
 status_of_block (Done answers place) = status_of_all answers
 status_of_block (Again cause) = status_of_cause cause

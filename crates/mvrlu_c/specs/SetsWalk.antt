@@ -18,6 +18,7 @@ abbrev pub key_or_none : Option ℕ → ℕ × ℕ
 key_or_none None = (0, 0)
 key_or_none (Some key) = (key, 1)
 
+-- what C is told of a walk: its time, how many entries were written, and the least key for which there was no room, if there is one
 abbrev pub walk_told : Walked → MvrluWalk
 walk_told w = record { time = w.time; count = w.count; next = (key_or_none w.more).0; more = (key_or_none w.more).1 }
 

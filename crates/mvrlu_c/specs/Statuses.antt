@@ -40,6 +40,7 @@ code_of status.BadPlace = negsuc 18
 code_of status.BadCommand = negsuc 19
 code_of status.BadBlock = negsuc 20
 
+-- each misuse has its own status
 abbrev pub status_of_misuse : Misuse → Status
 status_of_misuse misuse.Outside = status.Outside
 status_of_misuse misuse.Inside = status.Inside
@@ -49,6 +50,7 @@ status_of_misuse misuse.NotLocked = status.NotLocked
 status_of_misuse misuse.Empty = status.Empty
 status_of_misuse misuse.Holding = status.Holding
 
+-- the status of what a lock answers: done where the object is held, and else why it is not
 abbrev pub status_of_lock : LockAnswer → Status
 status_of_lock lock.Held = status.Done
 status_of_lock (lock.Busy seat) = status.Busy
@@ -61,10 +63,12 @@ abbrev pub status_of_vacant : Option Vacancy → Status
 status_of_vacant None = status.Full
 status_of_vacant (Some found) = status_of_lock found.lock
 
+-- the status of making room: done, or short where there is too little
 abbrev pub status_of_room : Room → Status
 status_of_room room.Enough = status.Done
 status_of_room (room.Short holder) = status.Short
 
+-- the status of a commit: done, again where another seat's entry came first, or worn at the last time
 abbrev pub status_of_commit : CommitResult → Status
 status_of_commit (ended.Done time) = status.Done
 status_of_commit (ended.Again rival) = status.Again

@@ -12,6 +12,7 @@ use Rattle.mvrlu_c.specs.declared.status.Status.{Status}
 use Rattle.mvrlu_c.specs.Opening.{OpensAll}
 use Rattle.mvrlu_c.specs.Statuses.{code_of}
 
+-- whether a handle of a seat of a growing set is open
 abbrev pub opened : MvrluTable → Bool
 opened h = h.is_open
 
@@ -33,5 +34,6 @@ abbrev pub OpensAs : MvrluTableOptions → List MvrluTable → List MvrluTable �
 OpensAs o old new status =
     OpensAll opened seat_in (AreOpened (grown_of o (length old))) (IsBadNumber o (length old)) (Checked (config_of (grown_of o (length old)))) old new status
 
+-- The same, by the number that is answered.
 abbrev pub Opens : MvrluTableOptions → List MvrluTable → List MvrluTable → ℤ → Type 0
 Opens o old new code = (status : Status) × (code ≡ code_of status) × OpensAs o old new status

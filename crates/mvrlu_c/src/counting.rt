@@ -7,7 +7,7 @@ ghost use Rattle.mvrlu_c.specs.Counted.{counts_in};
 
 use crate::handle::on_open;
 use crate::object_handle::MvrluSeat;
-use crate::sets_calls::MvrluCounts;
+use crate::sets_calls::{MvrluCounts, counts_of};
 use crate::status::{Status, of_misuse};
 use object_seats::ObjectSeat;
 use std::alloc::Global;
@@ -26,14 +26,7 @@ pub extern "C" fn mvrlu_raw_count(
         None => Status::Closed,
         Some(Err(why)) => of_misuse(why),
         Some(Ok(table)) => {
-            *counts = MvrluCounts {
-                commits: table.commits,
-                aborts: table.aborts,
-                back: table.back,
-                freed: table.freed,
-                rests: table.rests,
-                live: table.live,
-            };
+            *counts = counts_of(table);
             Status::Done
         }
     };

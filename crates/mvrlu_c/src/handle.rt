@@ -11,6 +11,7 @@ use std::alloc::Global;
 pub(crate) trait Handle: Sized + Drop {
     ghost use Rattle.std.specs.Prelude.{Bool};
     ghost use Rattle.crossbeam_utils.specs.declared.cache_padded.CachePadded.{CachePadded as Padded};
+    ghost use denote.RawPtr.{Ptr};
 
     /// The seat behind an open one.
     type Seat: Drop;
@@ -21,22 +22,18 @@ pub(crate) trait Handle: Sized + Drop {
     // What an open one holds.
     ghost state: { Self → Padded Self.Seat };
 
-    // Whether it is open, and the handle again.
-    fn with_open(self) -> (bool, Self)
-        ensures { (result.0 ≡ is_open self) × (result.1 ≡ self) };
+    // One by its fields.
+    ghost made: { Bool → Ptr → Padded Self.Seat → Self };
 
-    // A closed one. The seat gives the proof a value to name.
-    fn closed(last: &CachePadded<Self::Seat>) -> Self
-        ensures { is_open result ≡ false };
+    // Whether it is open, and then the box behind it.
+    fn take_apart(self, alloc: Global) -> (bool, Loose<CachePadded<Self::Seat>, Global>)
+        ensures { (self ≡ made result.0 result.1.at result.1.value) × (result.0 ≡ is_open self) × (result.1.is_full ≡ is_open self)
+            × (result.1.value ≡ state self) };
 
-    // The box behind one that is open.
-    fn unseal(self, alloc: Global) -> Loose<CachePadded<Self::Seat>, Global>
-        requires { is_open self ≡ true }
-        ensures { result.value ≡ state self };
-
-    // An open one with this box.
-    fn seal(loose: Loose<CachePadded<Self::Seat>, Global>) -> Self
-        ensures { (is_open result ≡ true) × (state result ≡ loose.value) };
+    // One that is open where there is a box.
+    fn of(full: bool, block: Loose<CachePadded<Self::Seat>, Global>) -> Self
+        requires { block.is_full ≡ full }
+        ensures { (result ≡ made full block.at block.value) × (is_open result ≡ full) × (state result ≡ block.value) };
 }
 
 /// Makes a call on the seat of an open handle, in its place. None where the handle is closed; then nothing
@@ -62,14 +59,14 @@ pub(crate) fn on_open<H: Handle, X: Drop, R, F: FnOnce(H::Seat, X) -> (H::Seat, 
             ensures open { H.is_open handle ≡ true → (H.is_open result.0 ≡ true)
                 × MatchOption result.1 ⊥ (λ r. F.post given.1 (padded_value (H.state handle)) given.0 (padded_value (H.state result.0), r)) }
         {
-            let (open, handle) = handle.with_open();
-            if !open {
-                return (handle, None);
+            let (full, block) = handle.take_apart(alloc);
+            if !full {
+                return (H::of(full, block), None);
             }
             let (argument, call) = given;
-            let mut block = handle.unseal(alloc).into_box();
+            let mut block = block.into_box();
             let answer = replace_with(&mut **block, argument, call);
-            (H::seal(Loose::of(block)), Some(answer))
+            (H::of(true, Loose::of(block)), Some(answer))
         },
     )
 }
@@ -94,12 +91,12 @@ pub(crate) fn close_by<H: Handle, R, F: FnOnce(H::Seat) -> R + Drop>(
             ensures open { H.is_open handle ≡ true → (H.is_open result.0 ≡ false)
                 × MatchOption result.1 ⊥ (λ r. F.post close (padded_value (H.state handle)) r) }
         {
-            let (open, handle) = handle.with_open();
-            if !open {
-                return (handle, None);
+            let (full, block) = handle.take_apart(alloc);
+            if !full {
+                return (H::of(full, block), None);
             }
-            let block = handle.unseal(alloc).into_box();
-            let handle = H::closed(&block);
+            let block = block.into_box();
+            let handle = H::of(false, Loose::none(alloc, &*block));
             (handle, Some(close(Box::into_inner(block).into_inner())))
         },
     )

@@ -12,7 +12,7 @@
 //!
 //! **Choices.** A seat is 128 bytes, two lines, and what it points to is padded, so that threads write different ones.
 //! Open seats aren't copied: a caller couldn't tell them apart. Seats of objects, of sets and of a growing set are different structs, since
-//! no generic one crosses to C: each implements `Handle` by four functions, and all else is written once, over that trait. A
+//! no generic one crosses to C: each implements `Handle` by two functions, and all else is written once, over that trait. A
 //! `std::optional<bool>` is true for a no, so C++ doesn't answer one.
 //!
 //! It stands on `object_seats`, `set_seats` and `grow_seats`. `object_handle`, `sets_handle` and `table_handle` have the places where a pointer

@@ -1,5 +1,5 @@
 // What C holds of a seat.
-ghost use Rattle.std.specs.Prelude.{◌≡◌, true, false};
+ghost use Rattle.std.specs.Prelude.{◌≡◌};
 ghost use Rattle.crossbeam_utils.specs.declared.cache_padded.CachePadded.{CachePadded as Padded};
 ghost use Rattle.object_seats.specs.declared.seat.ObjectSeat.{ObjectSeat};
 ghost use Rattle.mvrlu_c.specs.Held.{object_row};
@@ -10,7 +10,6 @@ use crossbeam_utils::CachePadded;
 use object_seats::ObjectSeat;
 use std::alloc::Global;
 use std::marker::Model;
-use std::ptr::null_mut;
 
 /// A seat in memory that C owns. Zeroed memory is a closed one.
 #[repr(C)]
@@ -22,9 +21,9 @@ pub struct MvrluSeat {
 }
 
 impl Model for MvrluSeat {
-    ghost use Rattle.mvrlu_c.specs.Held.{held_if, object_row};
+    ghost use Rattle.mvrlu_c.specs.Held.{held_if, token, object_row};
 
-    ghost also_owns = { λ h. held_if object_row h.is_open h.at h.state };
+    ghost also_owns = { λ h. held_if token object_row h.is_open h.at h.state };
 }
 
 impl Handle for MvrluSeat {
@@ -34,43 +33,24 @@ impl Handle for MvrluSeat {
 
     ghost state = { λ h. h.state };
 
-    // Whether it is open, and the handle again.
-    fn with_open(self) -> (bool, MvrluSeat)
-        ensures { (result.0 ≡ self.is_open) × (result.1 ≡ self) }
+    ghost made = { λ t p x. record { is_open = t; at = p; state = x } };
+
+    fn take_apart(self, alloc: Global) -> (bool, Loose<CachePadded<ObjectSeat>, Global>)
+        ensures { (self ≡ record { is_open = result.0; at = result.1.at; state = result.1.value }) × (result.0 ≡ self.is_open)
+            × (result.1.is_full ≡ self.is_open) × (result.1.value ≡ self.state) }
     {
         let MvrluSeat { is_open, at } = self;
-        (is_open, MvrluSeat { is_open, at })
+        let at = at as *mut CachePadded<ObjectSeat>;
+        (is_open, Loose { at, alloc })
     }
 
-    // A closed one. The seat gives the proof a value to name.
-    fn closed(_last: &CachePadded<ObjectSeat>) -> MvrluSeat
-        ensures { result.is_open ≡ false }
+    fn of(full: bool, block: Loose<CachePadded<ObjectSeat>, Global>) -> MvrluSeat
+        requires { block.is_full ≡ full }
+        ensures { (result ≡ record { is_open = full; at = block.at; state = block.value }) × (result.is_open ≡ full) × (result.state ≡ block.value) }
     {
+        let Loose { at, alloc: _ } = block;
         MvrluSeat {
-            is_open: false,
-            at: null_mut(),
-        }
-    }
-
-    // The box behind one that is open.
-    fn unseal(self, alloc: Global) -> Loose<CachePadded<ObjectSeat>, Global>
-        requires { self.is_open ≡ true }
-        ensures { result.value ≡ self.state }
-    {
-        let MvrluSeat { is_open: _, at } = self;
-        Loose {
-            at: at as *mut CachePadded<ObjectSeat>,
-            alloc,
-        }
-    }
-
-    // An open one with this box.
-    fn seal(loose: Loose<CachePadded<ObjectSeat>, Global>) -> MvrluSeat
-        ensures { (result.is_open ≡ true) × (result.state ≡ loose.value) }
-    {
-        let Loose { at, alloc: _ } = loose;
-        MvrluSeat {
-            is_open: true,
+            is_open: full,
             at: at as *mut (),
         }
     }

@@ -44,7 +44,7 @@ pub extern "C" fn mvrlu_raw_open(
 fn open_all(alloc: Global, options: &MvrluOptions, handles: &mut [MvrluSeat]) -> Status
     ensures { OpensAs options.now handles.old handles.new result }
 {
-    if any_is_open(handles) {
+    if any_is_open(alloc, handles) {
         return Status::InUse;
     }
     if options.size != SIZE || handles.len() > MOST_SEATS {

@@ -13,7 +13,7 @@ use std::alloc::{AllocError, Global};
 pub(crate) const MOST_SEATS: usize = 64;
 
 // Whether the handle is open. It stays as it is.
-fn is_open<H: Handle>(handle: &mut H) -> bool
+fn is_open<H: Handle>(alloc: Global, handle: &mut H) -> bool
     ensures { (result ≡ H.is_open handle.old) × (handle.new ≡ handle.old) }
 {
     replace_with(
@@ -22,21 +22,21 @@ fn is_open<H: Handle>(handle: &mut H) -> bool
         |handle: H, _none: ()|
             ensures { (result.1 ≡ H.is_open handle) × (result.0 ≡ handle) }
         {
-            let (open, handle) = handle.with_open();
-            (handle, open)
+            let (full, block) = handle.take_apart(alloc);
+            (H::of(full, block), full)
         },
     )
 }
 
 /// Whether one of the handles is open. They stay as they are.
-pub(crate) fn any_is_open<H: Handle>(handles: &mut [H]) -> bool
+pub(crate) fn any_is_open<H: Handle>(alloc: Global, handles: &mut [H]) -> bool
     ensures none { result ≡ false → All (λ h. H.is_open h ≡ false) handles.old }
     ensures some { result ≡ true → ¬ All (λ h. H.is_open h ≡ false) handles.old }
     ensures as_before { handles.new ≡ handles.old }
 {
     match handles.split_first_mut() {
         None => false,
-        Some((first, others)) => is_open(first) || any_is_open(others),
+        Some((first, others)) => is_open(alloc, first) || any_is_open(alloc, others),
     }
 }
 
@@ -64,7 +64,7 @@ fn hand_out<H: Handle>(handles: &mut [H], mut blocks: Vec<Box<CachePadded<H::Sea
         if blocks.is_empty() {
             return;
         }
-        *first = H::seal(Loose::of(blocks.remove(0)));
+        *first = H::of(true, Loose::of(blocks.remove(0)));
         hand_out(others, blocks);
     }
 }

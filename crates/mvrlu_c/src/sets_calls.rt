@@ -12,6 +12,7 @@ use crate::handle::on_open;
 use crate::sets_handle::MvrluSets;
 use crate::sets_reply::{MvrluReply, told};
 use crate::status::Status;
+use mv_history::LogTable;
 use set_script::{Command, Name};
 use set_seats::SetSeat;
 use std::alloc::Global;
@@ -255,6 +256,20 @@ pub struct MvrluCounts {
     pub live: u64,
 }
 
+// The counts of a log, as they are written for C.
+pub(crate) fn counts_of(log: LogTable) -> MvrluCounts
+    ensures { result ≡ counts_told log }
+{
+    MvrluCounts {
+        commits: log.commits,
+        aborts: log.aborts,
+        back: log.back,
+        freed: log.freed,
+        rests: log.rests,
+        live: log.live,
+    }
+}
+
 /// Tells the counts of the seat's log.
 #[unsafe(no_mangle)]
 pub extern "C" fn mvrlu_raw_sets_counts(
@@ -276,14 +291,7 @@ pub extern "C" fn mvrlu_raw_sets_counts(
     match answer {
         None => Status::Closed.code(),
         Some(table) => {
-            *counts = MvrluCounts {
-                commits: table.commits,
-                aborts: table.aborts,
-                back: table.back,
-                freed: table.freed,
-                rests: table.rests,
-                live: table.live,
-            };
+            *counts = counts_of(table);
             Status::Done.code()
         }
     }

@@ -8,7 +8,7 @@ ghost use Rattle.mvrlu_c.specs.TableTold.{Answers, AnswersSplit, TellsCommand, T
 ghost use Rattle.mvrlu_c.specs.Statuses.{done};
 
 use crate::handle::on_open;
-use crate::sets_calls::MvrluCounts;
+use crate::sets_calls::{MvrluCounts, counts_of};
 use crate::sets_reply::MvrluReply;
 use crate::status::Status;
 use crate::table_handle::MvrluTable;
@@ -182,14 +182,7 @@ pub extern "C" fn mvrlu_raw_table_counts(
     match answer {
         None => Status::Closed.code(),
         Some(log) => {
-            *counts = MvrluCounts {
-                commits: log.commits,
-                aborts: log.aborts,
-                back: log.back,
-                freed: log.freed,
-                rests: log.rests,
-                live: log.live,
-            };
+            *counts = counts_of(log);
             Status::Done.code()
         }
     }

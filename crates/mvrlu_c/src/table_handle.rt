@@ -1,5 +1,5 @@
 // What C holds of a seat of a growing set.
-ghost use Rattle.std.specs.Prelude.{◌≡◌, true, false};
+ghost use Rattle.std.specs.Prelude.{◌≡◌};
 ghost use Rattle.crossbeam_utils.specs.declared.cache_padded.CachePadded.{CachePadded as Padded};
 ghost use Rattle.grow_seats.specs.declared.seat.GrowSeat.{GrowSeat};
 ghost use Rattle.mvrlu_c.specs.Held.{table_row};
@@ -10,7 +10,6 @@ use crossbeam_utils::CachePadded;
 use grow_seats::GrowSeat;
 use std::alloc::Global;
 use std::marker::Model;
-use std::ptr::null_mut;
 
 /// A seat of a growing set in memory that C owns. Zeroed memory is a closed one.
 #[repr(C)]
@@ -22,9 +21,9 @@ pub struct MvrluTable {
 }
 
 impl Model for MvrluTable {
-    ghost use Rattle.mvrlu_c.specs.Held.{held_if, table_row};
+    ghost use Rattle.mvrlu_c.specs.Held.{held_if, token, table_row};
 
-    ghost also_owns = { λ h. held_if table_row h.is_open h.at h.state };
+    ghost also_owns = { λ h. held_if token table_row h.is_open h.at h.state };
 }
 
 impl Handle for MvrluTable {
@@ -34,43 +33,24 @@ impl Handle for MvrluTable {
 
     ghost state = { λ h. h.state };
 
-    // Whether it is open, and the handle again.
-    fn with_open(self) -> (bool, MvrluTable)
-        ensures { (result.0 ≡ self.is_open) × (result.1 ≡ self) }
+    ghost made = { λ t p x. record { is_open = t; at = p; state = x } };
+
+    fn take_apart(self, alloc: Global) -> (bool, Loose<CachePadded<GrowSeat>, Global>)
+        ensures { (self ≡ record { is_open = result.0; at = result.1.at; state = result.1.value }) × (result.0 ≡ self.is_open)
+            × (result.1.is_full ≡ self.is_open) × (result.1.value ≡ self.state) }
     {
         let MvrluTable { is_open, at } = self;
-        (is_open, MvrluTable { is_open, at })
+        let at = at as *mut CachePadded<GrowSeat>;
+        (is_open, Loose { at, alloc })
     }
 
-    // A closed one. The seat gives the proof a value to name.
-    fn closed(_last: &CachePadded<GrowSeat>) -> MvrluTable
-        ensures { result.is_open ≡ false }
+    fn of(full: bool, block: Loose<CachePadded<GrowSeat>, Global>) -> MvrluTable
+        requires { block.is_full ≡ full }
+        ensures { (result ≡ record { is_open = full; at = block.at; state = block.value }) × (result.is_open ≡ full) × (result.state ≡ block.value) }
     {
+        let Loose { at, alloc: _ } = block;
         MvrluTable {
-            is_open: false,
-            at: null_mut(),
-        }
-    }
-
-    // The box behind one that is open.
-    fn unseal(self, alloc: Global) -> Loose<CachePadded<GrowSeat>, Global>
-        requires { self.is_open ≡ true }
-        ensures { result.value ≡ self.state }
-    {
-        let MvrluTable { is_open: _, at } = self;
-        Loose {
-            at: at as *mut CachePadded<GrowSeat>,
-            alloc,
-        }
-    }
-
-    // An open one with this box.
-    fn seal(loose: Loose<CachePadded<GrowSeat>, Global>) -> MvrluTable
-        ensures { (result.is_open ≡ true) × (result.state ≡ loose.value) }
-    {
-        let Loose { at, alloc: _ } = loose;
-        MvrluTable {
-            is_open: true,
+            is_open: full,
             at: at as *mut (),
         }
     }

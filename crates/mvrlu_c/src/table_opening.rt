@@ -40,7 +40,7 @@ pub extern "C" fn mvrlu_raw_table_open(
 fn open_all(alloc: Global, options: &MvrluTableOptions, handles: &mut [MvrluTable]) -> Status
     ensures { OpensAs options.now handles.old handles.new result }
 {
-    if any_is_open(handles) {
+    if any_is_open(alloc, handles) {
         return Status::InUse;
     }
     if options.size != SIZE || handles.len() > MOST_SEATS {

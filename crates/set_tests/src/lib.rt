@@ -44,6 +44,4 @@ mod scripts;
 #[cfg(test)]
 mod stores;
 #[cfg(test)]
-mod tables;
-#[cfg(test)]
 mod trees;

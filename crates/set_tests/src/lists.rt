@@ -1,158 +1,250 @@
-// What the calls do when they run.
-ghost use Rattle.std.specs.Prelude.{◌≡◌, ◌<◌, length, true};
+// What the calls of lists and tables do when they run.
+ghost use Rattle.std.specs.Prelude.{◌≡◌, ℕ, ◌+◌, ◌<◌, true, Some};
 ghost use Rattle.set_script.specs.Lawful.{IsLawful};
 ghost use Rattle.list_set.specs.Filling.{IsFilled};
+ghost use Rattle.list_set.specs.declared.answers.SetStep.TheVariants.{Yes, No};
+ghost use Rattle.list_set.specs.declared.answers.Removed.TheVariants.{Took, Absent};
 
 use crate::asked::Asked::{Get, Has, Next, Size};
 use crate::asked::{Asked, Object, expect_words};
+use crate::comparing::{assert_row, must};
 use crate::opening::open_lists;
-use list_set::{Removed, SetStep, add_in, del_in, get_in, has_in, next_in, put_in, size_in};
+use list_set::{Removed, SetStep};
 use mv_history::{Section, View};
 use std::process::Abort;
 use std::test::*;
 
-// Adds these keys, with ten times themselves as values, in nodes 180, 181 and so on.
-fn add_all<S: Section>(section: &mut S, head: u32, keys: &[u32]) -> bool
-    requires head_in { head < 10 }
-    requires few { length keys.now < 6 }
-    requires filled { IsFilled (S.section section.old) 0 }
-    ensures { result ≡ true → IsFilled (S.section section.new) (length keys.now) }
+// The structure whose calls a case makes.
+#[derive(Clone, Copy)]
+enum Kind {
+    List,
+    Table,
+}
+
+// A case: what is done to the list or table 1, in this order, and what is found then.
+struct Case {
+    name: &'static str,
+    kind: Kind,
+    // The keys that are added, with ten times themselves as values, in nodes 180, 181 and 182.
+    added: [u32; 3],
+    // A key, the value that it has, and the one that it is given.
+    put: (u32, u64, u64),
+    // A key that is there, and isn't added again.
+    again: u32,
+    // A key that isn't there, and isn't taken out.
+    absent: u32,
+    // A key that is taken out, and its node.
+    taken: (u32, u32),
+    // Questions of lists or tables, by their numbers.
+    asked: [(u32, Asked); 9],
+    left: &'static [Object],
+}
+
+static CASES: [Case; 2] = [
+    Case {
+        name: "the order of a list, a put and a del",
+        kind: Kind::List,
+        added: [1, 3, 2],
+        put: (2, 20, 7),
+        again: 3,
+        absent: 4,
+        taken: (3, 181),
+        asked: [
+            (1, Has(2, true)),
+            (1, Has(3, false)),
+            (1, Get(2, Some(7))),
+            (1, Get(3, None)),
+            (1, Next(0, Some(1))),
+            (1, Next(2, Some(2))),
+            (1, Next(3, None)),
+            (1, Size(2)),
+            (169, Size(0)),
+        ],
+        // The head, the nodes of 1 and 2, and the one that was of 3.
+        left: &[
+            (1, [0, 0, 0, 180, 0, 0]),
+            (180, [2, 0, 1, 182, 0, 10]),
+            (182, [2, 0, 2, 0, 0, 7]),
+            (181, [0; 6]),
+        ],
+    },
+    Case {
+        name: "two buckets of a table, of which 19 and 3 share one",
+        kind: Kind::Table,
+        added: [19, 3, 20],
+        put: (3, 30, 7),
+        again: 20,
+        absent: 4,
+        taken: (19, 180),
+        asked: [
+            (1, Has(20, true)),
+            (1, Has(19, false)),
+            (1, Get(3, Some(7))),
+            (1, Get(19, None)),
+            (1, Next(0, Some(3))),
+            (1, Next(4, Some(20))),
+            (1, Next(21, None)),
+            (1, Size(2)),
+            (9, Size(0)),
+        ],
+        // Two heads, the nodes of 3 and 20, and the one that was of 19.
+        left: &[
+            (29, [0, 0, 0, 181, 0, 0]),
+            (30, [0, 0, 0, 182, 0, 0]),
+            (181, [30, 0, 3, 0, 0, 7]),
+            (182, [31, 0, 20, 0, 0, 200]),
+            (180, [0; 6]),
+        ],
+    },
+];
+
+// Adds a key, in the node behind those that may be filled.
+fn add<S: Section>(section: &mut S, kind: Kind, key: u32, value: u64, filled: u32) -> SetStep
+    requires few { filled < 6 }
+    requires filled { IsFilled (S.section section.old) filled }
+    ensures no { result ≡ No → IsFilled (S.section section.new) filled }
+    ensures yes { result ≡ Yes → IsFilled (S.section section.new) (filled + 1) }
 {
-    for (i, key) in keys.iter().enumerate() {
-        let node = 180 + i as u32;
-        let SetStep::Yes = add_in(section, head, *key, *key as u64 * 10, node) else {
+    let node = 180 + filled;
+    match kind {
+        Kind::List => list_set::add_in(section, 1, key, value, node),
+        Kind::Table => hash_set::add_in(section, 1, key, value, node),
+    }
+}
+
+// Gives a key this value, if the key is there.
+fn put<S: Section>(section: &mut S, kind: Kind, key: u32, value: u64) -> Option<SetStep>
+    requires filled { IsFilled (S.section section.old) 3 }
+    ensures no { result ≡ Some No → IsFilled (S.section section.new) 3 }
+    ensures yes { result ≡ Some Yes → IsFilled (S.section section.new) 4 }
+{
+    match kind {
+        Kind::List => {
+            if !list_set::has_in(section, 1, key) {
+                return None;
+            }
+            Some(list_set::put_in(section, 1, key, value))
+        }
+        Kind::Table => {
+            if !hash_set::has_in(section, 1, key) {
+                return None;
+            }
+            Some(hash_set::put_in(section, 1, key, value))
+        }
+    }
+}
+
+// Takes a key out.
+fn del<S: Section>(section: &mut S, kind: Kind, key: u32) -> Removed
+    requires filled { IsFilled (S.section section.old) 4 }
+    ensures absent { result ≡ Absent → IsFilled (S.section section.new) 4 }
+    ensures took { (node inner : ℕ) → result ≡ Took node inner → IsLawful (S.state section.new) }
+{
+    match kind {
+        Kind::List => list_set::del_in(section, 1, key),
+        Kind::Table => hash_set::del_in(section, 1, key),
+    }
+}
+
+// Makes the changes of a case. Whether each call answers as it should.
+fn change<S: Section>(section: &mut S, case: &Case) -> bool
+    requires filled { IsFilled (S.section section.old) 0 }
+    ensures { result ≡ true → IsLawful (S.state section.new) }
+{
+    for i in 0..3 {
+        let key = case.added[i];
+        let SetStep::Yes = add(section, case.kind, key, key as u64 * 10, i as u32) else {
             return false;
         };
     }
-    true
-}
-
-// Gives the key another value than the one that it has. Whether each call answers as it should.
-fn put_value<S: Section>(section: &mut S, head: u32, key: u32, old: u64, new: u64) -> bool
-    requires head_in { head < 10 }
-    requires filled { IsFilled (S.section section.old) 3 }
-    ensures { result ≡ true → IsFilled (S.section section.new) 4 }
-{
-    if !has_in(section, head, key) {
-        return false;
-    }
-    let SetStep::No = put_in(section, head, key, old) else {
+    let (key, old, new) = case.put;
+    let Some(SetStep::No) = put(section, case.kind, key, old) else {
         return false;
     };
-    let SetStep::Yes = put_in(section, head, key, new) else {
+    let Some(SetStep::Yes) = put(section, case.kind, key, new) else {
         return false;
     };
-    true
-}
-
-// Tries to add a key that is there. Whether it answers as it should.
-fn add_again<S: Section>(section: &mut S, head: u32, key: u32) -> bool
-    requires head_in { head < 10 }
-    requires filled { IsFilled (S.section section.old) 4 }
-    ensures { result ≡ true → IsFilled (S.section section.new) 4 }
-{
-    let SetStep::No = add_in(section, head, key, 7, 184) else {
+    let SetStep::No = add(section, case.kind, case.again, 7, 4) else {
         return false;
     };
-    true
-}
-
-// Takes out 4, which is not there, and 3, which is in this node. Whether each call answers as it should.
-fn take_out<S: Section>(section: &mut S, head: u32) -> bool
-    requires head_in { head < 10 }
-    requires filled { IsFilled (S.section section.old) 4 }
-    ensures { result ≡ true → IsLawful (S.state section.new) }
-{
-    let Removed::Absent = del_in(section, head, 4) else {
+    let Removed::Absent = del(section, case.kind, case.absent) else {
         return false;
     };
-    let Removed::Took {
-        node: 181,
-        inner: 0,
-    } = del_in(section, head, 3)
-    else {
+    let Removed::Took { node, inner: 0 } = del(section, case.kind, case.taken.0) else {
         return false;
     };
-    true
+    node == case.taken.1
 }
 
-// Adds 1, 3 and 2, and gives 2 another value; then tries 3 again, and takes out 4 and 3. Whether each
-// call answers as it should.
-fn change_some<S: Section>(section: &mut S, head: u32) -> bool
-    requires head_in { head < 10 }
-    requires filled { IsFilled (S.section section.old) 0 }
-    ensures { result ≡ true → IsLawful (S.state section.new) }
-{
-    if !add_all(section, head, &[1, 3, 2]) {
-        return false;
-    }
-    if !put_value(section, head, 2, 20, 7) {
-        return false;
-    }
-    if !add_again(section, head, 3) {
-        return false;
-    }
-    take_out(section, head)
-}
-
-// Asks one question. Whether its answer is the one that is wanted.
-fn ask<V: View>(view: &mut V, head: u32, asked: Asked) -> bool
+// Asks a list one question. Whether its answer is the one that is wanted.
+fn ask_list<V: View>(view: &mut V, head: u32, asked: Asked) -> bool
     requires head_in { head < 170 }
     requires lawful { IsLawful (V.state view.old) }
     ensures { V.as_before view.old view.new }
 {
     match asked {
-        Has(key, found) => has_in(view, head, key) == found,
-        Get(key, value) => get_in(view, head, key) == value,
-        Next(key, next) => next_in(view, head, key) == next,
-        Size(count) => size_in(view, head) == count,
+        Has(key, found) => list_set::has_in(view, head, key) == found,
+        Get(key, value) => list_set::get_in(view, head, key) == value,
+        Next(key, next) => list_set::next_in(view, head, key) == next,
+        Size(count) => list_set::size_in(view, head) == count,
     }
 }
 
-// Asks the questions, one after another.
-fn ask_all<V: View>(rt: &impl Abort, view: &mut V, rows: &[(u32, Asked)])
+// The same of a table.
+fn ask_table<V: View>(view: &mut V, set: u32, asked: Asked) -> bool
+    requires set_in { set < 10 }
+    requires lawful { IsLawful (V.state view.old) }
+    ensures { V.as_before view.old view.new }
+{
+    match asked {
+        Has(key, found) => hash_set::has_in(view, set, key) == found,
+        Get(key, value) => hash_set::get_in(view, set, key) == value,
+        Next(key, next) => hash_set::next_in(view, set, key) == next,
+        Size(count) => hash_set::size_in(view, set) == count,
+    }
+}
+
+// The same of either.
+fn ask<V: View>(rt: &impl Abort, view: &mut V, kind: Kind, set: u32, asked: Asked) -> bool
+    requires lawful { IsLawful (V.state view.old) }
+    ensures { V.as_before view.old view.new }
+{
+    match kind {
+        Kind::List => {
+            must(rt, set < 170, "a head");
+            ask_list(view, set, asked)
+        }
+        Kind::Table => {
+            must(rt, set < 10, "a table");
+            ask_table(view, set, asked)
+        }
+    }
+}
+
+// Asks the questions of a case, one after another.
+fn ask_all<V: View>(rt: &impl Abort, view: &mut V, case: &Case)
     requires lawful { IsLawful (V.state view.old) }
 {
-    for (row, (head, asked)) in rows.iter().enumerate() {
-        assert!(rt; *head < 170);
-        assert!(rt; ask(view, *head, *asked), "row {row}");
+    for (row, (set, asked)) in case.asked.iter().enumerate() {
+        let answers = ask(rt, view, case.kind, *set, *asked);
+        assert_row(rt, &answers, &true, case.name, row);
     }
 }
 
-static ASKED: [(u32, Asked); 9] = [
-    (1, Has(2, true)),
-    (1, Has(3, false)),
-    (1, Get(2, Some(7))),
-    (1, Get(3, None)),
-    (1, Next(0, Some(1))),
-    (1, Next(2, Some(2))),
-    (1, Next(3, None)),
-    (1, Size(2)),
-    (169, Size(0)),
-];
-
-// The head, the nodes of 1 and 2, and the one that was of 3.
-static LEFT: [Object; 4] = [
-    (1, [0, 0, 0, 180, 0, 0]),
-    (180, [2, 0, 1, 182, 0, 10]),
-    (182, [2, 0, 2, 0, 0, 7]),
-    (181, [0; 6]),
-];
-
-// Changes a list, and looks at what it has.
-fn look_at_changed<S: Section>(rt: &impl Abort, mut section: S) -> S::Back
+// Plays a case in a new section.
+fn play<S: Section>(rt: &impl Abort, mut section: S, case: &Case) -> S::Back
     requires filled { IsFilled (S.section section) 0 }
 {
-    if !change_some(&mut section, 1) {
-        panic!(rt; "another answer");
-    }
-    ask_all(rt, &mut section, &ASKED);
-    expect_words(rt, &mut section, &LEFT);
+    must(rt, change(&mut section, case), case.name);
+    ask_all(rt, &mut section, case);
+    expect_words(rt, &mut section, case.left);
     section.abort()
 }
 
 #[test]
-fn list_order_put_and_del(rt: HostRuntime) -> Result<(), Fail> {
-    let _store = look_at_changed(&rt, open_lists(rt.alloc(), 186)?);
+fn lists_and_tables(rt: HostRuntime) -> Result<(), Fail> {
+    for case in &CASES {
+        let _store = play(&rt, open_lists(rt.alloc(), 186)?, case);
+    }
     Ok(())
 }

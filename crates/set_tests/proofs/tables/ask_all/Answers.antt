@@ -1,6 +1,0 @@
-use Rattle.std.proofs.Common.{sym, subst}
-use Rattle.set_script.specs.Lawful.{IsLawful}
-use Rattle.set_tests.proofs.tables.ask_all.Goals as goal
-
-pub loop-row-preserved : goal.loop-row-preserved
-loop-row-preserved g c = subst IsLawful (sym (g.met.V.View.same_state _ _ c.ask.ensures)) c.loop-row.invariant

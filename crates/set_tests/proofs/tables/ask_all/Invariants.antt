@@ -1,5 +1,0 @@
-use Rattle.set_script.specs.Lawful.{IsLawful}
-use Rattle.set_tests.proofs.tables.ask_all.Given as goal
-
-abbrev pub invariant-loop-row : goal.invariant-loop-row
-invariant-loop-row g l = IsLawful (g.V.View.state l.view)

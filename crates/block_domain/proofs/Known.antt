@@ -61,12 +61,6 @@ pub all_done : (p : Past) (number : ℕ) (olds news : List Seat) (scripts : List
     → AllRanBlocks olds news scripts lines
     → (groups : List (List DoneBlock)) × (lines ≡ flat_map lines_of (flat_done groups)) × AllDone p number scripts groups
 all_done p number [] [] [] lines known ran = ([], ran, tt)
-all_done p number [] [] (script ∷ scripts) lines known ran = absurd ran
-all_done p number [] (n ∷ news) [] lines known ran = absurd ran
-all_done p number [] (n ∷ news) (script ∷ scripts) lines known ran = absurd ran
-all_done p number (o ∷ olds) [] [] lines known ran = absurd ran
-all_done p number (o ∷ olds) [] (script ∷ scripts) lines known ran = absurd ran
-all_done p number (o ∷ olds) (n ∷ news) [] lines known ran = absurd ran
 all_done p number (o ∷ olds) (n ∷ news) (script ∷ scripts) lines known ran =
     let own = ran.3 in
     let rest = all_done p (suc number) olds news scripts ran.1 known.2 ran.4 in (
@@ -74,3 +68,4 @@ all_done p number (o ∷ olds) (n ∷ news) (script ∷ scripts) lines known ran
       ran.2 ∙ (λ i. own.lines_are i ++ rest.1 i) ∙ sym (flat_map-append lines_of own.done (flat_done rest.0)),
       (seat_done p number o n script ran.0 known.0 known.1 own, rest.2),
     )
+all_done p number _ _ _ lines known ran = absurd ran

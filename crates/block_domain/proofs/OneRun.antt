@@ -1,14 +1,12 @@
 -- The seats of a domain that ran their scripts of blocks have met: their lines and tables are those of one run in the whole history.
-use Rattle.std.proofs.Common.{◌≡◌, ℕ, suc, ◌+◌, ◌<◌, List, [], ◌∷◌, length, map, Some, refl, sym, ◌∙◌, subst, arith}
-use Rattle.std.specs.List.{All, flat_map, slice_get}
+use Rattle.std.proofs.Common.{◌≡◌, suc, ◌+◌, List, [], ◌∷◌, length, map, refl, sym, ◌∙◌, subst, arith}
+use Rattle.std.specs.List.{All, flat_map}
 use Rattle.std.specs.List.Sorted.{IsPermutation}
 use Rattle.std.proofs.lemmas.List.Sorted.{IsPermutation-refl, IsPermutation-sym, IsPermutation-trans, IsPermutation-map, All-permutation}
 use Rattle.mv_history.specs.declared.answers.LogTable.{LogTable}
 use Rattle.mv_history.specs.declared.history.Entry.TheVariants.{Change}
-use Rattle.mv_history.specs.declared.history.TheConstants.{LAST}
 use Rattle.mv_history.specs.Meaning.{Seat}
-use Rattle.mv_history.specs.State.{maker_of, state_after}
-use Rattle.mv_history.specs.Legal.{IsLegal, IsAllowed}
+use Rattle.mv_history.specs.State.{state_after}
 use Rattle.set_script.specs.Catalogue.{Maps, empty}
 use Rattle.set_script.specs.CatalogueOf.{catalogue_of}
 use Rattle.set_script.specs.Lawful.{IsOpening}
@@ -20,7 +18,7 @@ use Rattle.run_report.specs.declared.line.Line.{Line}
 use Rattle.run_report.specs.Order.{IsOrdered}
 use Rattle.run_report.specs.Legal.{EachPair, Follows, IsAlone, IsInTime, id_of, ids_of}
 use Rattle.run_report.specs.Worked.{Past}
-use Rattle.run_report.specs.Whole.{EachHasOneLine, IsTableOf, commit_lines}
+use Rattle.run_report.specs.Whole.{EachHasOneLine, commit_lines}
 use Rattle.run_report.proofs.Pairs.{pairs_permuted}
 use Rattle.run_report.proofs.history.Groups as groups_of
 use Rattle.run_report.proofs.history.Inserted.{some_order}
@@ -43,24 +41,12 @@ use Rattle.block_domain.proofs.Mapped.{ordered_as}
 pub all_continue : (olds news : List Seat) (scripts : List (List (List Command))) (lines : List Line) → AllRanBlocks olds news scripts lines
     → AllContinue olds news
 all_continue [] [] [] lines ran = tt
-all_continue [] [] (script ∷ scripts) lines ran = absurd ran
-all_continue [] (n ∷ news) [] lines ran = absurd ran
-all_continue [] (n ∷ news) (script ∷ scripts) lines ran = absurd ran
-all_continue (o ∷ olds) [] [] lines ran = absurd ran
-all_continue (o ∷ olds) [] (script ∷ scripts) lines ran = absurd ran
-all_continue (o ∷ olds) (n ∷ news) [] lines ran = absurd ran
 all_continue (o ∷ olds) (n ∷ news) (script ∷ scripts) lines ran = (ran.3.continues, all_continue olds news scripts ran.1 ran.4)
+all_continue _ _ _ lines ran = absurd ran
 
--- What holds of a history that the seats of the scripts made from an opening state on, and of the blocks of all of them.
-pub record IsBlocksWorked (p : Past) (scripts : List (List (List Command))) (groups : List (List DoneBlock)) : Type 0 where
-  pub opening : IsOpening p.start
-  pub legal : IsLegal (length p.start) p.entries
-  pub allowed : IsAllowed IsBlockCommit p.start p.entries
-  pub last : p.last ≡ LAST
-  pub makers : All (λ e. maker_of e < length scripts) p.entries
-  pub done : AllDone p 0 scripts groups
-
-module _ (p : Past) (scripts : List (List (List Command))) (groups : List (List DoneBlock)) (h : IsBlocksWorked p scripts groups) where
+-- The seats of the scripts made one history, and what became of the blocks of all of them is this.
+module _ (p : Past) (scripts : List (List (List Command))) (groups : List (List DoneBlock)) (olds news : List Seat) (tables : List LogTable)
+    (h : IsOneHistory IsOpening IsBlockCommit p (length scripts) olds news tables) (done : AllDone p 0 scripts groups) where
   -- all blocks, and their heads
   abbrev blocks : List DoneBlock
   blocks = flat_done groups
@@ -71,24 +57,24 @@ module _ (p : Past) (scripts : List (List (List Command))) (groups : List (List 
   one_head : EachHasOneLine p heads
   one_head i c there =
       let few = made_by_seat (length scripts) p.entries i (Change c) h.makers there in
-      let count = groups_count p 0 scripts groups h.done in
+      let count = groups_count p 0 scripts groups done in
       subst (λ ls. commit_lines (p.base + suc i) ls ≡ 1) (heads_flat groups)
       (groups_of.all_one p (length p.start) i c 0 (map (map head_of) groups) h.legal there (omega arith) (omega (arith, few, count))
-      (all_heads p 0 scripts groups h.done))
+      (all_heads p 0 scripts groups done))
 
   follow : All (λ line. Follows p.base line.place) heads
   follow =
       subst (All (λ line. Follows p.base line.place)) (heads_flat groups)
-      (groups_of.all_follow p 0 (map (map head_of) groups) (all_heads p 0 scripts groups h.done))
+      (groups_of.all_follow p 0 (map (map head_of) groups) (all_heads p 0 scripts groups done))
 
   in_time : EachPair IsInTime heads
-  in_time = subst (EachPair IsInTime) (heads_flat groups) (groups_of.all_in_time p 0 (map (map head_of) groups) (all_heads p 0 scripts groups h.done))
+  in_time = subst (EachPair IsInTime) (heads_flat groups) (groups_of.all_in_time p 0 (map (map head_of) groups) (all_heads p 0 scripts groups done))
 
   same_place : EachPair IsSamePlace heads
-  same_place = subst (EachPair IsSamePlace) (heads_flat groups) (groups_of.all_same p 0 (map (map head_of) groups) (all_heads p 0 scripts groups h.done))
+  same_place = subst (EachPair IsSamePlace) (heads_flat groups) (groups_of.all_same p 0 (map (map head_of) groups) (all_heads p 0 scripts groups done))
 
   alone : EachPair IsAlone heads
-  alone = subst (EachPair IsAlone) (heads_flat groups) (groups_of.all_alone p 0 (map (map head_of) groups) (all_heads p 0 scripts groups h.done))
+  alone = subst (EachPair IsAlone) (heads_flat groups) (groups_of.all_alone p 0 (map (map head_of) groups) (all_heads p 0 scripts groups done))
 
   -- ordered blocks replay from empty maps
   replays : (ordered : List DoneBlock) → IsPermutation blocks ordered → IsOrdered (map head_of ordered)
@@ -104,15 +90,15 @@ module _ (p : Past) (scripts : List (List (List Command))) (groups : List (List 
         left = λ i c low there. lines_permuted (p.base + suc i) heads (map head_of ordered) as_heads ∙ one_head i c there;
       } in
       subst (λ m. ReplaysBlocks scripts (capacity p.start) m ordered (catalogue_of (state_after p.start p.entries))) (opening_empty p.start h.opening)
-      (replay p scripts h.last 0 ordered left (All-permutation (BlockStandsIn p scripts) blocks ordered same (all_stand p scripts groups h.done)))
+      (replay p scripts h.last 0 ordered left (All-permutation (BlockStandsIn p scripts) blocks ordered same (all_stand p scripts groups done)))
 
   legal_blocks : LegalBlocks scripts (flat_map lines_of blocks) p.base (capacity p.start) (catalogue_of (state_after p.start p.entries))
   legal_blocks =
-      let own = all_lines p scripts groups h.done in
+      let own = all_lines p scripts groups done in
       let sorted = some_order heads in
       let as_blocks = ordered_as head_of blocks sorted.0 sorted.1 in
       record {
-        once = subst (IsPermutation (ids_of 0 (map commands_of scripts))) (sym (all_ids p 0 scripts groups h.done))
+        once = subst (IsPermutation (ids_of 0 (map commands_of scripts))) (sym (all_ids p 0 scripts groups done))
             (IsPermutation-refl (ids_of 0 (map commands_of scripts)));
         one_place = lines_one_place scripts blocks own same_place;
         from_base = lines_follow scripts blocks own p.base follow;
@@ -129,21 +115,20 @@ module _ (p : Past) (scripts : List (List (List Command))) (groups : List (List 
       }
 
   -- The lines are those of one run.
-  pub blocks_run_of : (lines : List Line) (tables : List LogTable) → lines ≡ flat_map lines_of blocks → length tables ≡ length scripts
-      → ((seat : ℕ) (table : LogTable) → slice_get tables seat ≡ Some table → IsTableOf p.entries seat table)
+  blocks_run_of : (lines : List Line) → lines ≡ flat_map lines_of blocks
       → BlocksRunOf p scripts lines (catalogue_of (state_after p.start p.entries)) tables
-  blocks_run_of lines tables are each of_seat =
+  blocks_run_of lines are =
       record {
         opening = h.opening;
         legal = h.legal;
         allowed = h.allowed;
         blocks = blocks;
         lines_are = subst (λ ls. IsPermutation ls (flat_map lines_of blocks)) (sym are) (IsPermutation-refl (flat_map lines_of blocks));
-        stand = all_stand p scripts groups h.done;
+        stand = all_stand p scripts groups done;
         one_block = λ i c there. sym (heads_commits (p.base + suc i) blocks) ∙ one_head i c there;
         end_is = refl;
-        table_each = each;
-        table_of = of_seat;
+        table_each = h.table_each;
+        table_of = h.table_of;
         run = subst (λ ls. LegalBlocks scripts ls p.base (capacity p.start) (catalogue_of (state_after p.start p.entries))) (sym are) legal_blocks;
       }
 
@@ -179,14 +164,4 @@ pub blocks_met : (p : Past) (olds news : List Seat) (scripts : List (List (List 
     → IsOneHistory IsOpening IsBlockCommit p (length scripts) olds news tables → AllRanBlocks olds news scripts lines
     → BlocksRunOf p scripts lines (catalogue_of (state_after p.start p.entries)) tables
 blocks_met p olds news scripts lines tables h ran =
-    let done = all_done p 0 olds news scripts lines h.known ran in
-    blocks_run_of p scripts done.0
-    record {
-      opening = h.opening;
-      legal = h.legal;
-      allowed = h.allowed;
-      last = h.last;
-      makers = h.makers;
-      done = done.2;
-    }
-    lines tables done.1 h.table_each h.table_of
+    let done = all_done p 0 olds news scripts lines h.known ran in blocks_run_of p scripts done.0 olds news tables h done.2 lines done.1

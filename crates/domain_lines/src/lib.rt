@@ -11,7 +11,8 @@
 //!   seat did in it (`one_history` in proofs/OneHistory.antt).
 //! - A section that was entered on a seat's way has a time that isn't below any commit that the seat had seen
 //!   (`fresh_between` in proofs/Fresh.antt).
-//! - New seats are numbered in order (`new_numbered` in proofs/NewSeats.antt).
+//! - New seats are numbered in order (`new_numbered` in proofs/NewSeats.antt), and so are the handles that they are lent
+//!   (`lent_numbered`).
 //!
 //! # Place
 //!

@@ -21,13 +21,8 @@ use Rattle.grow_hash.specs.Tables.{grow_levels}
 pub all_continue : (olds news : List Seat) (scripts : List (List Command)) (lines : List Line) → AllRanGrow olds news scripts lines
     → AllContinue olds news
 all_continue [] [] [] lines ran = tt
-all_continue [] [] (script ∷ scripts) lines ran = absurd ran
-all_continue [] (n ∷ news) [] lines ran = absurd ran
-all_continue [] (n ∷ news) (script ∷ scripts) lines ran = absurd ran
-all_continue (o ∷ olds) [] [] lines ran = absurd ran
-all_continue (o ∷ olds) [] (script ∷ scripts) lines ran = absurd ran
-all_continue (o ∷ olds) (n ∷ news) [] lines ran = absurd ran
 all_continue (o ∷ olds) (n ∷ news) (script ∷ scripts) lines ran = (ran.3.continues, all_continue olds news scripts ran.1 ran.4)
+all_continue _ _ _ lines ran = absurd ran
 
 -- The lines and tables are those of one run in the whole history.
 pub grown_met : (p : Past) (olds news : List Seat) (scripts : List (List Command)) (lines : List Line) (tables : List LogTable)

@@ -16,9 +16,6 @@ module _ (levels : ℕ) (s : State) (lev pl : ℕ) (l : IsGrown levels s) (el : 
   pub level_low : lev ≤ most_level most_levels
   level_low = let x = l.table.level_in in let y = l.most in omega arith
 
-  pub place_read : pl < buckets_at lev
-  place_read = subst (λ u. u < buckets_at lev) (sym ep) (subst (λ u. split_place s < buckets_at u) (sym el) l.table.place_in)
-
   pub buckets_read : (n : ℕ) → n ≡ buckets_at lev + pl → n ≡ buckets s
   buckets_read n e = e ∙ ap (λ u. buckets_at u + pl) el ∙ ap (λ u. buckets_at (level s) + u) ep
 

@@ -1,7 +1,7 @@
 -- An add or a del stays allowed whatever others commit meanwhile that writes nothing of it.
 use Rattle.std.proofs.Common.{◌≡◌, ◌≢◌, ◌^◌, ◌<◌, ◌≤◌, ◌∷◌, ℕ, suc, inl, inr, true, false, true≢false, List, [], length, refl, sym, ap, ◌∙◌, subst, arith, Some}
 use Rattle.grow_hash.proofs.Terms.{Option, None, cases_eq, State, Writes, written, touches, IsFit, words_at, length-written, drift_keeps_apart, Command, Add}
-use Rattle.grow_hash.proofs.Terms.{Put, Del, Has, Get, Move, Pair, Size, Next, owner, key, link, list_words, no_words, relink, tag_of, word, touches-in}
+use Rattle.grow_hash.proofs.Terms.{Del, owner, key, link, list_words, no_words, relink, tag_of, word, touches-in}
 use Rattle.grow_hash.proofs.Terms.{IsInList, IsAddPlace, add_writes, IsDelPlace, del_writes, IsNodeOf, split_place, bucket, IsGrown, head_at, grown_name}
 use Rattle.grow_hash.proofs.Terms.{Growing, makes, splits, growing_of, Grows, IsGrowCommit, GrowPlan, head_of, IsGrowing, most_buckets, first_grown}
 use Rattle.grow_hash.proofs.GrownAdds.{add_allowed}
@@ -145,10 +145,4 @@ plan_fit levels from (Del name k) ws p r l =
     subst (λ u. IsFit (IsGrowCommit levels) from (tag_of (Del name k)) u) (sym p.writes_are)
     (subst (λ u. IsFit (IsGrowCommit levels) from (tag_of (Del u k)) (del_writes from p.previous p.node)) (sym r.0)
     (del_fit levels from (bucket levels from k) k p.previous p.node l (bucket_low levels from l k) p.place))
-plan_fit levels from (Put name k v) ws p r l = absurd r
-plan_fit levels from (Has name k) ws p r l = absurd p
-plan_fit levels from (Get name k) ws p r l = absurd r
-plan_fit levels from (Move source target k) ws p r l = absurd r
-plan_fit levels from (Pair first second k) ws p r l = absurd r
-plan_fit levels from (Size name) ws p r l = absurd p
-plan_fit levels from (Next name k) ws p r l = absurd p
+plan_fit levels from _ ws p r l = absurd p

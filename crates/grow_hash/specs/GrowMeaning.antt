@@ -11,6 +11,7 @@ pub record PlansGrown (levels : ℕ) (command : Command) (s : State) (tag : List
   pub plan : GrowPlan levels command s ws
   pub said : answer ≡ Yes
 
+-- A command on a hash set that grows up to 2^levels buckets, as a work.
 abbrev pub grow_meaning : ℕ → Command → Meaning Reply
 grow_meaning levels command = record {
   most = grow_locks;

@@ -1,6 +1,6 @@
 -- That a commit of a command makes what it should.
 use Rattle.std.proofs.Common.{◌≡◌, sym, ap, ◌∙◌, subst}
-use Rattle.grow_hash.specs.Terms.{ℕ, Some, List, refl, false, State, Writes, written, tag_of, Command, Add, Put, Del, Has, Get, Move, Pair, Size, Next, Reply}
+use Rattle.grow_hash.specs.Terms.{ℕ, Some, List, refl, false, State, Writes, written, tag_of, Command, Add, Del, Reply}
 use Rattle.grow_hash.specs.GrowRules.{makes, growing_of, MakesGrown, Grows, IsGrowCommit}
 use Rattle.grow_hash.specs.GrowPlans.{GrowPlan, IsOfGrown}
 use Rattle.grow_hash.specs.GrowReplies.{reply_grown}
@@ -11,13 +11,7 @@ tag_stands : (levels : ℕ) (command : Command) (s : State) (ws : Writes) → Is
     → growing_of (tag_of command) ≡ Some (makes command)
 tag_stands levels (Add name key) s ws e p = subst (λ n. growing_of (tag_of (Add n key)) ≡ Some (makes (Add n key))) (sym e) refl
 tag_stands levels (Del name key) s ws e p = subst (λ n. growing_of (tag_of (Del n key)) ≡ Some (makes (Del n key))) (sym e) refl
-tag_stands levels (Put name key value) s ws e p = absurd e
-tag_stands levels (Has name key) s ws e p = absurd p
-tag_stands levels (Get name key) s ws e p = absurd e
-tag_stands levels (Move source target key) s ws e p = absurd e
-tag_stands levels (Pair first second key) s ws e p = absurd e
-tag_stands levels (Size name) s ws e p = absurd p
-tag_stands levels (Next name key) s ws e p = absurd p
+tag_stands levels _ s ws e p = absurd p
 
 pub makes_grown : (levels : ℕ) (command : Command) (s before : State) (tag : List ℕ) (ws : Writes) (answer : Reply) → IsOfGrown command
     → PlansGrown levels command s tag ws answer

@@ -22,6 +22,7 @@ SettlesSplit levels s last Whole = IsClosed levels s Whole
 SettlesSplit levels s last (Long keys) = IsClosed levels s (Long keys)
 SettlesSplit levels s last Worn = IsSplittable levels s × (last ≡ true)
 
+-- The split of the next bucket of a hash set that grows up to 2^levels buckets, as a work.
 abbrev pub split_meaning : ℕ → Meaning Looked
 split_meaning levels = record {
   most = most_writes;

@@ -36,6 +36,7 @@ abbrev pub bucket_of : ℕ → ℕ → ℕ → ℕ
 bucket_of level place hash =
     if nat_lt (hash % buckets_at level) place then hash % buckets_at (suc level) else hash % buckets_at level
 
+-- the bucket of a key in a state
 abbrev pub bucket : ℕ → State → ℕ → ℕ
 bucket levels s key = bucket_of (level s) (split_place s) (hash levels key)
 

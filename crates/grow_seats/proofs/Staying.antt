@@ -1,21 +1,13 @@
 -- What stays of a seat through a call.
 use Rattle.std.proofs.Common.{◌≡◌, ℕ, ◌≤◌, sym, ◌∙◌, subst, arith}
 use Rattle.mv_history.specs.Calls.{Continues}
-use Rattle.mv_history.specs.Meaning as history
 use Rattle.mvrlu.specs.Meant.{IsSeatOf, seat_of}
 use Rattle.mvrlu.specs.declared.domain.Domain.{Domain}
 use Rattle.mvrlu.specs.declared.domain.Seat.{Seat}
-use Rattle.section_work.specs.Sections.{TriesOne}
 
--- what came back goes on from what was lent
-pub goes_on : (old lent back new : history.Seat) → lent ≡ old → new ≡ back → Continues lent back → Continues old new
-goes_on old lent back new e f on =
-    subst (λ (x : history.Seat). Continues x new) e (subst (λ (y : history.Seat). Continues lent y) (sym f) on)
-
--- and tried as many commits as were tried meanwhile
-pub tries_on : (old lent back new : history.Seat) → lent ≡ old → new ≡ back → TriesOne lent back → TriesOne old new
-tries_on old lent back new e f one =
-    subst (λ (x : history.Seat). TriesOne x new) e (subst (λ (y : history.Seat). TriesOne lent y) (sym f) one)
+-- what holds from what was lent to what came back holds from the old to the new
+pub between : {X Y : Type 0} (R : X → Y → Type 0) (old lent : X) (back new : Y) → lent ≡ old → new ≡ back → R lent back → R old new
+between R old lent back new e f r = subst (λ x. R x new) e (subst (λ y. R lent y) (sym f) r)
 
 module _ {P : Type 0} {rules : _} (d : Domain P) (s t : Seat P rules) (on : Continues (seat_of s) (seat_of t)) where
   pub still_of : IsSeatOf d s → IsSeatOf d t

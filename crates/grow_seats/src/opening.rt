@@ -125,7 +125,7 @@ fn share_all(
     first: &Share<GrowRules<TABLE_LEVELS>>,
     mut seats: Vec<Seat<GrowRules<TABLE_LEVELS>>>,
 ) -> Result<Vec<GrowSeat>, AllocError>
-    requires may { All (λ seat. MayShare (domain_of first.now) seat) seats.items }
+    requires may { All (MayShare (domain_of first.now)) seats.items }
     ensures seats { IfOk result (λ shared. map (λ s. s.seat) shared.items ≡ seats.items) }
     ensures shared { IfOk result (λ shared. All (Shares (domain_of first.now)) shared.items) }
 {
@@ -152,7 +152,8 @@ fn share(
     seat: Seat<GrowRules<TABLE_LEVELS>>,
 ) -> Result<GrowSeat, AllocError>
     requires may { MayShare (domain_of first.now) seat }
-    ensures { IfOk result (λ shared. (shared.seat ≡ seat) × Shares (domain_of first.now) shared) }
+    ensures seat { IfOk result (λ shared. shared.seat ≡ seat) }
+    ensures shared { IfOk result (Shares (domain_of first.now)) }
 {
     match first.try_clone() {
         Ok(share) => Ok(GrowSeat { share, seat }),

@@ -19,10 +19,11 @@ use Rattle.run_report.specs.declared.line.Line.{Line}
 use Rattle.run_report.specs.Order.{IsOrdered}
 use Rattle.run_report.specs.Legal.{Follows, IsAlone, IsInTime, Replays}
 use Rattle.run_report.specs.Worked.{Past}
-use Rattle.run_report.specs.Whole.{EachHasOneLine, StandsIn, commit_lines, is_commit_of}
+use Rattle.run_report.specs.Whole.{EachHasOneLine, StandsIn}
 use Rattle.run_report.proofs.Pairs.{pairs_permuted}
 use Rattle.run_report.proofs.history.Grown.{all_worked}
 use Rattle.run_report.proofs.history.Inserted.{some_order}
+use Rattle.run_report.proofs.history.OneRun.{lines_permuted}
 use Rattle.run_report.proofs.history.Replay.{IsLeft, replay}
 use Rattle.command_pool.specs.Pool.{PoolRan}
 use Rattle.domain_loan.specs.Met.{AllContinue}
@@ -34,9 +35,6 @@ use Rattle.pool_domain.specs.Whole.{PoolOf, StandsInPool}
 use Rattle.pool_domain.proofs.Orders.{as_scripts, stands_as, replays_pool, all_alone}
 use Rattle.pool_domain.proofs.Scripts.{scripts_of, script_lines, all_ran, scripts_length, same_commits}
 use Rattle.pool_domain.proofs.Shares.{IsOneOf, are_shares, all_follow, all_stand, all_seats, all_in_time}
-
-lines_permuted : (time : ℕ) (lines others : List Line) → IsPermutation lines others → commit_lines time others ≡ commit_lines time lines
-lines_permuted time lines others same = sum_by-IsPermutation (λ (l : Line). cond (is_commit_of time l.place) 1 0) lines others same
 
 -- What holds of the lines of a pool in a history.
 pub record IsPooled (p : Past) (seats : ℕ) (commands : List Command) (lines : List Line) : Type 0 where

@@ -10,11 +10,6 @@ use Rattle.domain_loan.specs.Met.{AllContinue}
 pub all_continue : (olds news : List history.Seat) (scripts : List (List Command)) (lines : List Line) → AllRan olds news scripts lines
     → AllContinue olds news
 all_continue [] [] [] lines ran = tt
-all_continue [] [] (script ∷ scripts) lines ran = absurd ran
-all_continue [] (n ∷ news) [] lines ran = absurd ran
-all_continue [] (n ∷ news) (script ∷ scripts) lines ran = absurd ran
-all_continue (o ∷ olds) [] [] lines ran = absurd ran
-all_continue (o ∷ olds) [] (script ∷ scripts) lines ran = absurd ran
-all_continue (o ∷ olds) (n ∷ news) [] lines ran = absurd ran
 all_continue (o ∷ olds) (n ∷ news) (script ∷ scripts) lines ran =
     (ran.0.continues, all_continue olds news scripts (drop (length script) lines) ran.1)
+all_continue _ _ _ lines ran = absurd ran

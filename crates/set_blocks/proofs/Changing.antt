@@ -2,7 +2,7 @@
 use Rattle.set_script.specs.Tags.{tag_of}
 use Rattle.set_catalog.proofs.MoveFacts.{move_fits}
 use Rattle.std.proofs.Common.{◌≡◌, ◌≢◌, ◌^◌, ◌<◌, ◌&&◌, ◌||◌, ℕ, inl, inr, Bool, true, false, cond, not, refl, sym, ap, ◌∙◌, subst}
-use Rattle.set_blocks.proofs.Terms.{State, Writes, written, touches, are_distinct, allowed_at_once, Command, Add, Put, Del, Has, Get, Move, Pair, Size, Next}
+use Rattle.set_blocks.proofs.Terms.{State, Writes, written, touches, are_distinct, allowed_at_once, Command, Add, Put, Del, Has, Move, Map, ByWay, IsFit}
 use Rattle.set_blocks.proofs.Terms.{Yes, No, Full, Worn, Maps, map_of, has_key, has_entry, take_out, catalogue_of, value, IsLawful, applies, overflows, reply}
 use Rattle.set_blocks.proofs.Terms.{changes, capacity, IsInRange, Makes, IsSetCommit, merged, head_of, DelPlan, AddPlan, PutPlan, MovePlan, PlanOf, changes_in}
 use Rattle.set_blocks.proofs.Terms.{head_below, merged-is, touches-merged, AddedBy, RemovedBy, fit_add, fit_put_new, fit_put, fit_del, by_distinct, Remains}
@@ -37,55 +37,47 @@ move_apart source target k c e same = go (has_key k (map_of source c)) (has_key 
   where
     go : (a b : Bool) → a ≡ b → a && not b ≡ true → ⊥
     go true true q e = absurd (cc)
-    go true false q e = absurd (cc)
-    go false b q e = absurd (cc)
+    go _ _ q e = absurd (cc)
 
 module _ (z : State) (ws : Writes) (lz : IsLawful z) where
-  pub add_step : (name k : ℕ) → name < 30 → k < 2 ^ 32 → (first second : ℕ) → AddPlan z name k 0 first second ws → StepAt (Add name k) z ws Yes true
-  add_step name k lt fits first second plan = record {
+  -- what a way writes that others don't disturb, where it is fit for the command
+  one_step : {Fits : Map → Type 0} {change : Map → Map} (command : Command) (head : ℕ) → head < 180 → ByTracked z head Fits change ws
+      → ((u : State) → IsLawful u → ByWay u head Fits change ws → IsFit IsSetCommit u (tag_of command) ws)
+      → ((u : State) → IsSetCommit (tag_of command) u ws → Makes command u (written u ws))
+      → ((u : State) → reply command (catalogue_of u) (capacity u) false ≡ Yes → changes command (catalogue_of u) (capacity u) false ≡ true)
+      → StepAt command z ws Yes true
+  one_step command head lh t fit makes does = record {
     step = λ held u cover r.
-        (let t = added_tracked z name k lt fits 0 first second ws plan in
-        let lh = head_below name k lt in
-        let d : AddedBy u name k 0 ws = by_way_there z u (head_of name k) lh ws t held lz r cover in
-        let c : IsSetCommit (tag_of (Add name k)) u ws = allowed_at_once IsSetCommit u (tag_of (Add name k)) ws (fit_add u name k ws lt fits r.lawful d) in
-        made (Add name k) held z u ws (yes_changes (applies (Add name k) (catalogue_of u)) (overflows (Add name k) (catalogue_of u) (capacity u))) c.makes
-        (tracked_remains z u (head_of name k) lh ws t held lz r cover) (tracked_spares z u (head_of name k) lh ws t held lz r cover));
+        (let c : IsSetCommit (tag_of command) u ws = allowed_at_once IsSetCommit u (tag_of command) ws
+        (fit u r.lawful (by_way_there z u head lh ws t held lz r cover)) in
+        made command held z u ws (does u) (makes u c) (tracked_remains z u head lh ws t held lz r cover) (tracked_spares z u head lh ws t held lz r cover));
   }
+
+  pub add_step : (name k : ℕ) → name < 30 → k < 2 ^ 32 → (first second : ℕ) → AddPlan z name k 0 first second ws → StepAt (Add name k) z ws Yes true
+  add_step name k lt fits first second plan =
+      one_step (Add name k) (head_of name k) (head_below name k lt) (added_tracked z name k lt fits 0 first second ws plan)
+      (λ u l d. fit_add u name k ws lt fits l d) (λ u c. c.makes)
+      (λ u. yes_changes (applies (Add name k) (catalogue_of u)) (overflows (Add name k) (catalogue_of u) (capacity u)))
 
   pub put_new_step : (name k v : ℕ) → name < 30 → k < 2 ^ 32 → v < 2 ^ 64 → (first second : ℕ) → AddPlan z name k v first second ws
       → StepAt (Put name k v) z ws Yes true
-  put_new_step name k v lt fits lv first second plan = record {
-    step = λ held u cover r.
-        (let t = added_tracked z name k lt fits v first second ws plan in
-        let lh = head_below name k lt in
-        let c : IsSetCommit (tag_of (Put name k v)) u ws = allowed_at_once IsSetCommit u (tag_of (Put name k v)) ws
-        (fit_put_new u name k ws lt fits r.lawful v lv (by_way_there z u (head_of name k) lh ws t held lz r cover)) in
-        made (Put name k v) held z u ws (yes_changes (applies (Put name k v) (catalogue_of u)) (overflows (Put name k v) (catalogue_of u) (capacity u))) c.makes
-        (tracked_remains z u (head_of name k) lh ws t held lz r cover) (tracked_spares z u (head_of name k) lh ws t held lz r cover));
-  }
+  put_new_step name k v lt fits lv first second plan =
+      one_step (Put name k v) (head_of name k) (head_below name k lt) (added_tracked z name k lt fits v first second ws plan)
+      (λ u l d. fit_put_new u name k ws lt fits l v lv d) (λ u c. c.makes)
+      (λ u. yes_changes (applies (Put name k v) (catalogue_of u)) (overflows (Put name k v) (catalogue_of u) (capacity u)))
 
   pub put_step : (name k v : ℕ) → name < 30 → k < 2 ^ 32 → v < 2 ^ 64 → has_entry k v (map_of name (catalogue_of z)) ≡ false → PutPlan z name k v ws
       → StepAt (Put name k v) z ws Yes true
-  put_step name k v lt fits lv lacks plan = record {
-    step = λ held u cover r.
-        (let t = updated_tracked z name k lt fits v ws lz lacks plan in
-        let lh = head_below name k lt in
-        let c : IsSetCommit (tag_of (Put name k v)) u ws = allowed_at_once IsSetCommit u (tag_of (Put name k v)) ws
-        (fit_put u name k ws lt fits r.lawful v lv (by_way_there z u (head_of name k) lh ws t held lz r cover)) in
-        made (Put name k v) held z u ws (yes_changes (applies (Put name k v) (catalogue_of u)) (overflows (Put name k v) (catalogue_of u) (capacity u))) c.makes
-        (tracked_remains z u (head_of name k) lh ws t held lz r cover) (tracked_spares z u (head_of name k) lh ws t held lz r cover));
-  }
+  put_step name k v lt fits lv lacks plan =
+      one_step (Put name k v) (head_of name k) (head_below name k lt) (updated_tracked z name k lt fits v ws lz lacks plan)
+      (λ u l d. fit_put u name k ws lt fits l v lv d) (λ u c. c.makes)
+      (λ u. yes_changes (applies (Put name k v) (catalogue_of u)) (overflows (Put name k v) (catalogue_of u) (capacity u)))
 
   pub del_step : (name k : ℕ) → name < 30 → k < 2 ^ 32 → (node inner : ℕ) → DelPlan z name k node inner ws → StepAt (Del name k) z ws Yes true
-  del_step name k lt fits node inner plan = record {
-    step = λ held u cover r.
-        (let t = removed_tracked z name k lt fits node inner ws plan in
-        let lh = head_below name k lt in
-        let c : IsSetCommit (tag_of (Del name k)) u ws = allowed_at_once IsSetCommit u (tag_of (Del name k)) ws
-        (fit_del u name k ws lt fits r.lawful (value z node) (by_way_there z u (head_of name k) lh ws t held lz r cover)) in
-        made (Del name k) held z u ws (yes_changes (applies (Del name k) (catalogue_of u)) (overflows (Del name k) (catalogue_of u) (capacity u))) c.makes
-        (tracked_remains z u (head_of name k) lh ws t held lz r cover) (tracked_spares z u (head_of name k) lh ws t held lz r cover));
-  }
+  del_step name k lt fits node inner plan =
+      one_step (Del name k) (head_of name k) (head_below name k lt) (removed_tracked z name k lt fits node inner ws plan)
+      (λ u l d. fit_del u name k ws lt fits l (value z node) d) (λ u c. c.makes)
+      (λ u. yes_changes (applies (Del name k) (catalogue_of u)) (overflows (Del name k) (catalogue_of u) (capacity u)))
 
 -- A move: its del, and then its add, in the state that the del leaves.
 module _ (z : State) (source target k : ℕ) (lz : IsLawful z) (ls : source < 30) (lt : target < 30) (apart : source ≢ target) (fits : k < 2 ^ 32)
@@ -150,8 +142,4 @@ change_step (Put name k v) z ws lz range does (inl plan) =
 change_step (Put name k v) z ws lz range does (inr plan) = put_new_step z ws lz name k v range.0 range.1 range.2 plan.0 plan.1 plan.2
 change_step (Del name k) z ws lz range does plan = del_step z ws lz name k range.0 range.1 plan.0 plan.1 plan.2
 change_step (Move source target k) z ws lz range does plan = move_step z ws source target k lz range.0 range.1 range.2 does plan
-change_step (Has name k) z ws lz range does plan = absurd plan
-change_step (Get name k) z ws lz range does plan = absurd plan
-change_step (Pair first second k) z ws lz range does plan = absurd plan
-change_step (Size name) z ws lz range does plan = absurd plan
-change_step (Next name k) z ws lz range does plan = absurd plan
+change_step _ z ws lz range does plan = absurd plan

@@ -77,18 +77,12 @@ put_place_tracks held z u head k n m h a =
 
 -- the link of words that lead to a node
 link-relink : (w : List ℕ) (to : ℕ) → 180 ≤ word 3 (relink w to) → word 3 (relink w to) ≡ to
-link-relink [] to lo = absurd (omega arith)
-link-relink (a ∷ []) to lo = absurd (omega arith)
-link-relink (a ∷ b ∷ []) to lo = absurd (omega arith)
-link-relink (a ∷ b ∷ c ∷ []) to lo = absurd (omega arith)
 link-relink (a ∷ b ∷ c ∷ d ∷ w) to lo = refl
+link-relink _ to lo = absurd (omega arith)
 
 link-revalue : (w : List ℕ) (to : ℕ) → word 3 (revalue w to) ≡ word 3 w
-link-revalue [] to = refl
-link-revalue (a ∷ []) to = refl
-link-revalue (a ∷ b ∷ []) to = refl
-link-revalue (a ∷ b ∷ c ∷ []) to = refl
 link-revalue (a ∷ b ∷ c ∷ d ∷ w) to = refl
+link-revalue _ to = refl
 
 -- a vacant node is of no list
 pub vacant_of_none : (s : State) (o : ℕ) → 180 ≤ o → words_at s o ≡ no_words → IsOfLists s o → ⊥

@@ -1,8 +1,8 @@
 -- What is planned for commands one after another, by a turn more.
 use Rattle.std.proofs.Math.Seq.{split_at}
-use Rattle.std.proofs.Common.{◌≡◌, ◌+◌, ◌<◌, ◌||◌, ◌∷◌, ◌++◌, ℕ, suc, Bool, true, false, List, [], length, take, drop, get_or, sym, ap, ◌∙◌, subst, true≢false}
-use Rattle.set_blocks.proofs.Terms.{Some, None, false_from_ne_true, take_more, list_any_at, list_any, State, Writes, written, Command, Reply, catalogue_of}
-use Rattle.set_blocks.proofs.Terms.{IsLawful, capacity, IsInRange, merged, stands_alone, StepPlan, BlockPlan, nothing_yet, one_more, some_full, TurnsTo}
+use Rattle.std.proofs.Common.{◌≡◌, ◌+◌, ◌<◌, ◌||◌, ◌∷◌, ◌++◌, ℕ, suc, Bool, true, false, List, [], length, take, drop, get_or, sym, ap, ◌∙◌, subst}
+use Rattle.set_blocks.proofs.Terms.{Some, None, take_more, State, Writes, written, Command, Reply, catalogue_of}
+use Rattle.set_blocks.proofs.Terms.{IsLawful, capacity, IsInRange, merged, StepPlan, BlockPlan, nothing_yet, one_more, some_full, TurnsTo}
 use Rattle.set_blocks.specs.declared.turns.Turn.{Turn}
 use Rattle.set_blocks.proofs.WholeTurns.{ran_here, full_at}
 
@@ -17,11 +17,6 @@ module _ (s mid : State) (commands : List Command) (i : ℕ) (d command : Comman
     (same : mid ≡ s) (lt : i < length commands) (is : get_or commands i d ≡ command) (plan : BlockPlan s (take i commands) own answers b) where
   pub lawful_next : IsLawful (written mid own)
   lawful_next = subst (λ (u : State). IsLawful (written u own)) (sym same) (ran_here s (take i commands) own answers b l plan).remains.lawful
-
-  pub apart_next : list_any stands_alone commands ≡ false → stands_alone command ≡ false
-  apart_next apart =
-      false_from_ne_true (stands_alone command)
-      (λ t. true≢false (sym (list_any_at stands_alone commands i d lt (ap stands_alone is ∙ t)) ∙ apart))
 
   pub planned_next : (turn : Turn) (new : Writes) (said : List Reply) (c : Bool) → IsInRange command → TurnsTo command (written mid own) (Some turn) own new
       → said ≡ answers ++ turn.reply ∷ [] → c ≡ b || turn.changes → BlockPlan s (take (i + 1) commands) new said c

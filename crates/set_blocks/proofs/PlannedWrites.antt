@@ -1,6 +1,6 @@
 -- What a block locks and writes: objects of the state alone, and something where it changes something.
 use Rattle.std.proofs.Common.{◌≡◌, ◌^◌, ◌<◌, ◌||◌, ◌∷◌, ℕ, inl, inr, Bool, true, false, List, [], length, refl, sym, ap, ◌∙◌, subst, arith}
-use Rattle.set_blocks.proofs.Terms.{State, Writes, written, touches, AreWithin, length-written, Command, Add, Put, Del, Has, Get, Move, Pair, Size, Next, Reply}
+use Rattle.set_blocks.proofs.Terms.{State, Writes, written, touches, AreWithin, length-written, Command, Add, Put, Del, Move, Reply}
 use Rattle.set_blocks.proofs.Terms.{IsLawful, value, objects_of, IsInRange, IsIn, in_either, in-touches, touches-in, IsAt, del_writes, put_writes, at_in_range}
 use Rattle.set_blocks.proofs.Terms.{ends_at_root, merged, head_of, DelPlan, AddPlan, PutPlan, MovePlan, PlanOf, links, plants, grows, unlinks, bares, cuts}
 use Rattle.set_blocks.proofs.Terms.{in_list, in_tree, head_below, merged-is, touches-merged, length-merged, added_by, removed_by, by_within, LacksAt, HasAt}
@@ -94,11 +94,7 @@ change_within s l (Put name k v) ws range (inl plan) = put_within s l name k ran
 change_within s l (Put name k v) ws range (inr plan) = add_within s l name k range.0 range.1 v plan.0 plan.1 ws plan.2
 change_within s l (Del name k) ws range plan = del_within s l name k range.0 range.1 plan.0 plan.1 ws plan.2
 change_within s l (Move source target k) ws range plan = move_within s l source target k ws range.0 range.1 range.2 plan
-change_within s l (Has name k) ws range plan = absurd plan
-change_within s l (Get name k) ws range plan = absurd plan
-change_within s l (Pair first second k) ws range plan = absurd plan
-change_within s l (Size name) ws range plan = absurd plan
-change_within s l (Next name k) ws range plan = absurd plan
+change_within s l _ ws range plan = absurd plan
 
 objects-held : (s : State) (os : List ℕ) → objects_of (holding s os) ≡ os
 objects-held s [] = refl
@@ -139,11 +135,7 @@ plan_some (Move source target k) s ws m =
     let del = del_some s source k m.node m.inner m.dels m.del in
     let more = length-merged m.dels m.adds in
     omega (arith, del, more, ap length (m.both ∙ merged-is (written s m.dels) m.dels m.adds))
-plan_some (Has name k) s ws plan = absurd plan
-plan_some (Get name k) s ws plan = absurd plan
-plan_some (Pair first second k) s ws plan = absurd plan
-plan_some (Size name) s ws plan = absurd plan
-plan_some (Next name k) s ws plan = absurd plan
+plan_some _ s ws plan = absurd plan
 
 touched_some : (ws : Writes) (o : ℕ) → touches ws o ≡ true → 0 < length ws
 touched_some [] o t = absurd (cc)

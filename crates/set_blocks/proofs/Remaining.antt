@@ -3,8 +3,8 @@ use Rattle.mv_history.specs.declared.history.Entry.{Entry}
 use Rattle.mv_history.specs.declared.history.Entry.TheVariants.{Rest, Change}
 use Rattle.set_script.proofs.Opening.{opening_lawful}
 use Rattle.std.proofs.Common.{◌≡◌, ◌≤◌, ◌∷◌, ◌++◌, ℕ, inl, inr, true, false, List, [], refl, sym, ap, ◌∙◌, subst, arith, append_assoc, append-nil}
-use Rattle.set_blocks.proofs.Terms.{State, Writes, written, touches, writes_of, state_after, AreApart, NoneWrites, IsAllowed, words_at, Drifts, All-head}
-use Rattle.set_blocks.proofs.Terms.{All-tail, state_after-append, length-written, words-written_other, drift_keeps_apart, key, link, IsLawful, IsOpening, word}
+use Rattle.set_blocks.proofs.Terms.{State, Writes, written, touches, state_after, IsAllowed, words_at, Drifts}
+use Rattle.set_blocks.proofs.Terms.{state_after-append, length-written, drift_keeps_apart, key, link, IsLawful, IsOpening, word}
 use Rattle.set_blocks.proofs.Terms.{IsOfLists, IsBlockCommit, Remains}
 
 lawful_on : (start : State) (front es : List Entry) → IsLawful (state_after start front) → IsAllowed IsBlockCommit start (front ++ es)
@@ -65,25 +65,3 @@ remains_drifts held from s l d =
     drift_keeps_apart IsBlockCommit held from (Remains held from)
     (λ u tag ws m _ al apart kept. remains_over held from u tag ws apart kept al m)
     (remains_itself held from l) s d
-
--- So over the entries of a history of which none writes anything of it.
-pub remains_after : (held : Writes) (from start : State) (front es : List Entry) → Remains held from (state_after start front) → NoneWrites held es
-    → IsAllowed IsBlockCommit start (front ++ es) → Remains held from (state_after start (front ++ es))
-remains_after held from start front [] r n a = subst (λ h. Remains held from (state_after start h)) (sym (append-nil front)) r
-remains_after held from start front (Rest seat ∷ es) r n a =
-    let same : state_after start (front ++ Rest seat ∷ []) ≡ state_after start front = state_after-append start front (Rest seat ∷ []) in
-    rw append_assoc at
-    (remains_after held from start (front ++ Rest seat ∷ []) es (subst (λ u. Remains held from u) (sym same) r)
-    (All-tail (λ e. AreApart held (writes_of e)) (Rest seat) es n)
-    (subst (λ h. IsAllowed IsBlockCommit start h) (sym (append_assoc front (Rest seat ∷ []) es)) a))
-remains_after held from start front (Change c ∷ es) r n a =
-    let apart : AreApart held c.writes = All-head (λ e. AreApart held (writes_of e)) (Change c) es n in
-    let after : state_after start (front ++ Change c ∷ []) ≡ written (state_after start front) c.writes =
-    state_after-append start front (Change c ∷ []) in
-    let step : Remains held from (written (state_after start front) c.writes) =
-    remains_over held from (state_after start front) c.tag c.writes apart
-    (λ o t. words-written_other (state_after start front) c.writes o (apart o t)) (a front es c refl) r in
-    rw append_assoc at
-    (remains_after held from start (front ++ Change c ∷ []) es (subst (λ v. Remains held from v) (sym after) step)
-    (All-tail (λ e. AreApart held (writes_of e)) (Change c) es n)
-    (subst (λ h. IsAllowed IsBlockCommit start h) (sym (append_assoc front (Change c ∷ []) es)) a))

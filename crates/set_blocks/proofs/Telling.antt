@@ -2,9 +2,11 @@
 use Rattle.std.proofs.lemmas.Bool.Decides.{nat_tests}
 use Rattle.list_set.proofs.Spots.{add_found, del_found}
 use Rattle.set_catalog.specs.Needs.{first_tree}
-use Rattle.std.proofs.Common.{◌≡◌, ◌≢◌, ◌<◌, ◌≤◌, ◌&&◌, ◌∷◌, ℕ, Bool, true, false, not, eqb, List, [], refl, sym, ap, arith, inl, inr}
+use Rattle.std.proofs.Common.{◌≡◌, ◌≢◌, ◌<◌, ◌≤◌, ◌&&◌, ◌∷◌, ℕ, Bool, true, false, not, eqb, List, [], Some, refl, sym, ap, ap₂, ◌∙◌, subst, arith, inl, inr}
 use Rattle.set_blocks.proofs.Terms.{cases_lt, State, words_at, word, IsSpot, add_writes, del_writes, IsFork, found_leaf, found_grow, found_words, head_of}
-use Rattle.set_blocks.proofs.Terms.{low_head, root_from, TellsAt, ValueAt, in_node, in_leaf, before_gap, other_leaf, before_node, own_leaf}
+use Rattle.set_blocks.proofs.Terms.{low_head, root_from, TellsAt, ValueAt, in_node, in_leaf, before_gap, other_leaf, before_node, own_leaf, Writes, merged}
+use Rattle.set_blocks.proofs.Terms.{link, holding, no_tree}
+use Rattle.set_blocks.specs.Holds.{HoldsKey, HoldsValue}
 
 -- a search in a list
 pub list_tells : (s : State) (name k p : ℕ) (words : List ℕ) (node : ℕ) (node_words : List ℕ) (b : Bool) → name < first_tree
@@ -49,3 +51,58 @@ tree_value s name k g p l r words high f is =
     let e : word 2 words ≡ k = grind (arith, nat_tests) in
     in_leaf l high (found_leaf s s (head_of name k) k g p l r words refl f e)
     (sym (ap (word 5) (found_words s s (head_of name k) k g p l r words refl f)))
+
+-- What was found under a head for a key and is held as it was, over what was planned: the search planned nothing.
+module _ (z : State) (own mid new : Writes) (name k head : ℕ) (is : head ≡ head_of name k) (as_before : mid ≡ own) where
+  -- one object with its words
+  one_held : (o : ℕ) (words : List ℕ) → words ≡ words_at z o → new ≡ merged mid ((o, words) ∷ []) → new ≡ merged own (holding z (o ∷ []))
+  one_held o words words_are writes =
+      writes ∙ ap (λ (ws : Writes). merged ws ((o, words) ∷ [])) as_before ∙ ap (λ (w : List ℕ). merged own ((o, w) ∷ [])) words_are
+
+  module _ (low : head < 170) (p : ℕ) (words : List ℕ) (node : ℕ) (node_words : List ℕ) (found : IsSpot z head k p words node node_words) where
+    spot : IsSpot z (head_of name k) k p words node node_words
+    spot = subst (λ (h : ℕ). IsSpot z h k p words node node_words) is found
+
+    -- the object ahead of a key in a list, or of where it would be
+    pub list_held : (b : Bool) → b ≡ (not (eqb node 0) && eqb (word 2 node_words) k) → new ≡ merged mid ((p, words) ∷ []) → HoldsKey z name k b own new
+    list_held b has writes = (
+      p ∷ [],
+      list_tells z name k p words node node_words b (is_low name k (omega (arith, is, low))) spot has,
+      one_held p words spot.words_are writes,
+    )
+
+    -- and the node of the key with it
+    pub node_held : true ≡ (not (eqb node 0) && eqb (word 2 node_words) k) → new ≡ merged mid ((p, words) ∷ (node, node_words) ∷ [])
+        → HoldsValue z name k (Some (word 5 node_words)) own new
+    node_held has writes =
+        let told = list_value z name k p words node node_words (is_low name k (omega (arith, is, low))) spot has in (
+          p ∷ node ∷ [],
+          told.0,
+          writes ∙ ap (λ (ws : Writes). merged ws ((p, words) ∷ (node, node_words) ∷ [])) as_before
+              ∙ ap₂ (λ (v : List ℕ) (w : List ℕ). merged own ((p, v) ∷ (node, w) ∷ [])) spot.words_are told.1,
+        )
+
+  -- the root of an empty tree
+  pub root_held : 170 ≤ head → (words : List ℕ) → link z head ≡ 0 → words ≡ words_at z head → new ≡ merged mid ((head, words) ∷ [])
+      → HoldsKey z name k false own new
+  root_held high words empty words_are writes = (
+    head_of name k ∷ [],
+    no_tree (is_high name k (omega (arith, is, high))) (ap (link z) (sym is) ∙ empty),
+    one_held head words words_are writes ∙ ap (λ (h : ℕ). merged own ((h, words_at z h) ∷ [])) is,
+  )
+
+  module _ (high : 170 ≤ head) (g p l r : ℕ) (words : List ℕ) (found : IsFork z head k g p l r words) where
+    fork : IsFork z (head_of name k) k g p l r words
+    fork = subst (λ (h : ℕ). IsFork z h k g p l r words) is found
+
+    leaf_words : words ≡ words_at z l
+    leaf_words = found_words z z (head_of name k) k g p l r words refl fork
+
+    -- the leaf at which the search of a tree ends
+    pub leaf_held : (b : Bool) → b ≡ eqb (word 2 words) k → new ≡ merged mid ((l, words) ∷ []) → HoldsKey z name k b own new
+    leaf_held b has writes =
+        (l ∷ [], tree_tells z name k g p l r words b (is_high name k (omega (arith, is, high))) fork has, one_held l words leaf_words writes)
+
+    pub entry_held : true ≡ eqb (word 2 words) k → new ≡ merged mid ((l, words) ∷ []) → HoldsValue z name k (Some (word 5 words)) own new
+    entry_held has writes =
+        (l ∷ [], tree_value z name k g p l r words (is_high name k (omega (arith, is, high))) fork has, one_held l words leaf_words writes)

@@ -2,7 +2,7 @@
 use Rattle.set_script.proofs.Ways.{Has}
 use Rattle.list_set.proofs.ListWays.{list_add_way, list_del_way, list_put_way}
 use Rattle.tree_set.proofs.TreeWays.{grow_way, plant_way, cut_way, bare_way, put_way}
-use Rattle.std.proofs.Common.{◌≡◌, ◌^◌, ◌<◌, ◌++◌}
+use Rattle.std.proofs.Common.{◌≡◌, ◌≢◌, ◌^◌, ◌<◌, ◌++◌}
 use Rattle.set_blocks.proofs.Terms.{ℕ, true, false, Some, refl, sym, ap, ◌∙◌, subst, State, Writes, written, touches, Map, map_of, has_entry, value_of, put}
 use Rattle.set_blocks.proofs.Terms.{take_out, name_of, catalogue_of, value, IsLawful, Keeps, IsIn, in_left, in_right, touches-in, AreVacant, Way, Lacks}
 use Rattle.set_blocks.proofs.Terms.{HasOther, node_has, leaf_has, head_of, DelPlan, AddPlan, PutPlan, unlinks, bares, cuts, links, plants, grows, in_list}
@@ -61,86 +61,46 @@ module _ {Fits : Map → Type 0} {change : Map → Map} (z u : State) (head : �
   pub tracked_spares : Spares u ws
   tracked_spares = spares_keeps u ws tracked_keeps
 
+-- a way of which that is known, with its place
+tracked : {Fits : Map → Type 0} {change : Map → Map} {head : ℕ} {w : Way head Fits change} (s : State) → Tracks head w → w.Place s → AreVacant s w.fresh
+    → ByTracked s head Fits change (w.writes s)
+tracked {Fits} {change} {head} {w} s tracks place vacant = record { way = w; tracks = tracks; place = place; vacant = vacant; same = refl }
+
 module _ (s : State) (name k : ℕ) (lt : name < 30) (fits : k < 2 ^ 32) where
   pub added_tracked : (v first second : ℕ) (ws : Writes) → AddPlan s name k v first second ws → ByTracked s (head_of name k) (Lacks k) (put k v) ws
   unfolding list_add_way plant_way grow_way
-  added_tracked v first second ws (links previous low place vac) = record {
-    way = list_add_way (head_of name k) k v previous first (low_head name k low) (low_fits name k low fits);
-    tracks = list_add_tracks (head_of name k) k v previous first (low_head name k low) (low_fits name k low fits);
-    place = place;
-    vacant = vacant_one s first vac;
-    same = refl;
-  }
-  added_tracked v first second ws (plants high place vac) = record {
-    way = plant_way (head_of name k) k v first (root_from name k high) (root_below name k high lt) fits;
-    tracks = plant_tracks (head_of name k) k v first (root_from name k high) (root_below name k high lt) fits;
-    place = place;
-    vacant = vacant_one s first vac;
-    same = refl;
-  }
-  added_tracked v first second ws (grows parent leaf high place vac vac2 ne) = record {
-    way = grow_way (head_of name k) k v parent leaf first second (root_from name k high) (root_below name k high lt) fits (λ e. ne (sym e));
-    tracks = grow_tracks (head_of name k) k v parent leaf first second (root_from name k high) (root_below name k high lt) fits (λ e. ne (sym e));
-    place = place;
-    vacant = vacant_two s first second vac vac2;
-    same = refl;
-  }
+  added_tracked v first second ws (links previous low place vac) =
+      tracked s (list_add_tracks (head_of name k) k v previous first (low_head name k low) (low_fits name k low fits)) place (vacant_one s first vac)
+  added_tracked v first second ws (plants high place vac) =
+      tracked s (plant_tracks (head_of name k) k v first (root_from name k high) (root_below name k high lt) fits) place (vacant_one s first vac)
+  added_tracked v first second ws (grows parent leaf high place vac vac2 ne) =
+      tracked s (grow_tracks (head_of name k) k v parent leaf first second (root_from name k high) (root_below name k high lt) fits (λ e. ne (sym e)))
+      place (vacant_two s first second vac vac2)
 
   pub removed_tracked : (node inner : ℕ) (ws : Writes) → DelPlan s name k node inner ws
       → ByTracked s (head_of name k) (Has k (value s node)) (take_out k) ws
   unfolding list_del_way bare_way cut_way
-  removed_tracked node inner ws (unlinks previous low place) = record {
-    way = list_del_way (head_of name k) k (value s node) previous node (low_head name k low);
-    tracks = list_del_tracks (head_of name k) k (value s node) previous node (low_head name k low);
-    place = (place, refl);
-    vacant = λ o i. absurd i;
-    same = refl;
-  }
-  removed_tracked node inner ws (bares high place) = record {
-    way = bare_way (head_of name k) k (value s node) node (root_from name k high) (root_below name k high lt);
-    tracks = bare_tracks (head_of name k) k (value s node) node (root_from name k high) (root_below name k high lt);
-    place = (place, refl);
-    vacant = λ o i. absurd i;
-    same = refl;
-  }
-  removed_tracked node inner ws (cuts grand parent high place) = record {
-    way = cut_way (head_of name k) k (value s node) grand parent node (root_from name k high) (root_below name k high lt);
-    tracks = cut_tracks (head_of name k) k (value s node) grand parent node (root_from name k high) (root_below name k high lt);
-    place = (place, refl);
-    vacant = λ o i. absurd i;
-    same = refl;
-  }
+  removed_tracked node inner ws (unlinks previous low place) =
+      tracked s (list_del_tracks (head_of name k) k (value s node) previous node (low_head name k low)) (place, refl) (λ o i. absurd i)
+  removed_tracked node inner ws (bares high place) =
+      tracked s (bare_tracks (head_of name k) k (value s node) node (root_from name k high) (root_below name k high lt)) (place, refl) (λ o i. absurd i)
+  removed_tracked node inner ws (cuts grand parent high place) =
+      tracked s (cut_tracks (head_of name k) k (value s node) grand parent node (root_from name k high) (root_below name k high lt)) (place, refl)
+      (λ o i. absurd i)
+
+  -- the entry that a node of the key has is another one
+  other : (node v : ℕ) → value_of k (map_of (name_of (head_of name k)) (catalogue_of s)) ≡ Some (value s node)
+      → has_entry k v (map_of name (catalogue_of s)) ≡ false → value s node ≢ v
+  other node v there lacks =
+      other_than k (value s node) v (map_of name (catalogue_of s))
+      (subst (λ (n : ℕ). value_of k (map_of n (catalogue_of s)) ≡ Some (value s node)) (head_named name k lt) there) lacks
 
   pub updated_tracked : (v : ℕ) (ws : Writes) → IsLawful s → has_entry k v (map_of name (catalogue_of s)) ≡ false → PutPlan s name k v ws
       → ByTracked s (head_of name k) (HasOther k v) (put k v) ws
   unfolding list_put_way put_way
   updated_tracked v ws l lacks (in_list node low place) =
-      let named : name_of (head_of name k) ≡ name = head_named name k lt in
-      let there : value_of k (map_of (name_of (head_of name k)) (catalogue_of s)) ≡ Some (value s node) =
-      node_has s (head_of name k) k node l (low_head name k low) place.is_node place.own place.has in
-      record {
-        way = list_put_way (head_of name k) k v node (low_head name k low);
-        tracks = list_put_tracks (head_of name k) k v node (low_head name k low);
-        place = (
-          place,
-          other_than k (value s node) v (map_of name (catalogue_of s))
-              (subst (λ (n : ℕ). value_of k (map_of n (catalogue_of s)) ≡ Some (value s node)) named there) lacks,
-        );
-        vacant = λ o i. absurd i;
-        same = refl;
-      }
+      tracked s (list_put_tracks (head_of name k) k v node (low_head name k low))
+      (place, other node v (node_has s (head_of name k) k node l (low_head name k low) place.is_node place.own place.has) lacks) (λ o i. absurd i)
   updated_tracked v ws l lacks (in_tree leaf high is) =
-      let named : name_of (head_of name k) ≡ name = head_named name k lt in
-      let there : value_of k (map_of (name_of (head_of name k)) (catalogue_of s)) ≡ Some (value s leaf) =
-      leaf_has s (head_of name k) k leaf l (root_from name k high) (root_below name k high lt) is in
-      record {
-        way = put_way (head_of name k) k v leaf (root_from name k high) (root_below name k high lt);
-        tracks = put_tracks (head_of name k) k v leaf (root_from name k high) (root_below name k high lt);
-        place = (
-          is,
-          other_than k (value s leaf) v (map_of name (catalogue_of s))
-              (subst (λ (n : ℕ). value_of k (map_of n (catalogue_of s)) ≡ Some (value s leaf)) named there) lacks,
-        );
-        vacant = λ o i. absurd i;
-        same = refl;
-      }
+      tracked s (put_tracks (head_of name k) k v leaf (root_from name k high) (root_below name k high lt))
+      (is, other leaf v (leaf_has s (head_of name k) k leaf l (root_from name k high) (root_below name k high lt) is) lacks) (λ o i. absurd i)

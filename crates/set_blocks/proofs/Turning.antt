@@ -1,13 +1,15 @@
 -- What a command comes to at its turn, from what was found and held.
 use Rattle.std.proofs.lemmas.List.{length-take}
 use Rattle.std.proofs.Common.{◌≡◌, ◌+◌, ◌-◌, ◌^◌, ◌==◌, ◌<◌, ◌≤◌, ◌&&◌, ◌∷◌, ◌++◌, ℕ, suc, min, Bool, true, false, not, eqb, eqb-true, cond, List, [], length}
-use Rattle.set_blocks.proofs.Terms.{drop, take, slice_index_or, refl, sym, ap, ◌∙◌, subst, arith, true≢false, Option, Some, None, length-drop, length-take-le}
-use Rattle.set_blocks.proofs.Terms.{State, Writes, written, are_distinct, words_at, Command, Add, Put, Del, Has, Get, Move, Pair, Size, Next, Reply, Yes, No}
-use Rattle.set_blocks.proofs.Terms.{Full, Worn, Both, Count, Key, NoKey, Value, map_of, has_key, value_of, has_entry, catalogue_of, IsLawful, applies}
+use Rattle.set_blocks.proofs.Terms.{drop, take, slice_index_or, refl, sym, ap, ap₂, ◌∙◌, subst, arith, true≢false, Option, Some, None, length-drop}
+use Rattle.set_blocks.proofs.Terms.{length-take-le}
+use Rattle.set_blocks.proofs.Terms.{State, Writes, written, are_distinct, words_at, Command, Add, Put, Del, Has, Get, Move, Pair, Reply, Yes, No}
+use Rattle.set_blocks.proofs.Terms.{Full, Worn, Both, NoKey, Value, map_of, has_key, value_of, has_entry, catalogue_of, IsLawful, applies}
 use Rattle.set_blocks.proofs.Terms.{overflows, value_reply, capacity, has_entry-value, has_entry-absent, touches-in, merged, merged_one, count_vacant}
 use Rattle.set_blocks.proofs.Terms.{vacant_nodes, reply_in, changes_in, ValueAt, TellsAt, StepPlan, holding, has_yes, has_no, del_no, add_no, get_none}
 use Rattle.set_blocks.proofs.Terms.{get_value, put_no, move_from_none, move_to_one, pair_tells, keeping, is_full, HoldsReply}
 use Rattle.set_blocks.specs.Holds.{HoldsKey, HoldsValue}
+use Rattle.set_blocks.specs.declared.overlay.Overlay.{Overlay}
 use Rattle.set_blocks.proofs.HeldReplies.{tells_there, value_there, objects-holding, written-holding}
 use Rattle.set_blocks.proofs.Remaining.{remains_itself}
 use Rattle.set_blocks.proofs.Stepping.{written-merged}
@@ -132,22 +134,11 @@ nothing_applies command s none opens = by command none opens
     by (Del name key) e n = either (applies (Del name key) (catalogue_of s)) (overflows (Del name key) (catalogue_of s) (capacity s)) e n
     by (Move source target key) e n =
         either (applies (Move source target key) (catalogue_of s)) (overflows (Move source target key) (catalogue_of s) (capacity s)) e n
-    by (Has name key) e n = refl
-    by (Get name key) e n = refl
-    by (Pair first second key) e n = refl
-    by (Size name) e n = refl
-    by (Next name key) e n = refl
+    by _ e n = refl
 
 full_is : (r : Reply) → is_full r ≡ true → r ≡ Full
 full_is Full e = refl
-full_is Yes e = absurd (true≢false (sym e))
-full_is No e = absurd (true≢false (sym e))
-full_is Worn e = absurd (true≢false (sym e))
-full_is (Both a b) e = absurd (true≢false (sym e))
-full_is (Count n) e = absurd (true≢false (sym e))
-full_is (Key k) e = absurd (true≢false (sym e))
-full_is NoKey e = absurd (true≢false (sym e))
-full_is (Value v) e = absurd (true≢false (sym e))
+full_is _ e = absurd (true≢false (sym e))
 
 pub is_full_there : (command : Command) (s : State) (r : Reply) → r ≡ reply_in command s false → is_full r ≡ true → reply_in command s false ≡ Full
 is_full_there command s r e f = sym e ∙ full_is r f
@@ -187,12 +178,27 @@ vacant_few s l =
     let some : 180 < length s = l.some in
     omega arith
 
--- as many are planned as before
-pub count_same : (m n : ℕ) (xs ys : Writes) → length xs ≡ 40 → length ys ≡ 40 → m ≤ 40 → n ≤ 40 → take m xs ≡ take n ys → m ≡ n
-count_same m n xs ys ex ey le lf e =
-    let a : length (take m xs) ≡ m = length-take-le m xs (omega arith) in
-    let b : length (take n ys) ≡ n = length-take-le n ys (omega arith) in
-    sym a ∙ ap length e ∙ b
+-- What a search leaves of what is planned over a view, where it plans nothing.
+module _ {V : Type 0} (o mid : Overlay V) (as_before : take mid.count mid.writes ≡ take o.count o.writes) where
+  -- as many are planned as before
+  pub count_same : mid.count ≡ o.count
+  count_same =
+      let a : length (take mid.count mid.writes) ≡ mid.count = length-take-le mid.count mid.writes (omega (arith, mid.whole, mid.few)) in
+      let b : length (take o.count o.writes) ≡ o.count = length-take-le o.count o.writes (omega (arith, o.whole, o.few)) in
+      sym a ∙ ap length as_before ∙ b
+
+  -- the state is the one before
+  pub state_same : (state : V → State) → state mid.view ≡ state o.view
+      → written (state mid.view) (take mid.count mid.writes) ≡ written (state o.view) (take o.count o.writes)
+  state_same state same = ap₂ (λ (s : State) (w : Writes). written s w) same as_before
+
+  -- there is room for as many as before,
+  pub room_after : (j i : ℕ) → o.count + i ≤ 40 → j ≤ i → mid.count + j ≤ 40
+  room_after j i room few = let same = count_same in omega arith
+
+  -- and what is planned after it is as much more
+  pub more_after : (j i k : ℕ) → k ≤ mid.count + j → j ≤ i → k ≤ o.count + i
+  more_after j i k most few = let same = count_same in omega arith
 
 -- and a plan writes no more than it counts
 pub count_plan : (ws made : Writes) (n : ℕ) → made ≡ take n ws → length made ≤ n
@@ -200,11 +206,3 @@ count_plan ws made n e =
     let a : length (take n ws) ≡ min n (length ws) = length-take n ws in
     let b : length made ≡ length (take n ws) = ap length e in
     omega arith
-
--- where a call plans nothing, there is room for as many as before
-pub room_after : (j i m n : ℕ) → m ≡ n → n + i ≤ 40 → j ≤ i → m + j ≤ 40
-room_after j i m n e le few = omega arith
-
--- and what is planned after it is as much more
-pub more_after : (j i m n k : ℕ) → m ≡ n → k ≤ m + j → j ≤ i → k ≤ n + i
-more_after j i m n k e le few = omega arith

@@ -2,8 +2,8 @@
 use Rattle.std.proofs.Common.{◌≡◌, ◌-◌, ◌&&◌, ◌||◌, ◌∷◌, ◌++◌, ℕ, Bool, true, false, not, cond, List, [], length, replicate, get_or, refl, sym, ap, ap₂, ◌∙◌}
 use Rattle.set_blocks.proofs.Terms.{subst, true≢false, arith, list_any, list_any-append, State, Writes, written, length-written, Command, Size, Next, Reply}
 use Rattle.set_blocks.proofs.Terms.{Full, Worn, Maps, catalogue_of, IsLawful, reply, next, capacity, reply_in, changes_in, stands_alone, IsBlock, replies_in}
-use Rattle.set_blocks.proofs.Terms.{block_changes_in, IsBlockFound, found_by, HoldPlan, StepPlan, BlockPlan, has_yes, has_no, del_no, add_no, get_none}
-use Rattle.set_blocks.proofs.Terms.{get_value, put_no, move_from_none, move_to_one, pair_tells, changing, keeping, nothing_yet, one_more, turn_replies}
+use Rattle.set_blocks.proofs.Terms.{block_changes_in, IsBlockFound, found_by, HoldPlan, StepPlan, BlockPlan, has_yes}
+use Rattle.set_blocks.proofs.Terms.{changing, keeping, nothing_yet, one_more, turn_replies}
 use Rattle.set_blocks.proofs.Terms.{after_turns, some_changes, is_full, some_full, would_change, Settled, Open}
 use Rattle.set_blocks.specs.declared.finding.Turns.{Turns}
 use Rattle.set_blocks.proofs.Planning.{plan_runs}
@@ -19,15 +19,7 @@ ran_here s commands ws said b l plan = (plan_runs s commands ws said b l plan).r
 -- no reply of a plan is full
 hold_unfull : (s : State) (command : Command) (os : List ℕ) (answer : Reply) → HoldPlan s command os answer → is_full answer ≡ false
 hold_unfull s command os answer (has_yes _ _ _ _) = refl
-hold_unfull s command os answer (has_no _ _ _ _) = refl
-hold_unfull s command os answer (del_no _ _ _ _) = refl
-hold_unfull s command os answer (add_no _ _ _ _) = refl
-hold_unfull s command os answer (get_none _ _ _ _) = refl
-hold_unfull s command os answer (get_value _ _ _ _ _) = refl
-hold_unfull s command os answer (put_no _ _ _ _ _) = refl
-hold_unfull s command os answer (move_from_none _ _ _ _ _) = refl
-hold_unfull s command os answer (move_to_one _ _ _ _ _) = refl
-hold_unfull s command os answer (pair_tells _ _ _ _ _ _ _ _ _) = refl
+hold_unfull s command os answer _ = refl
 
 step_unfull : (s : State) (command : Command) (ws : Writes) (answer : Reply) (c : Bool) → StepPlan command s ws answer c → is_full answer ≡ false
 step_unfull s command ws answer c (changing _ _ _) = refl
@@ -64,10 +56,6 @@ module _ (commands : List Command) (u : State) (said : List Reply) (b : Bool) (t
 
   pub changes_turned : block_changes_in commands u false ≡ b && true
   changes_turned = ap (λ x. x && true) would
-
-and_true : (b : Bool) → b && true ≡ b
-and_true true = refl
-and_true false = refl
 
 -- What is planned for a block is found.
 pub plan_found : (s : State) (commands : List Command) (ws : Writes) (turns : Turns) → IsLawful s → BlockPlan s commands ws turns.replies turns.changes

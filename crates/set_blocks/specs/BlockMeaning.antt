@@ -7,10 +7,11 @@ use Rattle.set_blocks.specs.BlockPlans.{BlockPlan}
 use Rattle.set_blocks.specs.BlockReplies.{block_replies, block_changes, block_next}
 use Rattle.set_blocks.specs.BlockRules.{IsBlockCommit, block_tag}
 
--- the block's replies in a state, at the last time or not, and whether it changes something there
+-- the block's replies in a state, at the last time or not
 abbrev pub replies_in : List Command → State → Bool → List Reply
 replies_in commands s last = block_replies commands (catalogue_of s) (capacity s) last
 
+-- whether the block changes something in a state, at the last time or not
 abbrev pub block_changes_in : List Command → State → Bool → Bool
 block_changes_in commands s last = block_changes commands (catalogue_of s) (capacity s) last
 
@@ -27,6 +28,7 @@ pub record PlansBlock (commands : List Command) (s : State) (tag : List ℕ) (ws
   pub plan : BlockPlan s commands ws answers true
   pub makes : (before : State) → Drifts IsBlockCommit ws s before → MakesBlock commands before (written before ws) answers
 
+-- A block of commands, as a work. It locks at most five objects for each of its commands.
 abbrev pub block_meaning : List Command → Meaning (List Reply)
 block_meaning commands = record {
   most = 5 * length commands;

@@ -19,6 +19,7 @@ abbrev pub some_changes : List Command → Maps → ℕ → Bool
 some_changes [] c capacity = false
 some_changes (command ∷ commands) c capacity = changes command c capacity false || some_changes commands (next command c capacity false) capacity
 
+-- whether a reply is full
 abbrev pub is_full : Reply → Bool
 is_full Full = true
 is_full answer = false

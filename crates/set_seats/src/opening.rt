@@ -118,7 +118,7 @@ fn share_all(
     first: &Share<BlockRules>,
     mut seats: Vec<Seat<BlockRules>>,
 ) -> Result<Vec<SetSeat>, AllocError>
-    requires may { All (λ seat. MayShare (domain_of first.now) seat) seats.items }
+    requires may { All (MayShare (domain_of first.now)) seats.items }
     ensures seats { IfOk result (λ shared. map seat_in shared.items ≡ seats.items) }
     ensures shared { IfOk result (λ shared. All (Shares (domain_of first.now)) shared.items) }
 {
@@ -149,7 +149,8 @@ fn share(
     seat: Seat<BlockRules>,
 ) -> Result<SetSeat, AllocError>
     requires may { MayShare (domain_of first.now) seat }
-    ensures { IfOk result (λ shared. (shared.seat ≡ seat) × Shares (domain_of first.now) shared) }
+    ensures seat { IfOk result (λ shared. shared.seat ≡ seat) }
+    ensures shared { IfOk result (Shares (domain_of first.now)) }
 {
     match share_and_room(alloc, first, number) {
         Ok((share, remembered)) => Ok(SetSeat {

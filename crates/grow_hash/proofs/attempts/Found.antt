@@ -4,11 +4,10 @@ use Rattle.list_set.specs.Spots.{EndsHere, AreAddWrites, AreDelWrites}
 use Rattle.list_set.specs.declared.search.Spot.{Spot}
 use Rattle.list_set.proofs.Spots.{two_within, two_distinct, add_found, del_found}
 use Rattle.std.proofs.Common.{◌≡◌, ◌≢◌, ◌^◌, ◌<◌, ◌&&◌, ℕ, Bool, true, false, cond, not, eqb, length, set, refl, sym, ap, ◌∙◌, subst}
-use Rattle.grow_hash.proofs.Terms.{State, Writes, are_distinct, AreWithin, empty, has_key, applies, overflows, Command, Add, Put, Del, Has, Get, Move, Pair}
-use Rattle.grow_hash.proofs.Terms.{Size, Next, Yes, No, Full, Worn, word, owned_in_range, add_writes, bucket, IsGrown, grown_map, grown_name, grown_catalogue}
-use Rattle.grow_hash.proofs.Terms.{grown_capacity, head_of, IsFree, GrowPlan, IsOfGrown, IsGrowFound, reply_at_last, Settled, Open}
+use Rattle.grow_hash.proofs.Terms.{State, Writes, are_distinct, AreWithin, empty, has_key, applies, overflows, Command, Add, Del, Has}
+use Rattle.grow_hash.proofs.Terms.{Yes, No, Full, Worn, word, owned_in_range, add_writes, bucket, IsGrown, grown_map, grown_name, grown_catalogue}
+use Rattle.grow_hash.proofs.Terms.{grown_capacity, head_of, IsFree, GrowPlan, IsOfGrown, IsGrowFound, Settled, Open}
 use Rattle.grow_hash.specs.GrowReplies.{reply_grown, changes_grown}
-use Rattle.grow_hash.specs.declared.deciding.Finding.{Finding}
 use Rattle.grow_hash.proofs.Committing.{commit_room}
 use Rattle.grow_hash.proofs.GrowFits.{plan_fit}
 use Rattle.grow_hash.proofs.GrownAdds.{list_in_range, add_apart, add_allowed, add_map}
@@ -127,18 +126,7 @@ change_late levels (Add name key) s ws e p =
 change_late levels (Del name key) s ws e p =
     let h = changing_parts (applies (Del name key) (grown_catalogue levels s)) false e in
     worn_reply (applies (Del name key) (grown_catalogue levels s)) false h.0 refl
-change_late levels (Put name key value) s ws e p = absurd p
-change_late levels (Has name key) s ws e p = absurd p
-change_late levels (Get name key) s ws e p = absurd p
-change_late levels (Move source target key) s ws e p = absurd p
-change_late levels (Pair first second key) s ws e p = absurd p
-change_late levels (Size name) s ws e p = absurd p
-change_late levels (Next name key) s ws e p = absurd p
-
-pub found_late : (levels : ℕ) (command : Command) (s : State) (f : Finding) → IsGrowFound levels command s f
-    → reply_at_last f ≡ reply_grown levels command s true
-found_late levels command s (Settled answer) i = i.0 true
-found_late levels command s (Open writes) i = change_late levels command s writes i.0 i.1.plan
+change_late levels _ s ws e p = absurd p
 
 pub unchanging_late : (levels : ℕ) (command : Command) (s : State) → changes_grown levels command s true ≡ false
 unchanging_late levels command s = late (applies command (grown_catalogue levels s)) (overflows command (grown_catalogue levels s) (grown_capacity levels s))

@@ -33,9 +33,6 @@ module _ (levels : ℕ) (s t : State) (table : words_at t 0 ≡ words_at s 0) wh
       ∙ ap (λ (ws : Writes). (n, list_words (head_at (split_bucket levels s n)) (key s n) (value s n) (first_to levels s (split_bucket levels s n) ns))
       ∷ ws) (same_parted ns rest)
 
-  same_place : split_place t ≡ split_place s
-  same_place = ap (word 3) table
-
   -- A split writes the same in both.
   pub same_split : (ns : List ℕ) → ((n : ℕ) → IsIn n ns → words_at t n ≡ words_at s n) → split_writes levels t ns ≡ split_writes levels s ns
   same_split ns f =

@@ -146,10 +146,8 @@ module _ (levels : ℕ) (s : State) (at place : ℕ) (nodes : Writes) (keys i : 
 
 take_three : (ws : Writes) (k : ℕ) (x y z : ℕ × List ℕ) → 3 ≤ length ws
     → take (suc (suc (suc k))) (set (set (set ws 0 x) 1 y) 2 z) ≡ x ∷ y ∷ z ∷ drop 3 (take (suc (suc (suc k))) ws)
-take_three [] k x y z lt = absurd (omega arith)
-take_three (a ∷ []) k x y z lt = absurd (omega arith)
-take_three (a ∷ b ∷ []) k x y z lt = absurd (omega arith)
 take_three (a ∷ b ∷ c ∷ ws) k x y z lt = refl
+take_three _ k x y z lt = absurd (omega arith)
 
 -- the writes of a split of the bucket at this place, at this level
 abbrev split_at : ℕ → State → List ℕ → ℕ → ℕ → Writes

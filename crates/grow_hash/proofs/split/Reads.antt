@@ -5,7 +5,6 @@ use Rattle.grow_hash.proofs.Terms.{head_at, IsRead, ArePartedWrites, IsPath, IsP
 use Rattle.grow_hash.specs.SplitCalls.{keys_at_place}
 use Rattle.grow_hash.proofs.Buckets.{few_buckets}
 use Rattle.grow_hash.proofs.split.ReadBuckets.{read_path}
-use Rattle.set_script.specs.Objects.{most_objects}
 
 module _ (levels : ℕ) (s t : State) (at place head : ℕ) (l : IsGrown levels s) (level_is : at ≡ level s) (place_is : place ≡ split_place s) (same : t ≡ s) where
   place_low : place < most_buckets levels
@@ -21,19 +20,13 @@ module _ (levels : ℕ) (s t : State) (at place head : ℕ) (l : IsGrown levels 
       subst (λ (u : State). IsLinked u head) (sym same)
       (subst (IsLinked s) (sym (head_is e)) (l.lists (split_place s) (let x = place_low in omega arith)))
 
-  pub bucket_few : length t ≤ most_objects
-  bucket_few = subst (λ (u : State). length u ≤ most_objects) (sym same) l.few
-
-  pub table_low : place < buckets_at at
-  table_low = subst (λ u. place < buckets_at u) (sym level_is) (subst (λ u. u < buckets_at (level s)) (sym place_is) l.table.place_in)
-
   pub below_most : at ≢ most_level levels → at < most_level levels
   below_most ne = let x = l.table.level_in in omega arith
 
   keys_are : (keys : ℕ) → head ≡ place + 1 → keys ≡ length (map_at t head) → keys ≡ keys_at_place s
   keys_are keys e k = k ∙ ap (λ (u : State). length (map_at u head)) same ∙ ap (λ h. length (map_at s h)) (head_is e)
 
-  -- and where it is short enough, its split is planned;
+  -- and where it is short enough, its split is planned
   pub planned_by : (keys : ℕ) (reads writes : Writes) → at ≢ most_level levels → head ≡ place + 1 → keys ≡ length (map_at t head) → keys ≤ 61
       → IsRead t head reads 0
       → ArePartedWrites levels at place reads writes → IsPlannedSplit levels s place writes
@@ -49,8 +42,3 @@ module _ (levels : ℕ) (s t : State) (at place head : ℕ) (l : IsGrown levels 
         place_is = place_is;
         plan = record { below = omega arith; nodes = objects_of reads; path = path; writes_are = parted s l (sym level_is) (sym place_is) here };
       }
-
-  -- else it has this many keys.
-  pub long_by : (keys : ℕ) → at ≢ most_level levels → head ≡ place + 1 → keys ≡ length (map_at t head) → 61 < keys
-      → (level s < most_level levels) × (keys ≡ keys_at_place s) × (61 < keys)
-  long_by keys ne e k more = (let low = below_most ne in omega arith, keys_are keys e k, more)

@@ -1,8 +1,6 @@
-use Rattle.std.proofs.Common.{sym, ap, length, subst, arith}
-use Rattle.std.proofs.lemmas.List.{length-map}
-use Rattle.mvrlu.specs.Meant.{seat_of, handled}
-use Rattle.domain_loan.specs.New.{AreNewFrom}
-use Rattle.domain_loan.proofs.Seats.{new_own, new_may_hold, left_for}
+use Rattle.std.proofs.Common.{arith}
+use Rattle.domain_loan.proofs.Seats.{new_own, left_for}
+use Rattle.domain_lines.proofs.NewSeats.{lent_length, lent_may_hold}
 use Rattle.pool_domain.proofs.OnePool.{all_went_on}
 use Rattle.pool_domain.proofs.running.run_seats.Goals as goal
 
@@ -12,28 +10,16 @@ lend_all-requires g c = record { own = new_own c.args.domain.now c.args.seats.it
 
 pub run_pool-requires-clause-some : goal.run_pool-requires-clause-some
 run_pool-requires-clause-some g c κs within =
-    omega (
-      arith,
-      ap length c.in_ok-handles.ensures.handles,
-      length-map c.in_ok-handles.handles.items handled,
-      length-map c.args.seats.items seat_of,
-      c.requires.some,
-    )
+    omega (arith, lent_length c.args.seats.items c.in_ok-handles.handles.items c.in_ok-handles.ensures.handles, c.requires.some)
 
 pub run_pool-requires-clause-few : goal.run_pool-requires-clause-few
 run_pool-requires-clause-few g c κs within =
-    omega (
-      arith,
-      ap length c.in_ok-handles.ensures.handles,
-      length-map c.in_ok-handles.handles.items handled,
-      length-map c.args.seats.items seat_of,
-      c.requires.few,
-    )
+    omega (arith, lent_length c.args.seats.items c.in_ok-handles.handles.items c.in_ok-handles.ensures.handles, c.requires.few)
 
 pub run_pool-requires-clause-most : goal.run_pool-requires-clause-most
 run_pool-requires-clause-most g c κs within =
-    new_may_hold c.args.domain.now 5 0 c.in_ok-handles.handles.items c.requires.most
-    (subst (λ seats. AreNewFrom c.args.domain.now 0 seats) (sym c.in_ok-handles.ensures.handles) c.requires.new)
+    lent_may_hold c.args.seats.items c.in_ok-handles.handles.items c.in_ok-handles.ensures.handles c.args.domain.now c.requires.new 5
+    c.requires.most
 
 -- as many handles come back as seats were lent
 pub take_back-requires : goal.take_back-requires

@@ -1,54 +1,31 @@
-use Rattle.std.proofs.Common.{map, sym, ◌∙◌}
+use Rattle.std.proofs.Common.{sym, ◌∙◌}
 use Rattle.std.proofs.lemmas.List.{length-map}
-use Rattle.mvrlu.specs.Meant.{seat_of, whole_of}
+use Rattle.mvrlu.specs.Meant.{seat_of}
 use Rattle.set_script.specs.Lawful.{IsOpening}
 use Rattle.set_script.specs.Rules.{IsSetCommit}
 use Rattle.script_workers.specs.Workers.{items_of}
-use Rattle.domain_loan.proofs.Seats.{as_many}
-use Rattle.domain_lines.specs.Joined.{past_of_whole}
-use Rattle.domain_lines.proofs.OneHistory.{one_history}
 use Rattle.script_domain.proofs.OneRun.{run_met}
 use Rattle.script_domain.proofs.Seats.{all_continue}
+use Rattle.domain_loan.proofs.Seats.{as_many}
+use Rattle.domain_lines.proofs.OneHistory.{one_history}
 use Rattle.script_domain.proofs.running.run_domain.Goals as goal
 
 -- all seats of the domain came back
 pub meet_all-requires : goal.meet_all-requires
 meet_all-requires g c =
-    let firsts = map (λ s. seat_of s) c.args.seats.items in
-    let on = all_continue firsts _ (map items_of c.args.scripts.now) c.in-Ok.lines.items c.in-Ok.ensures.ran in
-    record { gone_on = (firsts, c.requires.new, on); all = as_many c.args.seats.items c.in-Ok.seats.items _ on c.requires.all }
+    let on = all_continue _ _ _ _ c.in-Ok.ensures.ran in
+    record { gone_on = (_, c.requires.new, on); all = as_many c.args.seats.items c.in-Ok.seats.items _ on c.requires.all }
 
--- and their meeting knows the whole history
-pub returns-in-Ok-clause-ran : goal.returns-in-Ok-clause-ran
-returns-in-Ok-clause-ran g c =
-    let firsts = map (λ s. seat_of s) c.args.seats.items in
-    let met = map (λ s. seat_of s) c.in-Ok.seats.items in
-    let scripts = map items_of c.args.scripts.now in
-    let on = all_continue firsts met scripts c.in-Ok.lines.items c.in-Ok.ensures.ran in
-    let w = whole_of c.meet_all.result in
+-- Their meeting knows the whole history, which begins with the opening state, and each seat went along its chain.
+pub returns-in-Ok : goal.returns-in-Ok
+returns-in-Ok g c =
+    let met = c.meet_all.ensures.met _ c.requires.new (all_continue _ _ _ _ c.in-Ok.ensures.ran) in
     let count = length-map c.args.scripts.now items_of ∙ c.requires.as_many in
-    run_met (past_of_whole w) firsts met scripts c.in-Ok.lines.items w.tables
-    (one_history c.args.domain w IsOpening IsSetCommit _ firsts met c.requires.opening c.requires.new
-    (c.meet_all.ensures.met firsts c.requires.new on)
-    (length-map c.args.seats.items (λ s. seat_of s) ∙ sym count) (sym (count ∙ c.requires.all)))
-    c.in-Ok.ensures.ran
-
--- each seat went along its chain
-pub returns-in-Ok-clause-linked : goal.returns-in-Ok-clause-linked
-returns-in-Ok-clause-linked g c =
-    let firsts = map (λ s. seat_of s) c.args.seats.items in
-    let met = map (λ s. seat_of s) c.in-Ok.seats.items in
-    let on = all_continue firsts met (map items_of c.args.scripts.now) c.in-Ok.lines.items c.in-Ok.ensures.ran in
+    let history = one_history c.args.domain _ IsOpening IsSetCommit _ _ _ c.requires.opening c.requires.new met
+    (length-map c.args.seats.items seat_of ∙ sym count) (sym (count ∙ c.requires.all)) in
     record {
-      met = met;
-      whole = c.meet_all.ensures.met firsts c.requires.new on;
-      along = c.in-Ok.ensures.linked;
+      ran = run_met _ _ _ _ _ _ history c.in-Ok.ensures.ran;
+      linked = record { met = _; whole = met; along = c.in-Ok.ensures.linked };
+      opening = (met.opening, met.base);
+      err = tt;
     }
-
--- its history begins with the opening state
-pub returns-in-Ok-clause-opening : goal.returns-in-Ok-clause-opening
-returns-in-Ok-clause-opening g c =
-    let firsts = map (λ s. seat_of s) c.args.seats.items in
-    let on = all_continue firsts _ (map items_of c.args.scripts.now) c.in-Ok.lines.items c.in-Ok.ensures.ran in
-    let met = c.meet_all.ensures.met firsts c.requires.new on in
-    (met.opening, met.base)

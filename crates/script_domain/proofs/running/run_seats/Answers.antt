@@ -1,10 +1,6 @@
-use Rattle.std.proofs.Common.{map, length, sym, ap, ◌∙◌, subst}
-use Rattle.std.proofs.lemmas.List.{length-map}
-use Rattle.mvrlu.specs.Meant.{seat_of, handled}
-use Rattle.script_workers.specs.Numbers.{AreNumbered}
-use Rattle.domain_loan.specs.New.{AreNewFrom}
-use Rattle.domain_loan.proofs.Seats.{new_own, new_may_hold, left_for}
-use Rattle.domain_lines.proofs.NewSeats.{new_numbered}
+use Rattle.std.proofs.Common.{◌∙◌}
+use Rattle.domain_loan.proofs.Seats.{new_own, left_for}
+use Rattle.domain_lines.proofs.NewSeats.{lent_length, lent_numbered, lent_may_hold}
 use Rattle.script_domain.proofs.Seats.{all_continue}
 use Rattle.script_domain.proofs.running.run_seats.Goals as goal
 
@@ -14,18 +10,16 @@ lend_all-requires g c = record { own = new_own c.args.domain.now c.args.seats.it
 
 pub run_scripts-requires-clause-as_many : goal.run_scripts-requires-clause-as_many
 run_scripts-requires-clause-as_many g c κs within =
-    c.requires.as_many ∙ sym (length-map c.args.seats.items seat_of) ∙ sym (ap length c.in_ok-handles.ensures.handles)
-    ∙ length-map c.in_ok-handles.handles.items handled
+    c.requires.as_many ∙ lent_length c.args.seats.items c.in_ok-handles.handles.items c.in_ok-handles.ensures.handles
 
 pub run_scripts-requires-clause-numbers : goal.run_scripts-requires-clause-numbers
 run_scripts-requires-clause-numbers g c κs within =
-    subst (λ seats. AreNumbered 0 seats) (sym c.in_ok-handles.ensures.handles)
-    (new_numbered c.args.domain.now 0 (map (λ s. seat_of s) c.args.seats.items) c.requires.new)
+    lent_numbered c.args.seats.items c.in_ok-handles.handles.items c.in_ok-handles.ensures.handles c.args.domain.now c.requires.new
 
 pub run_scripts-requires-clause-most : goal.run_scripts-requires-clause-most
 run_scripts-requires-clause-most g c κs within =
-    new_may_hold c.args.domain.now 5 0 c.in_ok-handles.handles.items c.requires.most
-    (subst (λ seats. AreNewFrom c.args.domain.now 0 seats) (sym c.in_ok-handles.ensures.handles) c.requires.new)
+    lent_may_hold c.args.seats.items c.in_ok-handles.handles.items c.in_ok-handles.ensures.handles c.args.domain.now c.requires.new 5
+    c.requires.most
 
 -- as many handles come back as seats were lent
 pub take_back-requires : goal.take_back-requires

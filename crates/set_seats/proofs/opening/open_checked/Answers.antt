@@ -10,7 +10,7 @@ share_all-requires c =
     let seats = c.in_ok-whole.seats.items in
     let opened = c.in_ok-whole.ensures in
     record {
-      may = subst (λ d. All (λ s. MayShare d s) seats) (sym c.in-Ok.ensures.domain)
+      may = subst (λ d. All (MayShare d) seats) (sym c.in-Ok.ensures.domain)
           (new_may _ _ c.in_ok-whole.whole seats opened (omega (arith, ap (λ (n : Config). n.write_max) c.requires.numbers)));
     }
 

@@ -20,13 +20,15 @@ pub record IsOpening (s : State) : Type 0 where
   pub accounts : length s ≡ ACCOUNTS
   pub fits : total s < 2 ^ 64
 
--- what a transfer's tag says of it: from which account, to which, and how much
+-- from which account the transfer with this tag moves
 abbrev pub from_of : List ℕ → ℕ
 from_of tag = slice_index tag 0
 
+-- to which account it moves
 abbrev pub to_of : List ℕ → ℕ
 to_of tag = slice_index tag 1
 
+-- and how much
 abbrev pub amount_of : List ℕ → ℕ
 amount_of tag = slice_index tag 2
 

@@ -91,15 +91,17 @@ abbrev pub begin_where : ReadSoFar → Option (List Command) → ℕ → OrFault
 begin_where r None line = Ok (record { blocks = r.blocks; begun = Some [] })
 begin_where r (Some commands) line = Err (line, Nested)
 
+-- what is read with the `begin` of this line
 abbrev pub with_begin : ReadSoFar → ℕ → OrFault ReadSoFar
 with_begin r line = begin_where r r.begun line
 
--- and ends inside one that has commands
+-- a block ends where one has begun that has commands
 abbrev pub end_where : ReadSoFar → Option (List Command) → ℕ → OrFault ReadSoFar
 end_where r None line = Err (line, Stray)
 end_where r (Some []) line = Err (line, Empty)
 end_where r (Some (command ∷ commands)) line = Ok (record { blocks = r.blocks ++ (command ∷ commands) ∷ []; begun = None })
 
+-- what is read with the `end` of this line
 abbrev pub with_end : ReadSoFar → ℕ → OrFault ReadSoFar
 with_end r line = end_where r r.begun line
 
@@ -127,6 +129,7 @@ abbrev pub closed_where : ReadSoFar → Option (List Command) → ℕ → OrFaul
 closed_where r None last = Ok r.blocks
 closed_where r (Some commands) last = Err (last, Unended)
 
+-- the blocks of what is read, where none has begun at the end, whose last line is this one
 abbrev pub closed : ReadSoFar → ℕ → OrFault (List (List Command))
 closed r last = closed_where r r.begun last
 
@@ -168,6 +171,7 @@ pub record MayBegin (commands : List Command) : Type 0 where
   pub few : length commands ≤ MOST_IN_BLOCK
   pub apart : list_any stands_alone commands ≡ false
 
+-- no block has begun, or the commands of the one that has may be a block's
 abbrev pub MayHaveBegun : Option (List Command) → Type 0
 MayHaveBegun None = ⊤
 MayHaveBegun (Some commands) = MayBegin commands

@@ -19,23 +19,26 @@ lines_at seat number place (answer ∷ answers) =
 abbrev pub lines_of : DoneBlock → List Line
 lines_of d = lines_at d.seat d.number d.place d.answers
 
--- what became of the block of an answer, and its lines
+-- what became of the block of an answer
 abbrev pub done_of : Answer (Place × List Reply) → DoneBlock
 done_of a = record { seat = a.seat; number = a.number; place = a.done.0; answers = a.done.1 }
 
+-- the lines of the block of an answer
 abbrev pub lines_in : Answer (Place × List Reply) → List Line
 lines_in a = lines_of (done_of a)
 
--- the lines of answers, and of a row of them
+-- the lines of answers
 abbrev pub row_in : List (Answer (Place × List Reply)) → List Line
 row_in answers = flat_map lines_in answers
 
+-- the lines of a row of answers
 abbrev pub row_of : Vec (Answer (Place × List Reply)) Global → List Line
 row_of v = row_in v.items
 
--- no number of its lines is too great
+-- no number of the lines of an answer is too great
 abbrev pub FitsNumbers : Answer (Place × List Reply) → Type 0
 FitsNumbers a = a.number + length a.done.1 < 2 ^ 32
 
+-- no number of the lines of a row of answers is too great
 abbrev pub AllFit : Vec (Answer (Place × List Reply)) Global → Type 0
 AllFit row = All FitsNumbers row.items

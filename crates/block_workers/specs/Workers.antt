@@ -6,9 +6,10 @@ use Rattle.script_workers.specs.Terms.{Global, Command}
 abbrev pub most_in_blocks : ℕ
 most_in_blocks = 40
 
--- the blocks of a script, and how many commands they have
+-- the blocks of a script
 abbrev pub blocks_of : Vec (List Command) Global → List (List Command)
 blocks_of v = v.items
 
+-- how many commands the blocks of a script have
 abbrev pub count_of : Vec (List Command) Global → ℕ
 count_of v = sum_by length v.items

@@ -45,11 +45,12 @@ pub record IsJustNamed (c : Config) (w : View) (l : Noted) (won : WonNaming) : T
   pub stands : Stands c won.before l
   pub unbuilt : l.built ≡ None
 
--- the first position of the commit that the section of a view has named; it tells nothing of one that has named none
+-- the first position of the commit that a section of this mode has named; it tells nothing of one that has named none
 abbrev pub first_of_mode : Mode → ℕ
 first_of_mode (Named n) = n.first
 first_of_mode _ = 0
 
+-- the same of the section of a view
 abbrev pub first_named : View → ℕ
 first_named v = first_of_mode (section_in v).mode
 

@@ -21,9 +21,10 @@ IsCounter s = (length s ≡ 1) × (count s < 2 ^ 32)
 abbrev pub CountsOne : List ℕ → State → Writes → Type 0
 CountsOne = Rewrites 0 counted
 
--- how often a thread was asked to count, and how often it is told that it did
+-- how often a thread was asked to count
 abbrev pub asked_of : Counter → ℕ
 asked_of counter = counter.asked
 
+-- how often it is told that it did
 abbrev pub done_of : Counter → ℕ
 done_of counter = counter.done

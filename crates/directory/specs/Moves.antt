@@ -13,13 +13,15 @@ use Rattle.directory.specs.Ring.{next_of, IsUser, IsOn}
 abbrev pub IsOpening : State → Type 0
 IsOpening s = map link_of s ≡ 1 ∷ 2 ∷ 3 ∷ 4 ∷ 5 ∷ 6 ∷ 7 ∷ 8 ∷ 9 ∷ 0 ∷ []
 
--- what a move's tag says of it: the object before the user, the user, and the shelf to which it goes
+-- the object before the user that is moved, by the move's tag
 abbrev pub before_in : List ℕ → ℕ
 before_in tag = slice_index tag 0
 
+-- the user that is moved
 abbrev pub user_in : List ℕ → ℕ
 user_in tag = slice_index tag 1
 
+-- the shelf to which it goes
 abbrev pub shelf_in : List ℕ → ℕ
 shelf_in tag = slice_index tag 2
 

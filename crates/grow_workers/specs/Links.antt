@@ -19,6 +19,7 @@ pub record GrowKept : Type 0 where
   pub seat : Seat
   pub odd : Bool
 
+-- what is kept of this seat, with an odd number of those adds or not
 abbrev pub kept : Seat → Bool → GrowKept
 kept seat odd = record { seat = seat; odd = odd }
 
@@ -49,10 +50,11 @@ pub record LinkedTurn (k : Causes) (s t : GrowKept) (command : Command) (place :
   pub split_done : LinkedIf (s.odd && is_added command answer) k between t.seat
   pub odd : t.odd ≡ odd_with s.odd (is_added command answer)
 
--- the same, of the place and the reply together, and of a line
+-- the same, of the place and the reply together
 abbrev pub LinkedDone : Causes → GrowKept → GrowKept → Command → Place × Reply → Type 0
 LinkedDone k s t command done = LinkedTurn k s t command done.0 done.1
 
+-- the same, of the place and the reply of a line
 abbrev pub LinkedLine : Causes → GrowKept → GrowKept → Command → Line → Type 0
 LinkedLine k s t command line = LinkedTurn k s t command line.place line.reply
 

@@ -17,16 +17,19 @@ pub record MayDo {I : Type 0} (does : I → Type 0) (width : I → ℕ) (items :
   pub each : All does items
   pub few : 1 + sum_by width items < 2 ^ 32
 
--- what a worker keeps, the seat in it, its source and its answers
+-- what a worker keeps
 abbrev pub keeps : {W X P D : Type 0} → (W → X) → Worker W P D → X
 keeps kept_of w = kept_of w.runner
 
+-- the seat in what a worker keeps
 abbrev pub stands_at : {W X P D : Type 0} → (W → X) → (X → Seat) → Worker W P D → Seat
 stands_at kept_of seat_of w = seat_of (kept_of w.runner)
 
+-- the source of a worker
 abbrev pub source_of : {W P D : Type 0} → Worker W P D → P
 source_of w = w.source
 
+-- the answers of a worker
 abbrev pub answers_of : {W P D : Type 0} → Worker W P D → Vec (Answer D) Global
 answers_of w = w.answers
 

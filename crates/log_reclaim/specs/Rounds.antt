@@ -83,8 +83,7 @@ IsHolder l first last back found None = OldestIsDead l last.mark.time
 IsHolder l first last back found (Some holder) =
     (n : Note) × IsDue l last.mark.time (Some n) × (holder ≡ holder_of first last back found n)
 
--- After a round the log is empty, or the round's scan found a watermark by which the oldest write set isn't dead, and of each
--- version without a time of death it is known why it has none.
+-- The round's scan found a watermark by which the oldest write set isn't dead, and of each version without a time of death it is known why it has none.
 pub record HasLeft (c : Config) (w : View) (l : Noted) (made : List Step) (back : Bool) : Type 0 where
   pub mark : Watermark
   pub clock : ℕ
@@ -92,6 +91,7 @@ pub record HasLeft (c : Config) (w : View) (l : Noted) (made : List Step) (back 
   pub kept : OldestIsDead l mark.time → ⊥
   pub untimed : (i : ℕ) (n : Note) → IsNoteAt l i n → n.dead ≡ 0 → (above : Option ℕ) × StaysUntimed c w made mark clock back n above
 
+-- after a round the log is empty, or the round has left it so
 abbrev pub SweptSo : Config → View → Noted → List Step → Bool → Type 0
 SweptSo c w l made back = (length l.live ≡ 0) ⊎ HasLeft c w l made back
 

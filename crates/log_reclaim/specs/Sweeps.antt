@@ -19,6 +19,7 @@ abbrev pub seat_of_byte : ℕ → Option ℕ
 seat_of_byte zero = None
 seat_of_byte (suc seat) = Some seat
 
+-- the byte that tells a seat, or none
 abbrev pub byte_of_seat : Option ℕ → ℕ
 byte_of_seat None = 0
 byte_of_seat (Some seat) = suc seat

@@ -9,6 +9,7 @@ abbrev pub bool_word : Bool → ℕ
 bool_word false = 0
 bool_word true = 1
 
+-- false for 0, and true for any other word
 abbrev pub bool_of : ℕ → Bool
 bool_of zero = false
 bool_of (suc n) = true
@@ -18,6 +19,7 @@ abbrev pub link_word : Option ℕ → ℕ
 link_word None = 0
 link_word (Some object) = suc object
 
+-- no object for 0, and else the object whose number is 1 less
 abbrev pub link_of : ℕ → Option ℕ
 link_of zero = None
 link_of (suc object) = Some object
@@ -26,6 +28,7 @@ link_of (suc object) = Some object
 abbrev pub pair_word : ℕ × ℕ → ℕ
 pair_word pair = pair.1 * 2 ^ 32 + pair.0
 
+-- the low half of the word, and the high half
 abbrev pub pair_of : ℕ → ℕ × ℕ
 pair_of word = (word % 2 ^ 32, word / 2 ^ 32)
 

@@ -48,6 +48,7 @@ place_in seat k of_previous = Prev seat k
 place_in seat k of_successor = Super seat k
 place_in seat k (of_word w) = Data seat k w
 
+-- where the word at an offset is of a slot
 abbrev pub field_place : ℕ → ℕ → ℕ → Place
 field_place seat k field = place_in seat k (field_at field)
 
@@ -63,6 +64,7 @@ with_field b of_previous x = record b { previous = Some x }
 with_field b of_successor x = record b { successor = Some x }
 with_field b (of_word w) x = record b { words = slice_set b.words w (Some x) }
 
+-- the build with the word at this offset stored too
 abbrev pub built_too : Build → ℕ → ℕ → Build
 built_too b field x = with_field b (field_at field) x
 
@@ -81,6 +83,7 @@ Fits first position of_previous x = Unit {0}
 Fits first position of_successor x = x ≡ 0
 Fits first position (of_word w) x = w < 6
 
+-- the same, of the field at an offset
 abbrev pub FitsField : ℕ → ℕ → ℕ → ℕ → Type 0
 FitsField first position field x = Fits first position (field_at field) x
 

@@ -19,10 +19,11 @@ use Rattle.mv_core.specs.Chains.{IsLater}
 use Rattle.mv_core.specs.Rule.{Facts}
 use Rattle.mv_core.specs.WalkSteps.{slot_named}
 
--- a client with no rules: it allows any opening state, and any commit
+-- a client with no rules allows any opening state
 abbrev pub any_start : State → Type 0
 any_start start = Unit {0}
 
+-- and any commit
 abbrev pub any_commit : List ℕ → State → Writes → Type 0
 any_commit tag state writes = Unit {0}
 

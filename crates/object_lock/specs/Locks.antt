@@ -30,6 +30,7 @@ abbrev pub noted_words : Option Note → List ℕ
 noted_words None = []
 noted_words (Some n) = n.words
 
+-- the words that the built version of a log has
 abbrev pub built_words : Noted → List ℕ
 built_words l = noted_words l.built
 
@@ -144,11 +145,12 @@ pub record Starts (c : Config) (v w : View) (l : Noted) (object : ℕ) (words : 
   pub words_are : built_words l ≡ words
   pub started : IsStarted c w l lock
 
--- the most steps before the first exchange of HEAD, and of a whole lock: six less where the words are given
+-- the most steps of a lock before its first exchange of HEAD: six less where the words are given
 abbrev pub most_to_start : Option (List ℕ) → ℕ
 most_to_start None = 19
 most_to_start (Some words) = 13
 
+-- the most steps of a whole lock: six less where the words are given
 abbrev pub most_to_lock : Option (List ℕ) → ℕ
 most_to_lock None = 24
 most_to_lock (Some words) = 18

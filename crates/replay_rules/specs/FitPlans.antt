@@ -8,13 +8,15 @@ use Rattle.replay_rules.specs.declared.plan.CallOf.{CallOf}
 use Rattle.replay_rules.specs.declared.plan.TheConstants.{MOST_STEPS}
 use Rattle.replay_rules.specs.Plans.{PlanOf, config_of}
 
--- 1 to 64 seats, 1 to 1024 objects, and 64 to 256 slots
+-- 1 to 64 seats
 abbrev pub AreSeats : ℕ → Type 0
 AreSeats seats = (1 ≤ seats) × (seats ≤ 64)
 
+-- 1 to 1024 objects
 abbrev pub AreObjects : ℕ → Type 0
 AreObjects objects = (1 ≤ objects) × (objects ≤ 1024)
 
+-- 64 to 256 slots of each log
 abbrev pub AreSlots : ℕ → Type 0
 AreSlots slots = (64 ≤ slots) × (slots ≤ 256)
 

@@ -69,11 +69,13 @@ helped_in Tidy c log s word = helped_in_tidy log s word
 abbrev pub help : Config → List Version → State → ℕ → Then
 help c log s word = if clock_slot_of word == 8191 then helped_in s.call c log s word else Goes (Helps (LoadNamed word))
 
+-- behind a step of an entering: MARK gets 1 more than CLOCK's time, and the word that CLOCK has then is helped
 abbrev pub after_entering : Entering → Config → List Version → State → ℕ → Then
 after_entering LoadLow c log s found = Goes (Enters (StoreMark (1 + clock_time_of found)))
 after_entering (StoreMark mark) c log s found = Goes (Enters LoadTime)
 after_entering LoadTime c log s found = help c log s found
 
+-- behind a step of a help: an unset stamp is exchanged for the word's time if CLOCK still has the word; then the call goes on
 abbrev pub after_helping : Helping → Config → List Version → State → ℕ → Then
 after_helping (LoadNamed word) c log s found = if is_unset found then Goes (Helps (LoadCheck word found)) else helped_in s.call c log s word
 after_helping (LoadCheck word unset) c log s found = if found == word then Goes (Helps (SwapStamp word unset)) else helped_in s.call c log s word
@@ -87,6 +89,7 @@ stand object link = if link == 0 then Goes (Walks object (LoadWord link (replica
 abbrev pub refusal : ℕ → ℕ → Then
 refusal link stamp = if is_unset stamp then Ends (Locked (refusals.Busy (link_seat_of link))) else Ends (Locked (refusals.Stale stamp))
 
+-- whether a call is a lock
 abbrev pub is_lock : Call → Bool
 is_lock Enter = false
 is_lock (Read object) = false
@@ -114,6 +117,7 @@ abbrev pub after_words : List Version → State → ℕ → ℕ → List ℕ →
 after_words log s object link words =
     if is_lock s.call then Goes (Locks (new_version s object link words) (length log) (Build 0)) else Ends (SixWords words)
 
+-- behind a step of a walk over an object: from HEAD along the chain to the words that are read, then these one after another
 abbrev pub after_walking : Walking → Config → List Version → State → ℕ → ℕ → Then
 after_walking LoadHead c log s object found = stand object found
 after_walking (LoadFirst link) c log s object found = Goes (Walks object (LoadStamp link found))
@@ -137,6 +141,7 @@ after_lock_head version at found =
     else (if found == 0 then Goes (Locks (record version { previous = 0 }) at ClearPrevious)
     else Goes (Locks version at (FoundFirst found)))
 
+-- behind a step of a lock past its walk: the slot is built, HEAD is exchanged, and a version that a lost exchange found refuses the lock
 abbrev pub after_locking : Locking → Version → ℕ → ℕ → Then
 after_locking (Build field) version at found = after_field version at field
 after_locking LockHead version at found = after_lock_head version at found
@@ -144,6 +149,7 @@ after_locking ClearPrevious version at found = Goes (Locks version at LockHead)
 after_locking (FoundFirst link) version at found = Goes (Locks version at (FoundStamp link found))
 after_locking (FoundStamp link first) version at found = refusal link found
 
+-- behind the store of a data word: the next one is stored, and behind the sixth the write ends
 abbrev pub after_writing : ℕ → List ℕ → ℕ → Then
 after_writing at words word = if ltb word 5 then Goes (Writes at words (word + 1)) else Ends Silent
 
@@ -159,9 +165,11 @@ after_name s word found =
     if found == word then Goes (EndsSection (StampOwn s.from (clock_time_of word + 1)))
     else Ends (Committed (ends.Again (record { seat = clock_seat_of found; time = clock_time_of found })))
 
+-- behind an unlock of HEAD: that of the next held version, and behind the last one CLOCK is loaded for the time of death
 abbrev pub after_unlock : List Version → ℕ → Then
 after_unlock log at = if ltb (at + 1) (length log) then Goes (unlock log (at + 1)) else Goes (EndsSection LoadDeath)
 
+-- behind the leave of a section: a commit answers its time, and a plain leave and an abort answer nothing
 abbrev pub after_leaving : Leaving → Then
 after_leaving Plainly = Ends Silent
 after_leaving (WithCommit time) = Ends (Committed (ends.Done time))
@@ -178,6 +186,7 @@ after_now Abort c log s found = help c log s found
 after_now Leave c log s found = help c log s found
 after_now Tidy c log s found = help c log s found
 
+-- behind a step of a commit, an abort or a leave, or of the rest of a tidy
 abbrev pub after_ending : Ending → Config → List Version → State → ℕ → Then
 after_ending LoadNow c log s found = after_now s.call c log s found
 after_ending (Name word new) c log s found = after_name s word found

@@ -36,12 +36,13 @@ entered LoadLow s found = s
 entered (StoreMark mark) s found = s
 entered LoadTime s found = with_clock (record s { time = Some (clock_time_of found) }) found
 
+-- a help notes the time that its load of CLOCK finds
 abbrev pub helped : Helping → State → ℕ → State
 helped (LoadNamed word) s found = s
 helped (LoadCheck word unset) s found = with_clock s found
 helped (SwapStamp word unset) s found = s
 
--- and ends with a leave, when nothing is held any more
+-- a section ends with a leave, when nothing is held any more
 abbrev pub ended : Ending → List Version → State → State
 ended LoadNow log s = s
 ended (Name word new) log s = s
@@ -55,6 +56,7 @@ ended (Leave leaving) log s = record s { time = None; from = length log }
 abbrev pub scan_begun : ℕ → Scanned
 scan_begun word = record { time = clock_time_of word; low = clock_time_of word; seat = 0; clock = clock_time_of word }
 
+-- a seat whose scan has loaded CLOCK, and found this word
 abbrev pub scanning : State → ℕ → State
 scanning s word = with_clock (record s { sweep = record s.sweep { last = scan_begun word } }) word
 
@@ -67,6 +69,7 @@ lowered scan seat mark =
 abbrev pub scanned_to : Scanned → ℕ → Scanned
 scanned_to scan found = record scan { time = max scan.low found }
 
+-- how far a tidy is once its scan is whole, where GRACE had this time: its round frees up to the scan's watermark
 abbrev pub scanned : Sweep → ℕ → Sweep
 scanned w found =
     record w {
@@ -80,6 +83,7 @@ scanned w found =
 abbrev pub freed_one : List Version → State → State
 freed_one log s = if ltb s.freed (length log) then record s { freed = s.freed + 1 } else s
 
+-- what a step of a tidy changes of what its seat is at: how far the tidy is, what is freed, and the section of a write-back
 abbrev pub swept : Sweeping → List Version → State → ℕ → State
 swept (LoadGrace again) log s found = record s { sweep = record s.sweep { again = again; swept = false; bound = found } }
 swept (Free at left) log s found = freed_one log s
@@ -111,6 +115,7 @@ edit_of_leaving from Plainly = Kept
 edit_of_leaving from (WithCommit time) = CommittedFrom from time
 edit_of_leaving from (WithAbort dead) = AbortedFrom from dead
 
+-- of the steps that end a section the leave alone changes the notes
 abbrev pub edit_of_end : ℕ → Ending → Edit
 edit_of_end from LoadNow = Kept
 edit_of_end from (Name word new) = Kept
@@ -130,6 +135,7 @@ edit_of_back at (WasCut dead) = Retired at dead
 edit_of_back at WasGone = Kept
 edit_of_back at (WasAbove seat) = AboveNoted at seat
 
+-- a tidy notes the times of death that it finds in SUPER, and what its write-backs have come to
 abbrev pub edit_of_sweep : Sweeping → State → ℕ → Edit
 edit_of_sweep (LoadGrace again) s found = Kept
 edit_of_sweep (Free at left) s found = Kept

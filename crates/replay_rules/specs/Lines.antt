@@ -58,6 +58,7 @@ text_of_words words =
     spaced (slice_index words 0) ++ spaced (slice_index words 1) ++ spaced (slice_index words 2) ++ spaced (slice_index words 3)
     ++ spaced (slice_index words 4) ++ spaced (slice_index words 5)
 
+-- what is written of what a lock answers
 abbrev pub text_of_lock : LockAnswer → List ℕ
 text_of_lock Held = codes " held"
 text_of_lock (Busy seat) = codes " busy" ++ spaced seat
@@ -65,17 +66,20 @@ text_of_lock (Stale time) = codes " stale" ++ spaced time
 text_of_lock SetFull = codes " setfull"
 text_of_lock LogFull = codes " logfull"
 
+-- what is written of how a commit ended, with its own time, or with the rival's seat and time
 abbrev pub text_of_commit : Ended → List ℕ
 text_of_commit (Done time) = codes " done" ++ spaced time
 text_of_commit (Again rival) = codes " again" ++ spaced rival.seat ++ spaced rival.time
 text_of_commit End = codes " end"
 
+-- what is written of who holds a log back
 abbrev pub text_of_holder : Holder → List ℕ
 text_of_holder (holders.Mark seat low) = codes " mark" ++ spaced seat ++ spaced low
 text_of_holder (holders.Above object seat) = codes " above" ++ spaced object ++ spaced seat
 text_of_holder (holders.Fresh time) = codes " fresh" ++ spaced time
 text_of_holder holders.End = codes " end"
 
+-- the same of the holder of a log, if something holds it back
 abbrev pub text_of_held : Option Holder → List ℕ
 text_of_held None = []
 text_of_held (Some holder) = text_of_holder holder

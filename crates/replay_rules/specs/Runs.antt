@@ -139,6 +139,7 @@ abbrev pub turned_from : Config → Option Task → Scene → Scene
 turned_from c (Some task) x = step_made c task x
 turned_from c None x = let l = looked c x.seat.left x in turn_begun c l.task l.scene
 
+-- the same, with the next step of the call that the seat is in, if it is in one
 abbrev pub turned : Config → Scene → Scene
 turned c x = turned_from c x.seat.task x
 
@@ -155,6 +156,7 @@ no_call = record { seat = 0; call = Enter }
 abbrev pub new_state : ℕ → State
 new_state seat = record { seat = seat; time = None; from = 0; freed = 0; call = Enter; sweep = new_sweep 0 }
 
+-- a seat with an empty log that has made no call, with these calls before it
 abbrev pub new_seat : List CallOf → ℕ → SeatOf
 new_seat calls seat = record { log = []; state = new_state seat; task = None; left = calls }
 

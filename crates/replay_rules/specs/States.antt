@@ -6,10 +6,11 @@ use Rattle.mv_layout.specs.declared.Place.{Place}
 use Rattle.mv_core.specs.declared.view.View.{View}
 use Rattle.mv_core.specs.Moves.{Moment, Kind, act, stepped, seat_made, opening_of, IsStorable}
 
--- every commit is allowed, and every opening state is lawful
+-- every commit is allowed
 abbrev pub any_commit : List ℕ → State → Writes → Type 0
 any_commit tag before writes = ⊤
 
+-- every opening state is lawful
 abbrev pub any_start : State → Type 0
 any_start start = ⊤
 
@@ -36,13 +37,15 @@ pub record Turn : Type 0 where
   pub before : List Made
   pub step : Made
 
--- what a step asks of its seat's view, the word that it is of, and what it writes of what it finds there
+-- what a step asks of its seat's view
 abbrev pub may_in : Config → Moment → Made → Type 0
 may_in c s step = (act any_commit c (s.seats step.seat) step.kind).may
 
+-- the word that a step is of
 abbrev pub place_in : Config → Moment → Made → Place
 place_in c s step = (act any_commit c (s.seats step.seat) step.kind).place
 
+-- what a step writes of what it finds in its word, if it writes
 abbrev pub writes_in : Config → Moment → Made → ℕ → Option ℕ
 writes_in c s step found = (act any_commit c (s.seats step.seat) step.kind).writes found
 

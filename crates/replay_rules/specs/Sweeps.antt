@@ -73,6 +73,7 @@ free log s =
     let left = dead_count log s s.sweep.bound in
     if left == 0 then after_frees log s else Goes (Tidies (Free s.freed left))
 
+-- behind the free of a slot: the next one of the write set, and behind its last one the next write set
 abbrev pub after_free : List Version → State → ℕ → Then
 after_free log s left = if leb left 1 then free log s else Goes (Tidies (Free s.freed (left - 1)))
 
@@ -87,6 +88,7 @@ look_at c s seat =
 abbrev pub settle : List Version → State → ℕ → Then
 settle log s at = if ltb at (length log) then Goes (Tidies (LoadSuper at)) else free log s
 
+-- looks at the next version without a time of death behind a position
 abbrev pub settle_behind : List Version → State → ℕ → Then
 settle_behind log s at = settle log s (first_behind log at IsUntimed)
 
@@ -100,24 +102,29 @@ after_super log s at found =
 abbrev pub back_by : State → ℕ → Back
 back_by s link = if link == 0 then WasGone else WasAbove (other_seat s.seat link)
 
+-- behind the load of HEAD in a write-back: the master's words are stored where it names the version, and else the section is left
 abbrev pub after_top : List Version → State → ℕ → ℕ → ℕ → Then
 after_top log s at object found =
     if found == link_to s.seat at then Goes (Tidies (StoreMaster at object (version_at log at).words 0))
     else Goes (Tidies (LeaveBack at (back_by s found)))
 
+-- behind the store of a word of the master: the next one, and behind the sixth the cut
 abbrev pub after_master : ℕ → ℕ → List ℕ → ℕ → Then
 after_master at object words word =
     if ltb word 5 then Goes (Tidies (StoreMaster at object words (word + 1))) else Goes (Tidies (CutHead at object))
 
+-- behind the exchange that cuts the chain: CLOCK is loaded for the time of death where it is won, and else the section is left
 abbrev pub after_cut : State → ℕ → ℕ → Then
 after_cut s at found =
     if found == link_to s.seat at then Goes (Tidies (LoadCutDeath at)) else Goes (Tidies (LeaveBack at (back_by s found)))
 
+-- behind the leave of a write-back: the next version without a time of death; where HEAD was 0, SUPER is loaded again before that
 abbrev pub after_back : Back → List Version → State → ℕ → Then
 after_back (WasCut dead) log s at = settle_behind log s at
 after_back WasGone log s at = Goes (Tidies (LoadSuperAgain at))
 after_back (WasAbove seat) log s at = settle_behind log s at
 
+-- how a tidy goes on behind a step of its own
 abbrev pub after_sweeping : Sweeping → Config → List Version → State → ℕ → Then
 after_sweeping (LoadGrace again) c log s found = free log s
 after_sweeping (Free at left) c log s found = after_free log s left

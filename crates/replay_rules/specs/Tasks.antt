@@ -54,17 +54,19 @@ commit_clock c word seat at = next_clock word seat (slot_at c at)
 abbrev pub named_place : ℕ → Place
 named_place word = Stamp (clock_seat_of word) (clock_slot_of word)
 
--- the word of each step
+-- the word of the next step of an entering
 abbrev pub entering_place : ℕ → Entering → Place
 entering_place seat LoadLow = Clock
 entering_place seat (StoreMark mark) = Mark seat
 entering_place seat LoadTime = Clock
 
+-- the word of the next step of a help of a clock word
 abbrev pub helping_place : Helping → Place
 helping_place (LoadNamed word) = named_place word
 helping_place (LoadCheck word unset) = Clock
 helping_place (SwapStamp word unset) = named_place word
 
+-- the word of the next step of a walk over an object
 abbrev pub walking_place : Config → ℕ → Walking → Place
 walking_place c object LoadHead = Head object
 walking_place c object (LoadFirst link) = First (link_seat_of link) (link_slot c link)
@@ -73,6 +75,7 @@ walking_place c object (LoadPrev link) = Prev (link_seat_of link) (link_slot c l
 walking_place c object (LoadWord link words word) =
     if link == 0 then Master object word else Data (link_seat_of link) (link_slot c link) word
 
+-- the word of the next step of a lock behind its walk, of this object at this position
 abbrev pub locking_place : Config → ℕ → ℕ → ℕ → Locking → Place
 locking_place c seat object at (Build field) = field_place seat (slot_at c at) field
 locking_place c seat object at LockHead = Head object
@@ -80,6 +83,7 @@ locking_place c seat object at ClearPrevious = Prev seat (slot_at c at)
 locking_place c seat object at (FoundFirst link) = First (link_seat_of link) (link_slot c link)
 locking_place c seat object at (FoundStamp link first) = Stamp (link_seat_of link) (slot_at c first)
 
+-- the word of the next step of a commit, an abort or a leave, or of the rest of a tidy
 abbrev pub ending_place : Config → ℕ → Ending → Place
 ending_place c seat LoadNow = Clock
 ending_place c seat (Name word new) = Clock
@@ -89,6 +93,7 @@ ending_place c seat (Unlock at object previous) = Head object
 ending_place c seat LoadDeath = Clock
 ending_place c seat (Leave leaving) = Mark seat
 
+-- the word of the next step of a tidy
 abbrev pub sweeping_place : Config → ℕ → Sweeping → Place
 sweeping_place c seat (LoadGrace again) = Grace
 sweeping_place c seat (Free at left) = Stamp seat (slot_at c at)
@@ -104,6 +109,7 @@ sweeping_place c seat (LeaveBack at back) = Mark seat
 sweeping_place c seat (LoadSuperAgain at) = Super seat (slot_at c at)
 sweeping_place c seat (NameRest word new) = Clock
 
+-- the word of the next step of a call
 abbrev pub place_in_task : Config → ℕ → Task → Place
 place_in_task c seat (Enters step) = entering_place seat step
 place_in_task c seat (Helps step) = helping_place step
@@ -113,12 +119,13 @@ place_in_task c seat (Writes at words word) = Data seat (slot_at c at) word
 place_in_task c seat (EndsSection step) = ending_place c seat step
 place_in_task c seat (Tidies step) = sweeping_place c seat step
 
--- what each step does with it
+-- what the next step of an entering does with its word
 abbrev pub entering_access : Entering → Access
 entering_access LoadLow = Load
 entering_access (StoreMark mark) = Store mark
 entering_access LoadTime = Load
 
+-- what the next step of a help of a clock word does with its word
 abbrev pub helping_access : Helping → Access
 helping_access (LoadNamed word) = Load
 helping_access (LoadCheck word unset) = Load
@@ -132,6 +139,7 @@ field_word version at (suc (suc zero)) = version.previous
 field_word version at (suc (suc (suc zero))) = 0
 field_word version at (suc (suc (suc (suc word)))) = slice_index version.words word
 
+-- what the next step of a lock behind its walk, of this version at this position, does with its word
 abbrev pub locking_access : ℕ → Version → ℕ → Locking → Access
 locking_access seat version at (Build field) = Store (field_word version at field)
 locking_access seat version at LockHead = Swap version.previous (link_to seat at)
@@ -139,6 +147,7 @@ locking_access seat version at ClearPrevious = Store 0
 locking_access seat version at (FoundFirst link) = Load
 locking_access seat version at (FoundStamp link first) = Load
 
+-- what the next step of a commit, an abort or a leave, or of the rest of a tidy, does with its word
 abbrev pub ending_access : Ending → Access
 ending_access LoadNow = Load
 ending_access (Name word new) = Swap word new
@@ -148,6 +157,7 @@ ending_access (Unlock at object previous) = Store previous
 ending_access LoadDeath = Load
 ending_access (Leave leaving) = Store 0
 
+-- what the next step of a tidy does with its word
 abbrev pub sweeping_access : ℕ → Sweeping → Access
 sweeping_access seat (LoadGrace again) = Load
 sweeping_access seat (Free at left) = Store 0
@@ -163,6 +173,7 @@ sweeping_access seat (LeaveBack at back) = Store 0
 sweeping_access seat (LoadSuperAgain at) = Load
 sweeping_access seat (NameRest word new) = Swap word new
 
+-- what the next step of a call does with its word
 abbrev pub access_in_task : ℕ → Task → Access
 access_in_task seat (Enters step) = entering_access step
 access_in_task seat (Helps step) = helping_access step

@@ -89,11 +89,12 @@ fault_end Value = codes ": bad value\n"
 fault_end Same = codes ": same name twice\n"
 fault_end Many = codes " commands\n"
 
--- the same of a script of blocks
+-- what stands before the number of a faulty script of blocks
 abbrev pub block_fault_start : BlockKind → List ℕ
 block_fault_start (Line kind) = fault_start kind
 block_fault_start _ = codes "script "
 
+-- what stands behind the number of its line
 abbrev pub block_fault_end : BlockKind → List ℕ
 block_fault_end (Line kind) = fault_end kind
 block_fault_end Nested = codes ": nested block\n"
@@ -103,11 +104,12 @@ block_fault_end Long = codes ": block too long\n"
 block_fault_end Apart = codes ": not in a block\n"
 block_fault_end Unended = codes ": block without end\n"
 
--- and of a plan
+-- what stands before the number of a faulty plan
 abbrev pub plan_fault_start : PlanKind → List ℕ
 plan_fault_start PlanMany = codes "limit: script "
 plan_fault_start _ = codes "script "
 
+-- what stands behind the number of its line
 abbrev pub plan_fault_end : PlanKind → List ℕ
 plan_fault_end PlanWord = codes ": unknown command\n"
 plan_fault_end PlanCount = codes ": wrong number of words\n"

@@ -18,5 +18,6 @@ failures_of (failures.Then' _ before name) = failures_of before ++ letters_of na
 abbrev pub name_in : Told → List ℕ
 name_in t = letters_of t.name.value
 
+-- the names of the texts of which a call failed, in the order of the calls, by what is told
 abbrev pub failures_in : Told → List (List ℕ)
 failures_in t = failures_of t.failures.value

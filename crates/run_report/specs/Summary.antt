@@ -22,13 +22,15 @@ abbrev pub says_worn : Reply → Bool
 says_worn Worn = true
 says_worn reply = false
 
--- whether a line has such a reply
+-- whether a line's reply is yes
 abbrev pub is_yes : Line → Bool
 is_yes line = says_yes line.reply
 
+-- whether a line's reply is no
 abbrev pub is_no : Line → Bool
 is_no line = says_no line.reply
 
+-- whether a line's reply is worn
 abbrev pub is_worn : Line → Bool
 is_worn line = says_worn line.reply
 

@@ -98,12 +98,13 @@ pub data Reading : Type 0 where
   -- as plans
   plans : Reading
 
--- what a script is then, and what may be wrong with a line of one
+-- what a script is that is read so
 abbrev pub ScriptOf : Reading → Type 0
 ScriptOf (commands grammar) = List Command
 ScriptOf blocks = List (List Command)
 ScriptOf plans = PlanOf
 
+-- what may be wrong with a line of a file that is read so
 abbrev pub KindOf : Reading → Type 0
 KindOf (commands grammar) = FaultKind
 KindOf blocks = BlockKind

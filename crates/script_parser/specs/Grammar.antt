@@ -17,8 +17,8 @@ use Rattle.script_parser.specs.declared.line.Verb.{Verb}
 use Rattle.script_parser.specs.declared.line.Verb.TheVariants.{Add, Put, Del, Has, Get, Move, Pair, Size, Next}
 use Rattle.set_script.specs.declared.script.TheConstants.{MOST_COMMANDS}
 
--- one reading after another, up to the first fault
 infixl 10 ◌>>=◌
+-- one reading after another, up to the first fault
 abbrev pub ◌>>=◌ : {F A B : Type 0} → Result A F → (A → Result B F) → Result B F
 (Ok x) >>= f = f x
 (Err e) >>= f = Err e
@@ -94,15 +94,17 @@ key_of word = if is_numeral 10 word && nat_le (digits_value 10 word) 4294967295 
 abbrev pub value_of : List ℕ → Result ℕ FaultKind
 value_of word = if is_numeral 20 word && nat_le (digits_value 10 word) 18446744073709551615 then Ok (digits_value 10 word) else Err faults.Value
 
--- the one word, the two or the three words behind the command's
+-- the one word behind the command's
 abbrev pub one_of : List (List ℕ) → Result (List ℕ) FaultKind
 one_of (word ∷ []) = Ok word
 one_of words = Err faults.Count
 
+-- the two words behind the command's
 abbrev pub two_of : List (List ℕ) → Result (List ℕ × List ℕ) FaultKind
 two_of (first ∷ second ∷ []) = Ok (first, second)
 two_of words = Err faults.Count
 
+-- the three words behind the command's
 abbrev pub three_of : List (List ℕ) → Result (List ℕ × List ℕ × List ℕ) FaultKind
 three_of (first ∷ second ∷ third ∷ []) = Ok (first, second, third)
 three_of words = Err faults.Count

@@ -3,10 +3,11 @@ use Rattle.std.specs.Prelude.{List, map, Vec}
 use Rattle.script_workers.specs.Terms.{Global, Seat, Command, Place, Reply, Causes, Line, BySeat, Answer, Chain}
 use Rattle.script_workers.specs.Links.{Linked}
 
--- the line of an answer, and those of a row of answers
+-- the line of an answer
 abbrev pub line_of : Answer (Place × Reply) → Line
 line_of a = record { seat = a.seat; number = a.number; place = a.done.0; reply = a.done.1 }
 
+-- the lines of a row of answers
 abbrev pub row_of : Vec (Answer (Place × Reply)) Global → List Line
 row_of v = map line_of v.items
 

@@ -160,6 +160,7 @@ abbrev pub without_previous : Option Note → Option Note
 without_previous None = None
 without_previous (Some n) = Some (record n { previous = 0 })
 
+-- the same in the notes of a log
 abbrev pub cleared : Noted → Noted
 cleared l = record l { built = without_previous l.built }
 
@@ -168,6 +169,7 @@ abbrev pub built_word : ℕ → ℕ → Option Note → Option Note
 built_word word value None = None
 built_word word value (Some n) = Some (with_word word value n)
 
+-- the same in the notes of a log
 abbrev pub built_word_noted : Noted → ℕ → ℕ → Noted
 built_word_noted l word value = record l { built = built_word word value l.built }
 

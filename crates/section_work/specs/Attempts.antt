@@ -19,8 +19,8 @@ pub record Enters (k : Causes) (old : Seat) (entered : InSection) (new : Seat) :
   pub enters : IsEntered k before entered new
 
 module _ {R : Type 0} (k : Causes) (m : Meaning R) where
-  -- The work is the seat's last commit, at this printed time, of a section that the call entered. Its tag and its writes are what is planned in
-  -- its snapshot, with this reply, and made of the state just before what it should.
+  -- The work is the seat's last commit, at this printed time. Its tag and its writes are what is planned in its snapshot, with this reply, and
+  -- made of the state just before what it should.
   pub record IsDone (old new : Seat) (reply : R) (time : ℕ) : Type 0 where
     pub continues : Continues old new
     pub commit : Commit
@@ -35,6 +35,7 @@ module _ {R : Type 0} (k : Causes) (m : Meaning R) where
     pub done : IsDone entered.seat new reply time
     pub snapshot : done.commit.snapshot ≡ entered.at
 
+  -- The call entered a section from the old seat, and that section made that commit.
   pub record IsDoneAt (old new : Seat) (reply : R) (time : ℕ) : Type 0 where
     pub done : IsDone old new reply time
     pub entered : InSection

@@ -53,12 +53,13 @@ dels_at s (Empty root) = []
 dels_at s (Grown root fork) =
     if fork.parent == root then bare_writes s root fork.leaf else cut_writes s fork.grand fork.parent fork.leaf
 
--- the node that a del leaves vacant, and the inner node, or 0
+-- the list node or leaf that a del leaves vacant, or 0
 abbrev pub node_gone : End → ℕ
 node_gone (Listed head spot) = spot.node
 node_gone (Empty root) = 0
 node_gone (Grown root fork) = fork.leaf
 
+-- the inner node that a del leaves vacant, or 0
 abbrev pub inner_gone : End → ℕ
 inner_gone (Listed head spot) = 0
 inner_gone (Empty root) = 0

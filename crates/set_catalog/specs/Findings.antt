@@ -38,10 +38,11 @@ IsFoundWithin most command s (Settled answer) =
 IsFoundWithin most command s (Open plan gone) =
     (changes_in command s false ≡ true) × (plan.count ≤ most_locks_of most command) × IsPlannedWithin most command s (writes_in plan) gone
 
--- the same, where no step follows an add
+-- what is planned, where no step follows an add
 abbrev pub IsPlanned : Command → State → Writes → Gone → Type 0
 IsPlanned command s ws gone = IsPlannedWithin 0 command s ws gone
 
+-- what is found where a time is left, and no step follows an add
 abbrev pub IsFound : Command → State → Finding → Type 0
 IsFound command s finding = IsFoundWithin 0 command s finding
 

@@ -41,10 +41,11 @@ numbers (suc count) n = n ∷ numbers count (suc n)
 unfoldable pub catalogue_of : State → Maps
 catalogue_of s = map (λ name. map_in s name) (numbers names 0)
 
--- how many nodes are not vacant
+-- how many of these nodes are not vacant
 abbrev pub count_used : State → ℕ
 count_used [] = 0
 count_used (w ∷ ws) = (if slice_index_or w 0 0 == 0 then 0 else 1) + count_used ws
 
+-- how many nodes of a state are not vacant
 abbrev pub used : State → ℕ
 used s = count_used (drop first_node s)

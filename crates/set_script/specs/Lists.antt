@@ -5,11 +5,13 @@ use Rattle.mv_history.specs.Meaning.{words_at}
 use Rattle.set_script.specs.Catalogue.{Map}
 use Rattle.set_script.specs.Objects.{first_node, owner, head_words, list_words}
 
+-- a node of a list: its object, with its key and its value
 pub record Node : Type 0 where
   pub object : ℕ
   pub key : ℕ
   pub value : ℕ
 
+-- the nodes of a list, in their order
 abbrev pub Nodes : Type 0
 Nodes = List Node
 

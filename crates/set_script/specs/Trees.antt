@@ -6,6 +6,7 @@ use Rattle.mv_history.specs.Meaning.{words_at}
 use Rattle.set_script.specs.Catalogue.{Map}
 use Rattle.set_script.specs.Objects.{first_node, owner, rank, head_words, leaf_words, inner_words}
 
+-- a tree: one leaf, or an inner node over two trees
 pub data Tree : Type 0 where
   -- an object with its key and value
   leaf : ℕ → ℕ → ℕ → Tree

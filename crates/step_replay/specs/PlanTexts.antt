@@ -70,7 +70,7 @@ head_taken (Base seats objects slots) word words =
     if bytes_eq word (codes "base") then (single 0 35184372088831 words >>= λ base. Ok (Whole (config_of seats objects slots base))) else Err faults.Word
 head_taken (Whole config) word words = Err faults.Word
 
--- what a call does, by its name
+-- what a call does that is no commit, by its name
 abbrev pub other_verb_of : List ℕ → Result Verb PlanKind
 other_verb_of name =
     if bytes_eq name (codes "enter") then Ok Enter
@@ -82,6 +82,7 @@ other_verb_of name =
     else (if bytes_eq name (codes "tidy") then Ok Tidy
     else Err faults.Word))))))
 
+-- what a call does, by its name
 abbrev pub verb_of : List ℕ → Result Verb PlanKind
 verb_of name = if bytes_eq name (codes "commit") then Ok Commit else other_verb_of name
 

@@ -10,9 +10,11 @@ use Rattle.replay_rules.specs.Runs.{SeatOf, TapeOf, Scene, Looked}
 abbrev pub seat_of : List CallOf → Seat → SeatOf
 seat_of calls seat = record { log = seat.log.items; state = seat.state; task = seat.task; left = drop seat.next calls }
 
+-- the tape: the words, how many steps were made, and the text so far
 abbrev pub tape_of : Tape → TapeOf
 tape_of tape = record { words = tape.machine.words.items; made = tape.made; text = string_bytes tape.text }
 
+-- a seat at its turn, and the tape
 abbrev pub scene_of : List CallOf → Seat → Tape → Scene
 scene_of calls seat tape = record { seat = seat_of calls seat; tape = tape_of tape }
 
@@ -20,5 +22,6 @@ scene_of calls seat tape = record { seat = seat_of calls seat; tape = tape_of ta
 abbrev pub looked_of : List CallOf → Seat → Tape → Option Task → Looked
 looked_of calls seat tape task = record { scene = scene_of calls seat tape; task = task }
 
+-- the seats, each with the calls that it hasn't looked at
 abbrev pub seats_of : List CallOf → List Seat → List SeatOf
 seats_of calls seats = map (seat_of calls) seats

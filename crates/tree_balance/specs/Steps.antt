@@ -29,10 +29,11 @@ abbrev pub IsStep : State → ℕ → Step → Type 0
 IsStep s root (Rank node rank) = IsInner s root node
 IsStep s root (Rotate grand parent child) = IsParent s root grand parent × IsInner s root parent × IsChild s parent child × IsInner s root child
 
--- the state after a step, and after several
+-- the state after a step
 abbrev pub stepped : State → Step → State
 stepped s step = written s (step_writes s step)
 
+-- the state after several steps
 abbrev pub after_steps : State → List Step → State
 after_steps s [] = s
 after_steps s (step ∷ steps) = after_steps (stepped s step) steps

@@ -9,6 +9,7 @@ pub data Turn : Type 0 where
   left : ℕ → ℕ → Tree → Turn
   right : ℕ → ℕ → Tree → Turn
 
+-- the turns from the root of a tree down to a part of it
 abbrev pub Path : Type 0
 Path = List Turn
 
@@ -51,12 +52,13 @@ around [] = []
 around (left n d b ∷ ps) = n ∷ (around ps ++ objects_in b)
 around (right n d a ∷ ps) = n ∷ (objects_in a ++ around ps)
 
--- the entries to the left of the path, and those to its right
+-- the entries to the left of the path
 abbrev pub before : Path → Map
 before [] = []
 before (left n d b ∷ ps) = before ps
 before (right n d a ∷ ps) = entries_in a ++ before ps
 
+-- the entries to the right of the path
 abbrev pub after : Path → Map
 after [] = []
 after (left n d b ∷ ps) = after ps ++ entries_in b

@@ -657,6 +657,7 @@ static inline const char *mvrlu_strerror(int32_t status) {
 }
 
 #undef MVRLU_ON
+#undef MVRLU_OPEN
 #undef MVRLU_REPLIES
 #ifdef __cplusplus
 }

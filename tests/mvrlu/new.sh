@@ -15,7 +15,7 @@ rows_of_a_new_folder() {
     there=$(cd "$scratch/made/tally/crates" && printf '%s\n' * | sort)
     [ "$listed" = "$there" ] || fail "new lists $listed, and made $there"
     grep -qx 'tally: client_run .*' "$scratch/made/tally/crates.txt" || fail 'new lists no crate of its own'
-    grep -qx 'tally_main: tally mvrlu mv_history' "$scratch/made/tally/crates.txt" || fail 'new lists no program'
+    grep -qx 'tally_main: tally mv_history' "$scratch/made/tally/crates.txt" || fail 'new lists no program'
     cmp -s "$top/HANDLES" "$scratch/made/tally/HANDLES" || fail 'new leaves HANDLES out'
     ! grep -rqE 'Rattle\.counter\.|use counter::' "$scratch/made/tally" || fail 'new leaves the name of the counter'
     ! grep -rqE '`counter(_main)?`' "$scratch/made/tally"/crates/tally{,_main} || fail 'new leaves the name of the counter'

@@ -15,8 +15,8 @@
 //! no generic one crosses to C: each implements `Handle` by two functions, and all else is written once, over that trait. A
 //! `std::optional<bool>` is true for a no, so C++ doesn't answer one.
 //!
-//! It stands on `object_seats`, `set_seats` and `grow_seats`. `object_handle`, `sets_handle` and `table_handle` have the places where a pointer
-//! becomes a block again.
+//! It stands on `object_seats`, `set_seats` and `grow_seats`. A pointer becomes a block again in `loose` alone; `object_handle`,
+//! `sets_handle` and `table_handle` make one of a handle's field, and their proofs are by hand, as those of `loose` are.
 #![tactic(auto)]
 
 mod calls;

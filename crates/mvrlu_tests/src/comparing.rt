@@ -1,4 +1,4 @@
-// What was found, beside what is wanted. The proof of a comparison is dear, and so all tests share these.
+// What was found, beside what is wanted. A comparison is costly to prove, so all tests share these.
 ghost use Rattle.std.specs.Prelude.{◌≡◌, true};
 
 use std::fmt::Debug;

@@ -2,7 +2,7 @@
 use std::fmt::Debug;
 use std::process::Abort;
 
-// Ends the test where the two differ. Its proof is dear, and so all tests share it.
+// Ends the test where the two differ. It is costly to prove, so all tests share it.
 pub(crate) fn assert_same<T: Debug + PartialEq>(
     rt: &impl Abort,
     found: &T,

@@ -6,9 +6,10 @@ use Rattle.shared_domain.specs.Met.{Closes}
 use Rattle.shared_domain.specs.declared.gathering.Closed.{Closed}
 use Rattle.shared_domain.specs.declared.gathering.Closed.TheVariants.{Met, Left, Unmet}
 use Rattle.shared_domain.specs.declared.gathering.Gathering.{Gathering}
-use Rattle.mvrlu_c.specs.declared.status.Status.TheVariants as status
-use Rattle.mvrlu_c.specs.Closing.{TellsClose, status_of_close, last_told}
-use Rattle.mvrlu_c.specs.Statuses.{code_of}
+use Rattle.c_answers.specs.declared.status.Status.TheVariants as status
+use Rattle.c_answers.specs.Closings.{status_of_close, last_told}
+use Rattle.mvrlu_c.specs.Closing.{TellsClose}
+use Rattle.c_answers.specs.Statuses.{code_of}
 
 module _ {P : Type 0} {rules : _} (starts : State → Type 0) (allows : List ℕ → State → Writes → Type 0) (g : Gathering P rules) where
   -- an open handle is told as the last one where all seats met, and as another one where they didn't

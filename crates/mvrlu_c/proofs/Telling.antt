@@ -1,13 +1,14 @@
 -- What a call tells of a seat, by what it answered.
-use Rattle.std.proofs.Common.{◌≡◌, ℤ, Bool, true, false, Option, Some, None, Result, MatchOption, refl, ap, ◌∙◌, w32, to_z, of_z}
+use Rattle.std.proofs.Common.{◌≡◌, ℤ, Bool, true, false, Option, Some, None, Result, MatchOption, ap, ◌∙◌, w32, to_z, of_z}
 use Rattle.crossbeam_utils.specs.Padded.{padded_value}
 use Rattle.object_seats.specs.declared.position.Position.{Position}
 use Rattle.object_seats.specs.declared.position.Misuse.{Misuse}
 use Rattle.mvrlu_c.specs.declared.object_handle.MvrluSeat.{MvrluSeat}
-use Rattle.mvrlu_c.specs.declared.status.Status.{Status}
-use Rattle.mvrlu_c.specs.declared.status.Status.TheVariants as status
+use Rattle.c_answers.specs.declared.status.Status.{Status}
+use Rattle.c_answers.specs.declared.status.Status.TheVariants as status
+use Rattle.c_answers.proofs.Numbers.{reads_back}
 use Rattle.mvrlu_c.specs.OnHandle.{TellsCall}
-use Rattle.mvrlu_c.specs.Statuses.{code_of, told_by}
+use Rattle.c_answers.specs.Statuses.{code_of, told_by}
 use Rattle.mvrlu_c.specs.Told.{Tells}
 
 -- what was done on the seat, if it is open, is told by the number of its status
@@ -19,34 +20,6 @@ pub tells_by : {A : Type 0} (made : A → Status) (old new : MvrluSeat) (Call : 
 tells_by made old new Call None code Said says shut done is = (λ x. (is, (shut x).1), λ x. absurd ((done x).1))
 tells_by made old new Call (Some a) code Said says shut done is =
     (λ x. let none : Some a ≡ None = (shut x).0 in absurd (cc), λ x. ((done x).0, (a, says a (done x).1, is)))
-
--- a number is read back from its 32 bits
-pub reads_back : (s : Status) → to_z w32 (of_z w32 (code_of s)) ≡ code_of s
-reads_back status.Done = refl
-reads_back status.Again = refl
-reads_back status.Busy = refl
-reads_back status.Stale = refl
-reads_back status.Short = refl
-reads_back status.LogFull = refl
-reads_back status.Worn = refl
-reads_back status.Closed = refl
-reads_back status.InUse = refl
-reads_back status.BadNumber = refl
-reads_back status.NoMemory = refl
-reads_back status.Outside = refl
-reads_back status.Inside = refl
-reads_back status.BadObject = refl
-reads_back status.BadPlace = refl
-reads_back status.NotLocked = refl
-reads_back status.Empty = refl
-reads_back status.Holding = refl
-reads_back status.SetFull = refl
-reads_back status.No = refl
-reads_back status.Full = refl
-reads_back status.BadSet = refl
-reads_back status.SameSet = refl
-reads_back status.BadCommand = refl
-reads_back status.BadBlock = refl
 
 -- What a call on a handle tells is told by the number that it hands on, where each of its answers has a number that is read back.
 module _ {H S A Out : Type 0} (opened : H → Bool) (seat_in : H → S) (Call : S → S → A → Type 0) (number : A → ℤ) (told : A → Out)

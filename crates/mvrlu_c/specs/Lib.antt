@@ -2,15 +2,11 @@ pub mod Held
 pub mod Opening
 pub mod ObjectOpening
 pub mod OnHandle
-pub mod SetReplies
 pub mod SetsBlock
 pub mod SetsOpening
 pub mod SetsTold
-pub mod Counted
 pub mod SetsWalk
 pub mod TableOpening
-pub mod TableReplies
 pub mod TableTold
-pub mod Statuses
 pub mod Told
 pub mod Closing

@@ -8,9 +8,9 @@ use Rattle.object_seats.specs.Opening.{AreOpened}
 use Rattle.object_seats.specs.declared.seat.ObjectSeat.{ObjectSeat}
 use Rattle.mvrlu_c.specs.declared.object_handle.MvrluSeat.{MvrluSeat}
 use Rattle.mvrlu_c.specs.declared.object_opening.MvrluOptions.{MvrluOptions}
-use Rattle.mvrlu_c.specs.declared.status.Status.{Status}
+use Rattle.c_answers.specs.declared.status.Status.{Status}
 use Rattle.mvrlu_c.specs.Opening.{OpensAll}
-use Rattle.mvrlu_c.specs.Statuses.{code_of}
+use Rattle.c_answers.specs.Statuses.{code_of}
 
 -- whether a handle of a seat of objects is open
 abbrev pub opened : MvrluSeat → Bool

@@ -1,8 +1,8 @@
 -- What a call on a handle of C leaves, of whatever kind, by the number that it answers.
 use Rattle.std.specs.Prelude.{◌≡◌, ℤ, Bool, true, false}
-use Rattle.mvrlu_c.specs.declared.status.Status.{Status}
-use Rattle.mvrlu_c.specs.declared.status.Status.TheVariants.{Closed}
-use Rattle.mvrlu_c.specs.Statuses.{code_of}
+use Rattle.c_answers.specs.declared.status.Status.{Status}
+use Rattle.c_answers.specs.declared.status.Status.TheVariants.{Closed}
+use Rattle.c_answers.specs.Statuses.{code_of}
 
 -- nothing was done, for this reason
 abbrev pub IsRefused : {H Out : Type 0} → Status → H → H → Out → Out → ℤ → Type 0

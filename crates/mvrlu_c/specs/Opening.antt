@@ -1,7 +1,7 @@
 -- What opening leaves of the handles of C, of whatever kind.
 use Rattle.std.specs.Prelude.{◌≡◌, Bool, true, false, List, map, All}
-use Rattle.mvrlu_c.specs.declared.status.Status.{Status}
-use Rattle.mvrlu_c.specs.declared.status.Status.TheVariants.{Done, InUse, BadNumber, NoMemory}
+use Rattle.c_answers.specs.declared.status.Status.{Status}
+use Rattle.c_answers.specs.declared.status.Status.TheVariants.{Done, InUse, BadNumber, NoMemory}
 
 module _ {H S : Type 0} (opened : H → Bool) (seat_in : H → S) where
   -- the handle is closed

@@ -8,9 +8,9 @@ use Rattle.set_seats.specs.declared.opening.OpenSets.{OpenSets}
 use Rattle.set_seats.specs.declared.seat.SetSeat.{SetSeat}
 use Rattle.mvrlu_c.specs.declared.sets_handle.MvrluSets.{MvrluSets}
 use Rattle.mvrlu_c.specs.declared.sets_opening.MvrluSetsOptions.{MvrluSetsOptions}
-use Rattle.mvrlu_c.specs.declared.status.Status.{Status}
+use Rattle.c_answers.specs.declared.status.Status.{Status}
 use Rattle.mvrlu_c.specs.Opening.{OpensAll}
-use Rattle.mvrlu_c.specs.Statuses.{code_of}
+use Rattle.c_answers.specs.Statuses.{code_of}
 
 -- whether a handle of a seat of the sets is open
 abbrev pub opened : MvrluSets → Bool

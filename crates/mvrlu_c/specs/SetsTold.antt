@@ -7,15 +7,13 @@ use Rattle.set_seats.specs.declared.seat.SetSeat.{SetSeat}
 use Rattle.mvrlu.specs.Meant.{seat_of}
 use Rattle.section_work.specs.Sections.{TriesOne}
 use Rattle.log_reclaim.specs.declared.rounds.Tidy.{Tidy}
-use Rattle.mv_history.specs.declared.answers.LogTable.{LogTable}
-use Rattle.mvrlu_c.specs.declared.sets_calls.MvrluCounts.{MvrluCounts}
 use Rattle.mvrlu_c.specs.declared.sets_handle.MvrluSets.{MvrluSets}
-use Rattle.mvrlu_c.specs.declared.sets_reply.MvrluReply.{MvrluReply}
-use Rattle.mvrlu_c.specs.declared.status.Status.{Status}
-use Rattle.mvrlu_c.specs.SetReplies.{reply_told}
+use Rattle.c_answers.specs.declared.replies.MvrluReply.{MvrluReply}
+use Rattle.c_answers.specs.declared.status.Status.{Status}
+use Rattle.c_answers.specs.SetReplies.{reply_told}
 use Rattle.mvrlu_c.specs.OnHandle.{TellsCall}
 use Rattle.mvrlu_c.specs.SetsOpening.{opened, seat_in}
-use Rattle.mvrlu_c.specs.Statuses.{code_of}
+use Rattle.c_answers.specs.Statuses.{code_of}
 
 -- the command was attempted on the seat: what it leaves, that its reply is the catalogue's, and that it tried one commit at most
 abbrev pub Answers : Command → SetSeat → SetSeat → Attempt → Type 0
@@ -36,7 +34,3 @@ TellsSeat Call status_of told old new before after code =
 -- how many slots are live
 abbrev pub live_told : Tidy → ℕ
 live_told tidy = tidy.live
-
--- the counts of a log
-abbrev pub counts_told : LogTable → MvrluCounts
-counts_told t = record { commits = t.commits; aborts = t.aborts; back = t.back; freed = t.freed; rests = t.rests; live = t.live }

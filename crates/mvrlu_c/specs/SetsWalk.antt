@@ -8,10 +8,10 @@ use Rattle.set_seats.specs.declared.walk.Entry.{Entry}
 use Rattle.set_seats.specs.declared.walk.Walked.{Walked}
 use Rattle.mvrlu_c.specs.declared.sets_handle.MvrluSets.{MvrluSets}
 use Rattle.mvrlu_c.specs.declared.sets_walk.MvrluWalk.{MvrluWalk}
-use Rattle.mvrlu_c.specs.declared.status.Status.{Status}
-use Rattle.mvrlu_c.specs.declared.status.Status.TheVariants.{Done, Closed, NoMemory}
+use Rattle.c_answers.specs.declared.status.Status.{Status}
+use Rattle.c_answers.specs.declared.status.Status.TheVariants.{Done, Closed, NoMemory}
 use Rattle.mvrlu_c.specs.OnHandle.{IsRefused}
-use Rattle.mvrlu_c.specs.Statuses.{code_of}
+use Rattle.c_answers.specs.Statuses.{code_of}
 
 -- the key, or 0, and whether there is one
 abbrev pub key_or_none : Option ℕ → ℕ × ℕ

@@ -8,9 +8,9 @@ use Rattle.grow_seats.specs.declared.opening.OpenGrown.{OpenGrown}
 use Rattle.grow_seats.specs.declared.seat.GrowSeat.{GrowSeat}
 use Rattle.mvrlu_c.specs.declared.table_handle.MvrluTable.{MvrluTable}
 use Rattle.mvrlu_c.specs.declared.table_opening.MvrluTableOptions.{MvrluTableOptions}
-use Rattle.mvrlu_c.specs.declared.status.Status.{Status}
+use Rattle.c_answers.specs.declared.status.Status.{Status}
 use Rattle.mvrlu_c.specs.Opening.{OpensAll}
-use Rattle.mvrlu_c.specs.Statuses.{code_of}
+use Rattle.c_answers.specs.Statuses.{code_of}
 
 -- whether a handle of a seat of a growing set is open
 abbrev pub opened : MvrluTable → Bool

@@ -7,13 +7,13 @@ use Rattle.grow_hash.specs.declared.attempt.GrowStep.{GrowStep}
 use Rattle.grow_seats.specs.Calls.{Attempted, Replied, Splits, GoesOn}
 use Rattle.grow_seats.specs.declared.command.GrowCommand.{GrowCommand}
 use Rattle.grow_seats.specs.declared.seat.GrowSeat.{GrowSeat}
-use Rattle.mvrlu_c.specs.declared.sets_reply.MvrluReply.{MvrluReply}
-use Rattle.mvrlu_c.specs.declared.status.Status.{Status}
+use Rattle.c_answers.specs.declared.replies.MvrluReply.{MvrluReply}
+use Rattle.c_answers.specs.declared.status.Status.{Status}
 use Rattle.mvrlu_c.specs.declared.table_handle.MvrluTable.{MvrluTable}
 use Rattle.mvrlu_c.specs.OnHandle.{TellsCall}
 use Rattle.mvrlu_c.specs.TableOpening.{opened, seat_in}
-use Rattle.mvrlu_c.specs.Statuses.{code_of}
-use Rattle.mvrlu_c.specs.TableReplies.{step_told, split_told}
+use Rattle.c_answers.specs.Statuses.{code_of}
+use Rattle.c_answers.specs.TableReplies.{step_told, split_told}
 
 -- the command was attempted on the seat: what it leaves, that its reply is the catalogue's, and that it tried one commit at most
 abbrev pub Answers : GrowCommand → GrowSeat → GrowSeat → GrowStep → Type 0

@@ -1,105 +1,24 @@
 // The calls of C on one seat.
 ghost use Rattle.std.specs.Prelude.{◌≡◌, false, Some};
 ghost use Rattle.object_seats.specs.Calls as calls;
-ghost use Rattle.mvrlu_c.specs.Statuses.{status_of_lock, status_of_room, status_of_vacant, status_of_commit, done, told_by};
-ghost use Rattle.mvrlu_c.specs.Told.{Tells, told, pair_told, object_told, next_told, refused_by, time_told, live_told};
+ghost use Rattle.c_answers.specs.ObjectsTold.{told, pair_told, object_told, next_told, refused_by, time_told, live_told};
+ghost use Rattle.c_answers.specs.Statuses.{status_of_lock, status_of_room, status_of_vacant, status_of_commit, done};
+ghost use Rattle.mvrlu_c.specs.Told.{Tells};
 
 use crate::handle::on_open;
 use crate::object_handle::MvrluSeat;
-use crate::status::{Status, of_commit, of_lock, of_misuse, of_room};
-use mv_history::{LockAnswer, Room};
-use object_seats::{CommitResult, Misuse, ObjectSeat, Vacancy};
+use c_answers::{
+    tell_commit, tell_live, tell_lock, tell_made, tell_pair, tell_room, tell_vacant, tell_value,
+};
+use object_seats::ObjectSeat;
 use std::alloc::Global;
-
-// The status of a call that has nothing to tell but that it was made.
-fn of_unit(answer: Option<Result<(), Misuse>>) -> Status
-    ensures { result ≡ told_by done answer }
-{
-    match answer {
-        None => Status::Closed,
-        Some(Err(why)) => of_misuse(why),
-        Some(Ok(())) => Status::Done,
-    }
-}
-
-// The status of making room.
-fn of_prepared(answer: Option<Result<Room, Misuse>>) -> Status
-    ensures { result ≡ told_by status_of_room answer }
-{
-    match answer {
-        None => Status::Closed,
-        Some(Err(why)) => of_misuse(why),
-        Some(Ok(room)) => of_room(room),
-    }
-}
-
-// The status of a try to lock. What refused it is written into `by`.
-fn of_locked(answer: Option<Result<LockAnswer, Misuse>>, by: &mut u64) -> Status
-    ensures status { result ≡ told_by status_of_lock answer }
-    ensures by { by.new ≡ refused_by by.old answer }
-{
-    match answer {
-        None => Status::Closed,
-        Some(Err(why)) => of_misuse(why),
-        Some(Ok(locked)) => {
-            match locked {
-                LockAnswer::Busy { seat } => *by = seat as u64,
-                LockAnswer::Stale { time } => *by = time,
-                LockAnswer::Held | LockAnswer::SetFull | LockAnswer::LogFull => {}
-            }
-            of_lock(locked)
-        }
-    }
-}
-
-// The status of a look for a vacant object. Where one was found it is written into `object`, and where the
-// next look may begin into `hint`.
-fn of_vacant(
-    answer: Option<Result<Option<Vacancy>, Misuse>>,
-    hint: &mut u32,
-    object: &mut u32,
-) -> Status
-    ensures status { result ≡ told_by status_of_vacant answer }
-    ensures hint { hint.new ≡ next_told hint.old answer }
-    ensures object { object.new ≡ object_told object.old answer }
-{
-    match answer {
-        None => Status::Closed,
-        Some(Err(why)) => of_misuse(why),
-        Some(Ok(None)) => Status::Full,
-        Some(Ok(Some(found))) => {
-            *hint = found.next;
-            *object = found.object;
-            of_lock(found.lock)
-        }
-    }
-}
-
-// The status of a commit. Its time, or that of the entry that came first, is written into `time`.
-fn of_committed(answer: Option<Result<CommitResult, Misuse>>, time: &mut u64) -> Status
-    ensures status { result ≡ told_by status_of_commit answer }
-    ensures time { time.new ≡ time_told time.old answer }
-{
-    match answer {
-        None => Status::Closed,
-        Some(Err(why)) => of_misuse(why),
-        Some(Ok(end)) => {
-            match end {
-                CommitResult::Done(at) => *time = at,
-                CommitResult::Again(rival) => *time = rival.time,
-                CommitResult::End => {}
-            }
-            of_commit(end)
-        }
-    }
-}
 
 /// Begins a section, whose snapshot is the whole history at one moment of this call.
 #[unsafe(no_mangle)]
 pub extern "C" fn mvrlu_raw_enter(alloc: Global, seat: &mut MvrluSeat) -> i32
     ensures tells { Tells done seat.old seat.new calls.Enters result }
 {
-    of_unit(on_open(alloc, seat, (), |seat: ObjectSeat, _none: ()| seat.enter())).code()
+    tell_made(on_open(alloc, seat, (), |seat: ObjectSeat, _none: ()| seat.enter())).code()
 }
 
 /// Reads the six words of an object in the section's state.
@@ -113,20 +32,15 @@ pub extern "C" fn mvrlu_raw_read(
     ensures tells { Tells done seat.old seat.new (λ p q a. calls.Reads p object q a × (words.new ≡ told words.old a)) result }
     ensures closed { seat.old.is_open ≡ false → words.new ≡ words.old }
 {
-    let status = match on_open(
+    let answer = on_open(
         alloc,
         seat,
         object,
-        |seat: ObjectSeat, object: u32| seat.read(object),
-    ) {
-        None => Status::Closed,
-        Some(Err(why)) => of_misuse(why),
-        Some(Ok(read)) => {
-            *words = read;
-            Status::Done
-        }
-    };
-    status.code()
+        |seat: ObjectSeat, object: u32|
+            ensures { calls.Reads seat.position object result.0.position result.1 }
+        { seat.read(object) },
+    );
+    tell_value(answer, words).code()
 }
 
 /// Reads two words of an object: that of a place from 0 to 4, and the one behind it.
@@ -141,21 +55,15 @@ pub extern "C" fn mvrlu_raw_read_pair(
     ensures tells { Tells done seat.old seat.new (λ p q a. calls.ReadsPair p object place q a × (words.new ≡ pair_told words.old a)) result }
     ensures closed { seat.old.is_open ≡ false → words.new ≡ words.old }
 {
-    let pair = on_open(
+    let answer = on_open(
         alloc,
         seat,
         (object, place),
-        |seat: ObjectSeat, at: (u32, u32)| seat.read_pair(at.0, at.1),
+        |seat: ObjectSeat, at: (u32, u32)|
+            ensures { calls.ReadsPair seat.position at.0 at.1 result.0.position result.1 }
+        { seat.read_pair(at.0, at.1) },
     );
-    let status = match pair {
-        None => Status::Closed,
-        Some(Err(why)) => of_misuse(why),
-        Some(Ok((first, second))) => {
-            *words = [first, second];
-            Status::Done
-        }
-    };
-    status.code()
+    tell_pair(answer, words).code()
 }
 
 /// Tries to hold an object, so that it takes part in the commit. Where another seat holds it, `by` is that
@@ -178,7 +86,7 @@ pub extern "C" fn mvrlu_raw_lock(
             ensures { calls.Locks seat.position object result.0.position result.1 }
         { seat.lock(object) },
     );
-    of_locked(answer, by).code()
+    tell_lock(answer, by).code()
 }
 
 /// Finds the first vacant object from `hint` on, and tries to hold it. It is written into `object`, and the
@@ -202,7 +110,7 @@ pub extern "C" fn mvrlu_raw_vacant(
             ensures { calls.TakesVacant seat.position hint result.0.position result.1 }
         { seat.vacant(hint) },
     );
-    of_vacant(answer, hint, object).code()
+    tell_vacant(answer, hint, object).code()
 }
 
 /// Gives a held object these words. Nobody else sees them before the commit.
@@ -215,7 +123,7 @@ pub extern "C" fn mvrlu_raw_write(
 ) -> i32
     ensures tells { Tells done seat.old seat.new (λ p q a. calls.Writes p object words.now q a) result }
 {
-    of_unit(on_open(
+    tell_made(on_open(
         alloc,
         seat,
         (object, *words),
@@ -244,7 +152,7 @@ pub extern "C" fn mvrlu_raw_commit(
             ensures { calls.Commits seat.position tag result.0.position result.1 }
         { seat.commit(tag) },
     );
-    of_committed(answer, time).code()
+    tell_commit(answer, time).code()
 }
 
 /// Gives up all that is held, and leaves the section.
@@ -252,7 +160,7 @@ pub extern "C" fn mvrlu_raw_commit(
 pub extern "C" fn mvrlu_raw_abort(alloc: Global, seat: &mut MvrluSeat) -> i32
     ensures tells { Tells done seat.old seat.new calls.Aborts result }
 {
-    of_unit(on_open(alloc, seat, (), |seat: ObjectSeat, _none: ()| seat.abort())).code()
+    tell_made(on_open(alloc, seat, (), |seat: ObjectSeat, _none: ()| seat.abort())).code()
 }
 
 /// Leaves a section that holds nothing.
@@ -260,7 +168,7 @@ pub extern "C" fn mvrlu_raw_abort(alloc: Global, seat: &mut MvrluSeat) -> i32
 pub extern "C" fn mvrlu_raw_leave(alloc: Global, seat: &mut MvrluSeat) -> i32
     ensures tells { Tells done seat.old seat.new calls.Leaves result }
 {
-    of_unit(on_open(alloc, seat, (), |seat: ObjectSeat, _none: ()| seat.leave())).code()
+    tell_made(on_open(alloc, seat, (), |seat: ObjectSeat, _none: ()| seat.leave())).code()
 }
 
 /// Tells the printed time of the section's snapshot.
@@ -269,15 +177,15 @@ pub extern "C" fn mvrlu_raw_time(alloc: Global, seat: &mut MvrluSeat, time: &mut
     ensures tells { Tells done seat.old seat.new (λ p q a. calls.TellsTime p q a × (time.new ≡ told time.old a)) result }
     ensures closed { seat.old.is_open ≡ false → time.new ≡ time.old }
 {
-    let status = match on_open(alloc, seat, (), |seat: ObjectSeat, _none: ()| seat.time()) {
-        None => Status::Closed,
-        Some(Err(why)) => of_misuse(why),
-        Some(Ok(at)) => {
-            *time = at;
-            Status::Done
-        }
-    };
-    status.code()
+    let answer = on_open(
+        alloc,
+        seat,
+        (),
+        |seat: ObjectSeat, _none: ()|
+            ensures { calls.TellsTime seat.position result.0.position result.1 }
+        { seat.time() },
+    );
+    tell_value(answer, time).code()
 }
 
 /// Makes room in the seat's log for one section that locks as many objects as it may.
@@ -294,7 +202,7 @@ pub extern "C" fn mvrlu_raw_prepare(alloc: Global, seat: &mut MvrluSeat) -> i32
             ensures { calls.MakesRoom seat.position result.0.position result.1 }
         { seat.prepare() },
     );
-    of_prepared(answer).code()
+    tell_room(answer).code()
 }
 
 /// Reclaims what it can of the seat's log, and tells how many slots are live afterwards.
@@ -304,15 +212,15 @@ pub extern "C" fn mvrlu_raw_tidy(alloc: Global, seat: &mut MvrluSeat, live: &mut
         (λ p q a. calls.Tidies p q a × (live.new ≡ live_told live.old a)) result }
     ensures closed { seat.old.is_open ≡ false → live.new ≡ live.old }
 {
-    let status = match on_open(alloc, seat, (), |seat: ObjectSeat, _none: ()| seat.tidy()) {
-        None => Status::Closed,
-        Some(Err(why)) => of_misuse(why),
-        Some(Ok(tidy)) => {
-            *live = tidy.live;
-            Status::Done
-        }
-    };
-    status.code()
+    let answer = on_open(
+        alloc,
+        seat,
+        (),
+        |seat: ObjectSeat, _none: ()|
+            ensures { calls.Tidies seat.position result.0.position result.1 }
+        { seat.tidy() },
+    );
+    tell_live(answer, live).code()
 }
 
 /// Tells a time that no section of the domain is below, and none ever will be.
@@ -321,13 +229,13 @@ pub extern "C" fn mvrlu_raw_grace(alloc: Global, seat: &mut MvrluSeat, time: &mu
     ensures tells { Tells done seat.old seat.new (λ p q a. calls.TellsGrace p q a × (time.new ≡ told time.old a)) result }
     ensures closed { seat.old.is_open ≡ false → time.new ≡ time.old }
 {
-    let status = match on_open(alloc, seat, (), |seat: ObjectSeat, _none: ()| seat.grace()) {
-        None => Status::Closed,
-        Some(Err(why)) => of_misuse(why),
-        Some(Ok(at)) => {
-            *time = at;
-            Status::Done
-        }
-    };
-    status.code()
+    let answer = on_open(
+        alloc,
+        seat,
+        (),
+        |seat: ObjectSeat, _none: ()|
+            ensures { calls.TellsGrace seat.position result.0.position result.1 }
+        { seat.grace() },
+    );
+    tell_value(answer, time).code()
 }

@@ -6,36 +6,19 @@ ghost use Rattle.object_seats.specs.Rules.{IsAnyState, IsAnyCommit};
 ghost use Rattle.set_blocks.specs.BlockRules.{IsBlockCommit};
 ghost use Rattle.set_script.specs.Lawful.{IsOpening};
 ghost use Rattle.shared_domain.specs.Met.{Closes, gathering_of};
-ghost use Rattle.mvrlu_c.specs.Statuses.{code_of};
-ghost use Rattle.mvrlu_c.specs.Closing.{TellsClose, status_of_close, last_told};
-ghost use Rattle.mvrlu_c.specs.declared.status.Status.TheVariants.{Closed as IsClosed};
+ghost use Rattle.c_answers.specs.Statuses.{code_of};
+ghost use Rattle.mvrlu_c.specs.Closing.{TellsClose};
+ghost use Rattle.c_answers.specs.declared.status.Status.TheVariants.{Closed as IsClosed};
 
 use crate::handle::close_by;
 use crate::object_handle::MvrluSeat;
 use crate::sets_handle::MvrluSets;
-use crate::status::Status;
 use crate::table_handle::MvrluTable;
+use c_answers::tell_closed;
 use grow_seats::GrowSeat;
-use mv_history::Protocol;
 use object_seats::ObjectSeat;
 use set_seats::SetSeat;
-use shared_domain::Closed;
 use std::alloc::Global;
-
-// The status of closing a seat. Where all seats of its domain met, the last time is written into `last`.
-fn of_closed<P: Protocol>(answer: Option<Closed<P>>, last: &mut u64) -> Status
-    ensures status { result ≡ status_of_close answer }
-    ensures last { last.new ≡ last_told last.old answer }
-{
-    match answer {
-        None => Status::Closed,
-        Some(Closed::Met(closing)) => {
-            *last = closing.time();
-            Status::Done
-        }
-        Some(Closed::Left | Closed::Unmet) => Status::No,
-    }
-}
 
 /// Closes a handle. What its section holds is given up first. Where it was the last one of its domain, all
 /// seats of the domain meet, and the time of the last entry is written into `last`.
@@ -52,7 +35,7 @@ pub extern "C" fn mvrlu_raw_close(alloc: Global, handle: &mut MvrluSeat, last: &
             ensures { Closes IsAnyState IsAnyCommit (gathering_of seat.share) result }
         { seat.close() },
     );
-    of_closed(answer, last).code()
+    tell_closed(answer, last).code()
 }
 
 /// Closes a handle of the sets, as `mvrlu_raw_close` closes one of objects.
@@ -69,7 +52,7 @@ pub extern "C" fn mvrlu_raw_sets_close(alloc: Global, handle: &mut MvrluSets, la
             ensures { Closes IsOpening IsBlockCommit (gathering_of seat.share) result }
         { seat.close() },
     );
-    of_closed(answer, last).code()
+    tell_closed(answer, last).code()
 }
 
 /// Closes a handle of a growing set, as `mvrlu_raw_close` closes one of objects.
@@ -90,5 +73,5 @@ pub extern "C" fn mvrlu_raw_table_close(
             ensures { Closes IsTableOpening IsTableCommit (gathering_of seat.share) result }
         { seat.close() },
     );
-    of_closed(answer, last).code()
+    tell_closed(answer, last).code()
 }

@@ -1,14 +1,13 @@
 // The counts of a seat of objects, for C.
 ghost use Rattle.std.specs.Prelude.{◌≡◌, false};
 ghost use Rattle.object_seats.specs.Calls as calls;
-ghost use Rattle.mvrlu_c.specs.Statuses.{done};
+ghost use Rattle.c_answers.specs.Statuses.{done};
 ghost use Rattle.mvrlu_c.specs.Told.{Tells};
-ghost use Rattle.mvrlu_c.specs.Counted.{counts_in};
+ghost use Rattle.c_answers.specs.Counted.{counts_in};
 
 use crate::handle::on_open;
 use crate::object_handle::MvrluSeat;
-use crate::sets_calls::{MvrluCounts, counts_of};
-use crate::status::{Status, of_misuse};
+use c_answers::{MvrluCounts, tell_counts};
 use object_seats::ObjectSeat;
 use std::alloc::Global;
 
@@ -22,13 +21,13 @@ pub extern "C" fn mvrlu_raw_count(
     ensures tells { Tells done seat.old seat.new (λ p q a. calls.Counts p q a × (counts.new ≡ counts_in counts.old a)) result }
     ensures closed { seat.old.is_open ≡ false → counts.new ≡ counts.old }
 {
-    let status = match on_open(alloc, seat, (), |seat: ObjectSeat, _none: ()| seat.count()) {
-        None => Status::Closed,
-        Some(Err(why)) => of_misuse(why),
-        Some(Ok(table)) => {
-            *counts = counts_of(table);
-            Status::Done
-        }
-    };
-    status.code()
+    let answer = on_open(
+        alloc,
+        seat,
+        (),
+        |seat: ObjectSeat, _none: ()|
+            ensures { calls.Counts seat.position result.0.position result.1 }
+        { seat.count() },
+    );
+    tell_counts(answer, counts).code()
 }

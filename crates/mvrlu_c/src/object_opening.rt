@@ -4,7 +4,7 @@ ghost use Rattle.mvrlu_c.specs.ObjectOpening.{Opens, OpensAs, config_of};
 
 use crate::object_handle::MvrluSeat;
 use crate::opening::{MOST_SEATS, any_is_open, give_seats};
-use crate::status::Status;
+use c_answers::Status;
 use mv_layout::Config;
 use mvrlu::OpenFault;
 use object_seats::open_seats;

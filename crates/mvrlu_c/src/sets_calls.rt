@@ -1,38 +1,47 @@
 // The calls of C on one seat of the sets.
-ghost use Rattle.std.specs.Prelude.{◌≡◌, ◌≢◌, ◌<◌, ◌≤◌, ◌⊎◌};
+ghost use Rattle.std.specs.Prelude.{◌≡◌, ◌≢◌, ◌<◌, ◌≤◌, ◌⊎◌, IfOk, IfErr};
 ghost use Rattle.mvrlu.specs.Meant.{seat_of};
 ghost use Rattle.set_script.specs.declared.commands.Command.TheVariants as command;
 ghost use Rattle.set_seats.specs.Calls.{Tidies, Counts};
 ghost use Rattle.mvrlu_c.specs.OnHandle.{IsRefused};
-ghost use Rattle.mvrlu_c.specs.SetsTold.{Answers, TellsCommand, TellsSeat, live_told, counts_told};
-ghost use Rattle.mvrlu_c.specs.Statuses.{done};
-ghost use Rattle.mvrlu_c.specs.declared.status.Status.TheVariants.{BadSet, SameSet};
+ghost use Rattle.mvrlu_c.specs.SetsTold.{Answers, TellsCommand, TellsSeat, live_told};
+ghost use Rattle.c_answers.specs.Counted.{counts_told};
+ghost use Rattle.c_answers.specs.Statuses.{done};
+ghost use Rattle.c_answers.specs.declared.status.Status.TheVariants.{BadSet, SameSet};
 
 use crate::handle::on_open;
 use crate::sets_handle::MvrluSets;
-use crate::sets_reply::{MvrluReply, told};
-use crate::status::Status;
-use mv_history::LogTable;
-use set_script::{Command, Name};
+use c_answers::{MvrluCounts, MvrluReply, Status, commands, counts_of, tell_attempt};
+use set_script::Command;
 use set_seats::SetSeat;
 use std::alloc::Global;
 
-// Attempts a command on a seat in the hands of C, and tells what it came to.
-fn attempt(alloc: Global, sets: &mut MvrluSets, command: &Command, reply: &mut MvrluReply) -> i32
-    ensures tells { TellsCommand command.now sets.old sets.new reply.old reply.new result }
+// Attempts a command on a seat in the hands of C, and tells what it came to; or why there is no command.
+fn attempt(
+    alloc: Global,
+    sets: &mut MvrluSets,
+    issued: Result<Command, Status>,
+    reply: &mut MvrluReply,
+) -> i32
+    ensures tells { IfOk issued (λ command. TellsCommand command sets.old sets.new reply.old reply.new result) }
+    ensures refused { IfErr issued (λ why. IsRefused why sets.old sets.new reply.old reply.new result) }
 {
+    let command = match issued {
+        Ok(command) => command,
+        Err(why) => return why.code(),
+    };
     let answer = on_open(
         alloc,
         sets,
         command,
-        |seat: SetSeat, command: &Command|
-            ensures { Answers command.now seat result.0 result.1 }
-        { seat.attempt(command) },
+        |seat: SetSeat, command: Command|
+            ensures { Answers command seat result.0 result.1 }
+        { seat.attempt(&command) },
     );
     match answer {
         None => Status::Closed.code(),
         Some(answer) => {
-            *reply = told(answer);
+            *reply = tell_attempt(answer);
             reply.status
         }
     }
@@ -50,10 +59,7 @@ pub extern "C" fn mvrlu_raw_sets_add(
     ensures bad { 30 ≤ set → IsRefused BadSet sets.old sets.new reply.old reply.new result }
     ensures tells { set < 30 → TellsCommand (command.Add set key) sets.old sets.new reply.old reply.new result }
 {
-    match Name::new(set) {
-        None => Status::BadSet.code(),
-        Some(name) => attempt(alloc, sets, &Command::Add { name, key }, reply),
-    }
+    attempt(alloc, sets, commands::add(set, key), reply)
 }
 
 /// Gives the key this value in the set, whether or not it is there. `NO`: it has this value already.
@@ -69,10 +75,7 @@ pub extern "C" fn mvrlu_raw_sets_put(
     ensures bad { 30 ≤ set → IsRefused BadSet sets.old sets.new reply.old reply.new result }
     ensures tells { set < 30 → TellsCommand (command.Put set key value) sets.old sets.new reply.old reply.new result }
 {
-    match Name::new(set) {
-        None => Status::BadSet.code(),
-        Some(name) => attempt(alloc, sets, &Command::Put { name, key, value }, reply),
-    }
+    attempt(alloc, sets, commands::put(set, key, value), reply)
 }
 
 /// Takes the key out of the set. `NO`: it isn't there.
@@ -87,10 +90,7 @@ pub extern "C" fn mvrlu_raw_sets_del(
     ensures bad { 30 ≤ set → IsRefused BadSet sets.old sets.new reply.old reply.new result }
     ensures tells { set < 30 → TellsCommand (command.Del set key) sets.old sets.new reply.old reply.new result }
 {
-    match Name::new(set) {
-        None => Status::BadSet.code(),
-        Some(name) => attempt(alloc, sets, &Command::Del { name, key }, reply),
-    }
+    attempt(alloc, sets, commands::del(set, key), reply)
 }
 
 /// Asks whether the set has the key: `OK`, or `NO`.
@@ -105,10 +105,7 @@ pub extern "C" fn mvrlu_raw_sets_has(
     ensures bad { 30 ≤ set → IsRefused BadSet sets.old sets.new reply.old reply.new result }
     ensures tells { set < 30 → TellsCommand (command.Has set key) sets.old sets.new reply.old reply.new result }
 {
-    match Name::new(set) {
-        None => Status::BadSet.code(),
-        Some(name) => attempt(alloc, sets, &Command::Has { name, key }, reply),
-    }
+    attempt(alloc, sets, commands::has(set, key), reply)
 }
 
 /// Asks for the value of the key in the set. `NO`: it isn't there.
@@ -123,10 +120,7 @@ pub extern "C" fn mvrlu_raw_sets_get(
     ensures bad { 30 ≤ set → IsRefused BadSet sets.old sets.new reply.old reply.new result }
     ensures tells { set < 30 → TellsCommand (command.Get set key) sets.old sets.new reply.old reply.new result }
 {
-    match Name::new(set) {
-        None => Status::BadSet.code(),
-        Some(name) => attempt(alloc, sets, &Command::Get { name, key }, reply),
-    }
+    attempt(alloc, sets, commands::get(set, key), reply)
 }
 
 /// Asks for the least key of the set that is not below this one. `NO`: there is none.
@@ -141,10 +135,7 @@ pub extern "C" fn mvrlu_raw_sets_next(
     ensures bad { 30 ≤ set → IsRefused BadSet sets.old sets.new reply.old reply.new result }
     ensures tells { set < 30 → TellsCommand (command.Next set key) sets.old sets.new reply.old reply.new result }
 {
-    match Name::new(set) {
-        None => Status::BadSet.code(),
-        Some(name) => attempt(alloc, sets, &Command::Next { name, key }, reply),
-    }
+    attempt(alloc, sets, commands::next(set, key), reply)
 }
 
 /// Asks how many keys the set has.
@@ -158,10 +149,7 @@ pub extern "C" fn mvrlu_raw_sets_size(
     ensures bad { 30 ≤ set → IsRefused BadSet sets.old sets.new reply.old reply.new result }
     ensures tells { set < 30 → TellsCommand (command.Size set) sets.old sets.new reply.old reply.new result }
 {
-    match Name::new(set) {
-        None => Status::BadSet.code(),
-        Some(name) => attempt(alloc, sets, &Command::Size { name }, reply),
-    }
+    attempt(alloc, sets, commands::size(set), reply)
 }
 
 /// Takes the key out of one set and puts it into another, with its value. `NO`: the one lacks it, or the other has it.
@@ -179,20 +167,7 @@ pub extern "C" fn mvrlu_raw_sets_move(
     ensures tells { source < 30 → target < 30 → source ≢ target
         → TellsCommand (command.Move source target key) sets.old sets.new reply.old reply.new result }
 {
-    match (Name::new(source), Name::new(target)) {
-        (Some(source), Some(target)) => {
-            if source.index() == target.index() {
-                return Status::SameSet.code();
-            }
-            let command = Command::Move {
-                source,
-                target,
-                key,
-            };
-            attempt(alloc, sets, &command, reply)
-        }
-        _ => Status::BadSet.code(),
-    }
+    attempt(alloc, sets, commands::move_key(source, target, key), reply)
 }
 
 /// Asks of each of two sets whether it has the key.
@@ -208,12 +183,7 @@ pub extern "C" fn mvrlu_raw_sets_pair(
     ensures bad { (30 ≤ first) ⊎ (30 ≤ second) → IsRefused BadSet sets.old sets.new reply.old reply.new result }
     ensures tells { first < 30 → second < 30 → TellsCommand (command.Pair first second key) sets.old sets.new reply.old reply.new result }
 {
-    match (Name::new(first), Name::new(second)) {
-        (Some(first), Some(second)) => {
-            attempt(alloc, sets, &Command::Pair { first, second, key }, reply)
-        }
-        _ => Status::BadSet.code(),
-    }
+    attempt(alloc, sets, commands::pair(first, second, key), reply)
 }
 
 /// Reclaims what it can of the seat's log, and tells how many slots are live afterwards.
@@ -235,38 +205,6 @@ pub extern "C" fn mvrlu_raw_sets_tidy(alloc: Global, sets: &mut MvrluSets, live:
             *live = tidy.live;
             Status::Done.code()
         }
-    }
-}
-
-/// The counts of a seat's log.
-#[repr(C)]
-#[derive(Clone, Copy)]
-pub struct MvrluCounts {
-    /// Commits of the seat.
-    pub commits: u64,
-    /// Sections that were aborted with something held.
-    pub aborts: u64,
-    /// Versions that were written back into their objects.
-    pub back: u64,
-    /// Slots that were freed.
-    pub freed: u64,
-    /// Entries of the seat that change nothing.
-    pub rests: u64,
-    /// Slots that are live.
-    pub live: u64,
-}
-
-// The counts of a log, as they are written for C.
-pub(crate) fn counts_of(log: LogTable) -> MvrluCounts
-    ensures { result ≡ counts_told log }
-{
-    MvrluCounts {
-        commits: log.commits,
-        aborts: log.aborts,
-        back: log.back,
-        freed: log.freed,
-        rests: log.rests,
-        live: log.live,
     }
 }
 

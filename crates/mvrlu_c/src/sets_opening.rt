@@ -4,7 +4,7 @@ ghost use Rattle.mvrlu_c.specs.SetsOpening.{Opens, OpensAs, sets_of};
 
 use crate::opening::{MOST_SEATS, any_is_open, give_seats};
 use crate::sets_handle::MvrluSets;
-use crate::status::Status;
+use c_answers::Status;
 use set_seats::{OpenSets, SetsFault, open_set_seats};
 use std::alloc::{AllocError, Global};
 

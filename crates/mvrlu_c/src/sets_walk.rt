@@ -1,11 +1,11 @@
 // A walk over the keys of one set, for C.
 ghost use Rattle.std.specs.Prelude.{◌≡◌, ◌<◌, ◌≤◌, IfOk};
 ghost use Rattle.mvrlu_c.specs.SetsWalk.{IsNoWalk, TellsWalk, Walks, key_or_none, walk_told};
-ghost use Rattle.mvrlu_c.specs.declared.status.Status.TheVariants.{BadSet};
+ghost use Rattle.c_answers.specs.declared.status.Status.TheVariants.{BadSet};
 
 use crate::handle::on_open;
 use crate::sets_handle::MvrluSets;
-use crate::status::Status;
+use c_answers::Status;
 use set_script::Name;
 use set_seats::{Entry, SetSeat, Walked};
 use std::alloc::{AllocError, Global};

@@ -3,16 +3,14 @@ ghost use Rattle.std.specs.Prelude.{◌≡◌};
 ghost use Rattle.mvrlu.specs.Meant.{seat_of};
 ghost use Rattle.grow_seats.specs.Calls.{Tidies, Counts};
 ghost use Rattle.grow_seats.specs.declared.command.GrowCommand.TheVariants as command;
-ghost use Rattle.mvrlu_c.specs.SetsTold.{live_told, counts_told};
+ghost use Rattle.mvrlu_c.specs.SetsTold.{live_told};
+ghost use Rattle.c_answers.specs.Counted.{counts_told};
 ghost use Rattle.mvrlu_c.specs.TableTold.{Answers, AnswersSplit, TellsCommand, TellsSplit, TellsSeat};
-ghost use Rattle.mvrlu_c.specs.Statuses.{done};
+ghost use Rattle.c_answers.specs.Statuses.{done};
 
 use crate::handle::on_open;
-use crate::sets_calls::{MvrluCounts, counts_of};
-use crate::sets_reply::MvrluReply;
-use crate::status::Status;
 use crate::table_handle::MvrluTable;
-use crate::table_reply::{split_told, step_told};
+use c_answers::{MvrluCounts, MvrluReply, Status, counts_of, tell_split, tell_step};
 use grow_seats::{GrowCommand, GrowSeat};
 use std::alloc::Global;
 
@@ -36,7 +34,7 @@ fn attempt(
     match answer {
         None => Status::Closed.code(),
         Some(answer) => {
-            *reply = step_told(answer);
+            *reply = tell_step(answer);
             reply.status
         }
     }
@@ -121,7 +119,7 @@ fn split(alloc: Global, table: &mut MvrluTable, reply: &mut MvrluReply) -> i32
     match answer {
         None => Status::Closed.code(),
         Some(answer) => {
-            *reply = split_told(answer);
+            *reply = tell_split(answer);
             reply.status
         }
     }

@@ -3,8 +3,8 @@ ghost use Rattle.std.specs.Prelude.{◌≡◌};
 ghost use Rattle.mvrlu_c.specs.TableOpening.{Opens, OpensAs, grown_of};
 
 use crate::opening::{MOST_SEATS, any_is_open, give_seats};
-use crate::status::Status;
 use crate::table_handle::MvrluTable;
+use c_answers::Status;
 use grow_seats::{GrownFault, OpenGrown, open_grow_seats};
 use std::alloc::{AllocError, Global};
 

@@ -2,16 +2,16 @@ use Rattle.std.proofs.Common.{ap, ◌∙◌, w32, to_z, of_z}
 use Rattle.crossbeam_utils.specs.Padded.{padded_value}
 use Rattle.grow_seats.specs.Commands.{IsTableOpening, IsTableCommit}
 use Rattle.shared_domain.specs.Met.{gathering_of}
-use Rattle.mvrlu_c.specs.Closing.{status_of_close, last_told}
-use Rattle.mvrlu_c.specs.Statuses.{code_of}
-use Rattle.mvrlu_c.proofs.Telling.{reads_back}
+use Rattle.c_answers.specs.Closings.{status_of_close, last_told}
+use Rattle.c_answers.specs.Statuses.{code_of}
+use Rattle.c_answers.proofs.Numbers.{reads_back}
 use Rattle.mvrlu_c.proofs.Closes.{tells_close}
 use Rattle.mvrlu_c.proofs.closing.mvrlu_raw_table_close.Goals as goal
 
 pub returns : goal.returns
 returns c =
     let made = c.close_by-answer in
-    let told = c.of_closed.ensures in
+    let told = c.tell_closed.ensures in
     let is = ap (λ z. to_z w32 (of_z w32 z)) (c.code.ensures ∙ ap code_of told.status) ∙ reads_back (status_of_close made.result) in
     record {
       closed = λ shut. let none = made.ensures.closed shut in

@@ -1,9 +1,11 @@
 use Rattle.std.proofs.Common.{rules, ◌≡◌, length, refl, sym, ap, ◌∙◌, Some, None}
-use Rattle.mvrlu_c.specs.SetsBlock.{status_of_block}
+use Rattle.c_answers.specs.Blocks.{status_of_block}
 use Rattle.mvrlu_c.specs.SetsBlock.TellsBlock.{no_block, attempted}
-use Rattle.mvrlu_c.specs.Statuses.{code_of}
-use Rattle.mvrlu_c.specs.declared.status.Status.TheVariants.{Closed}
-use Rattle.mvrlu_c.proofs.Blocks.{as_many_said, code_back, many_told}
+use Rattle.c_answers.specs.Statuses.{code_of}
+use Rattle.c_answers.specs.declared.status.Status.TheVariants.{Closed}
+use Rattle.c_answers.proofs.SaidBlocks.{as_many_said}
+use Rattle.c_answers.proofs.Numbers.{code_back}
+use Rattle.mvrlu_c.proofs.Blocks.{many_told}
 use Rattle.mvrlu_c.proofs.sets_block.mvrlu_raw_sets_block.Goals as goal
 
 pub returns-in-Err : goal.returns-in-Err

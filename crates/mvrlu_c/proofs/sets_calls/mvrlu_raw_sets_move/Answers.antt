@@ -1,15 +1,12 @@
-use Rattle.std.proofs.Common.{subst, w32, to_z, of_z}
 use Rattle.set_script.specs.declared.commands.Command.TheVariants as command
-use Rattle.mvrlu_c.specs.SetsTold.{TellsCommand}
-use Rattle.mvrlu_c.proofs.SetsTelling.{told_back}
+use Rattle.c_answers.specs.declared.status.Status.TheVariants.{BadSet, SameSet}
+use Rattle.mvrlu_c.proofs.SetsTelling.{issued_back, refused_back}
 use Rattle.mvrlu_c.proofs.sets_calls.mvrlu_raw_sets_move.Goals as goal
 
-pub returns-else-index-clause-tells : goal.returns-else-index-clause-tells
-returns-else-index-clause-tells c = λ lt lu other.
-    let tells = told_back _ _ _ _ _ _ c.attempt.ensures.tells in
-    subst (λ m. TellsCommand (command.Move c.args.source m c.args.key) c.args.sets.now c.attempt.new.sets c.args.reply.now c.attempt.new.reply
-    (to_z w32 (of_z w32 c.attempt.result)))
-    c.in-Some-Some.ensures'.0
-    (subst (λ n. TellsCommand (command.Move n c.in-Some-Some.target c.args.key) c.args.sets.now c.attempt.new.sets c.args.reply.now c.attempt.new.reply
-    (to_z w32 (of_z w32 c.attempt.result)))
-    c.in-Some-Some.ensures.0 tells)
+pub returns : goal.returns
+returns c = record {
+  bad = λ le. refused_back _ BadSet _ _ _ _ _ (c.move_key.ensures.bad le) c.attempt.ensures.refused;
+  same = λ lt is. refused_back _ SameSet _ _ _ _ _ (c.move_key.ensures.same lt is) c.attempt.ensures.refused;
+  tells = λ lt lu other.
+      issued_back _ (command.Move c.args.source c.args.target c.args.key) _ _ _ _ _ (c.move_key.ensures.issues lt lu other) c.attempt.ensures.tells;
+}

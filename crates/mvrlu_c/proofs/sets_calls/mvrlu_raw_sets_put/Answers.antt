@@ -1,11 +1,10 @@
-use Rattle.std.proofs.Common.{subst, w32, to_z, of_z}
 use Rattle.set_script.specs.declared.commands.Command.TheVariants as command
-use Rattle.mvrlu_c.specs.SetsTold.{TellsCommand}
-use Rattle.mvrlu_c.proofs.SetsTelling.{told_back}
+use Rattle.c_answers.specs.declared.status.Status.TheVariants.{BadSet}
+use Rattle.mvrlu_c.proofs.SetsTelling.{issued_back, refused_back}
 use Rattle.mvrlu_c.proofs.sets_calls.mvrlu_raw_sets_put.Goals as goal
 
-pub returns-in-Some-clause-tells : goal.returns-in-Some-clause-tells
-returns-in-Some-clause-tells c = λ lt.
-    subst (λ n. TellsCommand (command.Put n c.args.key c.args.value) c.args.sets.now c.attempt.new.sets c.args.reply.now c.attempt.new.reply
-    (to_z w32 (of_z w32 c.attempt.result))) c.in-Some.ensures.0
-    (told_back _ _ _ _ _ _ c.attempt.ensures.tells)
+pub returns : goal.returns
+returns c = record {
+  bad = λ le. refused_back _ BadSet _ _ _ _ _ (c.put.ensures.bad le) c.attempt.ensures.refused;
+  tells = λ lt. issued_back _ (command.Put c.args.set c.args.key c.args.value) _ _ _ _ _ (c.put.ensures.issues lt) c.attempt.ensures.tells;
+}

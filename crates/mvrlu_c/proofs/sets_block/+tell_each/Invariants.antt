@@ -1,5 +1,0 @@
-use Rattle.std.specs.Prelude.{length}
-use Rattle.mvrlu_c.proofs.sets_block.+tell_each.Given as goal
-
-abbrev pub decreases-tell_each : goal.decreases-tell_each
-decreases-tell_each l = length l.replies.now

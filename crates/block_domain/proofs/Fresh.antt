@@ -1,18 +1,11 @@
 -- A block that changes nothing is no older than what its seat had seen when it began.
-use Rattle.std.proofs.Common.{◌≡◌, ℕ, ◌+◌, ◌-◌, ◌≤◌, List, Some}
-use Rattle.std.specs.List.{slice_get}
-use Rattle.mv_history.specs.declared.history.Entry.{Entry}
 use Rattle.mv_history.specs.Calls.{Continues, IsEntryAt}
-use Rattle.mv_history.specs.Meaning.{Seat}
-use Rattle.set_script.specs.declared.commands.Command.{Command}
-use Rattle.set_script.specs.declared.commands.Reply.{Reply}
 use Rattle.section_work.specs.Causes.{Causes}
-use Rattle.section_work.specs.declared.place.Place.TheVariants.{Read}
 use Rattle.mvrlu.specs.Whole.{Whole}
-use Rattle.domain_loan.specs.Met.{HasMet}
 use Rattle.domain_lines.proofs.Fresh.{fresh_between}
 use Rattle.block_workers.specs.BlockLinks.{LinkedBlock}
-use Rattle.block_workers.proofs.Fresh.{linked_fresh}
+use Rattle.block_workers.proofs.BlockChains.{linked_fresh}
+use Rattle.block_domain.proofs.Terms.{◌≡◌, ◌+◌, ◌-◌, ◌≤◌, ℕ, List, Some, slice_get, Entry, Seat, Command, Reply, Read, HasMet}
 
 -- On a seat's way from its first to the one that met a block was begun at one seat, and it changed nothing. Then each entry that this seat had
 -- seen stands in the whole history, at its printed time, and the block's place isn't below that.

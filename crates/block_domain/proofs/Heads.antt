@@ -1,28 +1,10 @@
 -- The blocks of the seats as steps in the history: each stands there by its head.
-use Rattle.std.proofs.Common.{◌≡◌, ℕ, suc, ◌+◌, ◌≤◌, cond, List, [], ◌∷◌, ◌++◌, length, map, refl, sym, ap, ◌∙◌, arith}
-use Rattle.std.specs.List.{All}
-use Rattle.std.proofs.lemmas.List.{map-append}
-use Rattle.std.proofs.lemmas.List.Elements.{All-weaker}
-use Rattle.std.proofs.lemmas.List.Sums.{sum_by-cons}
-use Rattle.mv_history.specs.declared.history.Commit.{Commit}
-use Rattle.mv_history.specs.State.{commits_of}
-use Rattle.set_script.specs.declared.commands.Command.{Command}
-use Rattle.section_work.specs.declared.place.Place.{Place}
-use Rattle.section_work.specs.declared.place.Place.TheVariants.{Commit as AtCommit, Read}
-use Rattle.set_script.specs.declared.commands.Reply.{Reply}
-use Rattle.run_report.specs.declared.line.Line.{Line}
-use Rattle.run_report.specs.Order.{time_of}
-use Rattle.run_report.specs.Legal.{EachPair}
-use Rattle.run_report.specs.Worked.{Past}
-use Rattle.run_report.specs.Whole.{commit_lines, is_commit_of}
+use Rattle.section_work.specs.declared.place.Place.TheVariants.{Commit as AtCommit}
 use Rattle.run_report.proofs.history.Groups.{AllSteps, flat}
-use Rattle.run_report.proofs.history.Steps.{IsPlaced, StepsOf}
-use Rattle.block_workers.specs.BlockLines.{DoneBlock}
-use Rattle.block_workers.specs.BlockRuns.{BlockPlaceOf, BlocksOf}
-use Rattle.block_domain.specs.Legal.{head_of}
-use Rattle.block_domain.specs.Whole.{commit_blocks}
-use Rattle.block_domain.proofs.Mapped.{all_unmap}
-use Rattle.block_domain.proofs.Known.{AllDone, flat_done}
+use Rattle.block_domain.proofs.Terms.{◌≡◌, ◌+◌, ◌≤◌, ◌∷◌, ◌++◌, ◌∙◌, ℕ, suc, cond, List, [], length, map, refl, sym, ap, arith, All, map-append, All-weaker}
+use Rattle.block_domain.proofs.Terms.{sum_by-cons, Commit, commits_of, Command, Place, Read, Reply, Line, time_of, EachPair, Past, commit_lines, is_commit_of}
+use Rattle.block_domain.proofs.Terms.{IsPlaced, StepsOf, DoneBlock, BlockPlaceOf, BlocksOf, head_of, commit_blocks}
+use Rattle.block_domain.proofs.Known.{all_unmap, AllDone, flat_done}
 
 module _ (p : Past) where
   block_placed : (seat : ℕ) (block : List Command) (place : Place) (answers : List Reply) (commits : List Commit)

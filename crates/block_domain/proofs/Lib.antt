@@ -1,8 +1,6 @@
-pub mod Mapped
+pub mod Terms
 pub mod Known
 pub mod Heads
-pub mod Numbers
 pub mod Lines
-pub mod BlockReplay
 pub mod OneRun
 pub mod Fresh

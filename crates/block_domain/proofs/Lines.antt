@@ -1,33 +1,86 @@
--- The lines of the blocks of all seats: which block each is of, and what holds of them.
-use Rattle.std.proofs.Common.{◌≡◌, ℕ, suc, ◌+◌, ◌<◌, ◌≤◌, IsTrue, List, [], ◌∷◌, ◌++◌, length, map, get_or, sum_by}
-use Rattle.std.proofs.Common.{Some, refl, sym, ap, ◌∙◌, subst, arith}
-use Rattle.std.proofs.Common.{add-one, append_assoc, length-append}
-use Rattle.std.specs.List.{All, flat_map, slice_index_or}
+-- The lines of the blocks of all seats: their numbers, which block each is of, and what holds of them.
+use Rattle.std.proofs.lemmas.Bool.Decides.{nat_tests}
 use Rattle.std.specs.Option.{IsSomeAnd}
-use Rattle.std.proofs.lemmas.List.{map-append}
-use Rattle.std.proofs.lemmas.List.Concat.{flat_map-append}
-use Rattle.std.proofs.lemmas.List.Elements.{All-nil, All-cons, All-push, All-append, All-weaker}
-use Rattle.std.proofs.lemmas.List.Sums.{sum_by_push}
 use Rattle.std.proofs.Math.Seq.{get_or-append_seam}
-use Rattle.mv_history.specs.declared.history.Commit.{Commit}
-use Rattle.mv_history.specs.State.{commits_of}
-use Rattle.set_script.specs.declared.commands.Command.{Command}
-use Rattle.section_work.specs.declared.place.Place.{Place}
-use Rattle.set_script.specs.declared.commands.Reply.{Reply}
-use Rattle.run_report.specs.declared.line.Line.{Line}
-use Rattle.run_report.specs.Order.{time_of}
-use Rattle.run_report.specs.Legal.{EachPair, Follows, IsInTime, IsAlone, id_of, ids_from, ids_of, is_commit}
-use Rattle.run_report.specs.Worked.{Past}
-use Rattle.run_report.proofs.history.Steps.{IsSamePlace}
-use Rattle.block_workers.specs.BlockLines.{DoneBlock, lines_at, lines_of}
-use Rattle.block_workers.specs.BlockRuns.{BlockPlaceOf, BlocksOf}
-use Rattle.block_workers.proofs.BlockPlaces.{place_count}
-use Rattle.block_domain.specs.Legal.{commands_of, start_from, start_of, block_from, block_of, head_of, IsOfOnePlace, IsInBlockTime, IsOfOneBlock}
-use Rattle.block_domain.specs.Whole.{BlockStandsIn}
-use Rattle.block_domain.proofs.Mapped.{all_unmap, all_flat}
-use Rattle.block_domain.proofs.Known.{AllDone, flat_done}
+use Rattle.block_domain.proofs.Terms.{◌≡◌, ◌+◌, ◌<◌, ◌≤◌, ◌==◌, if◌then◌else◌, ◌∷◌, ◌++◌, ◌∙◌, ℕ, suc, nat_lt, Bool, true, false, List, [], length, map, sum_by}
+use Rattle.block_domain.proofs.Terms.{Some, refl, ap, arith, All, All-head, All-tail, sum_by-cons, Command, Place, Reply, id_of, ids_from, lines_at, start_from}
+use Rattle.block_domain.proofs.Terms.{block_from, IsTrue, get_or, sym, subst, add-one, append_assoc, length-append, flat_map, slice_index_or, map-append}
+use Rattle.block_domain.proofs.Terms.{flat_map-append, All-nil, All-cons, All-push, All-append, All-weaker, sum_by_push, Commit, commits_of, Line, time_of}
+use Rattle.block_domain.proofs.Terms.{EachPair, Follows, IsInTime, IsAlone, ids_of, is_commit, Past, IsSamePlace, DoneBlock, lines_of, BlockPlaceOf, BlocksOf}
+use Rattle.block_domain.proofs.Terms.{place_count, commands_of, start_of, block_of, head_of, IsOfOnePlace, IsInBlockTime, IsOfOneBlock, BlockStandsIn}
+use Rattle.block_domain.proofs.Known.{all_unmap, all_flat, AllDone, flat_done}
 use Rattle.block_domain.proofs.Heads.{pairs_of_heads}
-use Rattle.block_domain.proofs.Numbers.{start_there, block_there, ids_append, lines_ids}
+
+if_true : {A : Type 0} (b : Bool) (x y : A) → b ≡ true → (if b then x else y) ≡ x
+if_true true x y e = refl
+if_true false x y e = absurd (cc)
+
+if_false : {A : Type 0} (b : Bool) (x y : A) → b ≡ false → (if b then x else y) ≡ y
+if_false true x y e = absurd (cc)
+if_false false x y e = refl
+
+below : (a b : ℕ) → a < b → nat_lt a b ≡ true
+below a b lt = grind (arith, nat_tests)
+
+not_below : (a b : ℕ) → b ≤ a → nat_lt a b ≡ false
+not_below a b le = grind (arith, nat_tests)
+
+itself : (a b : ℕ) → a ≡ b → (a == b) ≡ true
+itself a b e = grind (arith, nat_tests)
+
+another : (a b : ℕ) → b < a → (a == b) ≡ false
+another a b lt = grind (arith, nat_tests)
+
+-- a number behind those of the blocks before, and within a block, is of that block
+pub start_there : (first : ℕ) (front : List (List Command)) (block : List Command) (back : List (List Command)) (number : ℕ)
+    → first + sum_by length front ≤ number → number < first + sum_by length front + length block
+    → start_from first (front ++ block ∷ back) number ≡ first + sum_by length front
+start_there first [] block back number low high =
+    let none : first ≡ first + 0 = omega arith in
+    let early = below number (first + length block) (omega (arith, high)) in
+    if_true (nat_lt number (first + length block)) first (start_from (first + length block) back number) early ∙ none
+start_there first (f ∷ front) block back number low high =
+    let total : sum_by length (f ∷ front) ≡ length f + sum_by length front = sum_by-cons length f front in
+    let rest = start_there (first + length f) front block back number (omega (arith, low, total)) (omega (arith, high, total)) in
+    let same : first + length f + sum_by length front ≡ first + sum_by length (f ∷ front) = omega (arith, total) in
+    if_false (nat_lt number (first + length f)) first (start_from (first + length f) (front ++ block ∷ back) number)
+    (not_below number (first + length f) (omega (arith, low, total)))
+    ∙ rest
+    ∙ same
+
+-- the block that begins behind those before
+pub block_there : (first : ℕ) (front : List (List Command)) (block : List Command) (back : List (List Command)) → All (λ b. 1 ≤ length b) front
+    → block_from first (front ++ block ∷ back) (first + sum_by length front) ≡ Some block
+block_there first [] block back some =
+    let none : first + 0 ≡ first = omega arith in
+    if_true (first + 0 == first) (Some block) (block_from (first + length block) back (first + 0)) (itself (first + 0) first none)
+block_there first (f ∷ front) block back some =
+    let total : sum_by length (f ∷ front) ≡ length f + sum_by length front = sum_by-cons length f front in
+    let one : 1 ≤ length f = All-head (λ b. 1 ≤ length b) f front some in
+    let same : first + sum_by length (f ∷ front) ≡ first + length f + sum_by length front = omega (arith, total) in
+    let at : ℕ = first + sum_by length (f ∷ front) in
+    if_false (at == first) (Some f) (block_from (first + length f) (front ++ block ∷ back) at)
+    (another (first + sum_by length (f ∷ front)) first (omega (arith, total, one)))
+    ∙ ap (block_from (first + length f) (front ++ block ∷ back)) same
+    ∙ block_there (first + length f) front block back (All-tail (λ b. 1 ≤ length b) f front some)
+
+-- the numbers of commands and of those behind them
+pub ids_append : (seat number : ℕ) (commands others : List Command)
+    → ids_from seat number (commands ++ others) ≡ ids_from seat number commands ++ ids_from seat (number + length commands) others
+ids_append seat number [] others = let none : number ≡ number + 0 = omega arith in ap (λ n. ids_from seat n others) none
+ids_append seat number (command ∷ commands) others =
+    let next : suc number + length commands ≡ number + length (command ∷ commands) = omega arith in
+    ap (λ (ids : List (ℕ × ℕ)). (seat, number) ∷ ids)
+    (ids_append seat (suc number) commands others ∙ ap (λ n. ids_from seat (suc number) commands ++ ids_from seat n others) next)
+
+-- the lines of a block are numbered as its commands are
+pub lines_ids : (seat number : ℕ) (place : Place) (answers : List Reply) (block : List Command) → length answers ≡ length block
+    → map id_of (lines_at seat number place answers) ≡ ids_from seat number block
+lines_ids seat number place [] [] count = refl
+lines_ids seat number place [] (command ∷ block) count = absurd (omega (arith, count))
+lines_ids seat number place (answer ∷ answers) [] count = absurd (omega (arith, count))
+lines_ids seat number place (answer ∷ answers) (command ∷ block) count =
+    ap (λ (ids : List (ℕ × ℕ)). (seat, number) ∷ ids) (lines_ids seat (suc number) place answers block (omega (arith, count)))
 
 -- The line is of this block: of its seat, at its place, and with a number of one of its commands.
 pub record IsLineOf (scripts : List (List (List Command))) (d : DoneBlock) (line : Line) : Type 0 where

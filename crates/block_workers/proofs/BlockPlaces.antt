@@ -6,10 +6,9 @@ use Rattle.set_blocks.specs.declared.attempt.BlockAttempt.TheVariants.{Done}
 use Rattle.set_blocks.specs.BlockAttempts.{BlockAttempted}
 use Rattle.set_blocks.specs.BlockRules.{IsBlockCommit}
 use Rattle.mv_history.specs.declared.history.Entry.{Entry}
-use Rattle.std.proofs.Common.{◌≡◌, ◌+◌, ◌-◌, ◌==◌}
-use Rattle.block_workers.proofs.Terms.{ℕ, false, List, length, refl, sym, ap, ◌∙◌, arith, length-append, slice_get_within, Commit, Change, State, Seat, IsSeat}
-use Rattle.block_workers.proofs.Terms.{catalogue_of, IsOpening, capacity, Command, Place, AtCommit, Read, Reply, Causes, Past, past_of, state_of_time}
-use Rattle.block_workers.proofs.Terms.{same_room, ran_commit, ran_read, ran_after, LinkedBlock, BlockPlaceOf, RanBlock}
+use Rattle.block_workers.proofs.Terms.{◌≡◌, ◌+◌, ◌-◌, ◌==◌, ◌∙◌, ℕ, false, List, length, refl, sym, ap, arith, length-append, slice_get_within, Commit, Change}
+use Rattle.block_workers.proofs.Terms.{State, Seat, IsSeat, catalogue_of, IsOpening, capacity, Command, Place, AtCommit, Read, Reply, Causes, Past, past_of}
+use Rattle.block_workers.proofs.Terms.{state_of_time, same_room, ran_commit, ran_read, ran_after, LinkedBlock, BlockPlaceOf, RanBlock}
 
 -- an attempt that is done
 done_at : (k : Causes) (s t : Seat) (block : List Command) (place : Place) (answers : List Reply) → IsSeat IsOpening IsBlockCommit t

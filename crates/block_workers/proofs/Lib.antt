@@ -1,6 +1,3 @@
 pub mod Terms
 pub mod BlockPlaces
 pub mod BlockChains
-pub mod BlockRows
-pub mod AllBlocks
-pub mod Fresh

@@ -26,17 +26,12 @@
 //!   changes nothing;
 //! - the places follow what was seen before the run, and one another: a commit is later, and a read is no earlier.
 //!
-//! Nothing is said of what other seats do meanwhile: this holds at every interleaving. Each block is tried until it is
-//! done, so a run ends only where others let it, and takes a `Wait`. No clause speaks of the gate's calls.
-//!
-//! All memory is taken before the workers start. Want of it is the one error, and leaves the stores untouched.
+//! Of other seats, of the end of a run, of the gate and of want of memory is said what `item_workers` says.
 //!
 //! # How it is proved
 //!
-//! [`Blocks`], a store that does blocks, is a `Runner` of `item_workers`, which has the threads and gives the chain. One
-//! attempt's contract (`set_blocks`) speaks of the history that was seen then. From it comes the place of a block
-//! (`proofs/BlockPlaces.antt`), which stays its place in each longer history; and so a chain is a run, by its first block
-//! and the chain behind it (`proofs/BlockChains.antt`).
+//! [`Blocks`], a store that does blocks, is a `Runner` of `item_workers`. The proof goes as that of `script_workers`: a block
+//! has its place (`proofs/BlockPlaces.antt`), and so a chain is a run (`proofs/BlockChains.antt`).
 //!
 //! # Its place
 //!

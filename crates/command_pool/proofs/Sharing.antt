@@ -1,9 +1,9 @@
 -- Each use of the queue keeps its rule.
 use Rattle.crossbeam_queue.specs.Fifo.{Pushes, Pops, Forks, Merges, Learns}
-use Rattle.std.proofs.Common.{◌≡◌, ◌+◌, ◌-◌, ◌<◌, ◌≤◌, ◌∷◌, ◌++◌, ℕ, suc, List, [], length, set, refl, sym, ap, ◌∙◌, subst, arith}
-use Rattle.command_pool.proofs.Terms.{some, get_elem?, hand, all_parts, total, total_to, numbers_from, IsRising, IsShared, Hand}
-use Rattle.command_pool.proofs.Totals.{total-append, total_set, total_whole, each_set, each_push, numbers_more, length-numbers_from, numbers_first}
-use Rattle.command_pool.proofs.Totals.{rising_higher, rising_more}
+use Rattle.command_pool.proofs.Terms.{◌≡◌, ◌+◌, ◌-◌, ◌<◌, ◌≤◌, ◌∷◌, ◌++◌, ◌∙◌, ℕ, suc, List, [], length, set, refl, sym, ap, subst, arith, some, get_elem?}
+use Rattle.command_pool.proofs.Terms.{hand, all_parts, total, total_to, numbers_from, IsRising, IsShared, Hand}
+use Rattle.command_pool.proofs.Gathering.{total-append, total_set, total_whole, each_set, each_push, numbers_more, length-numbers_from, numbers_first}
+use Rattle.command_pool.proofs.Gathering.{rising_higher, rising_more}
 
 abbrev parts_of : Hand → ℕ
 parts_of v = v.parts

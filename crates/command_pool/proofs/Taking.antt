@@ -1,9 +1,13 @@
--- What a worker took, turn by turn.
-use Rattle.std.proofs.Common.{◌≡◌, ◌-◌, ◌<◌, ◌∷◌, ◌++◌, ℕ, zero, suc, List, [], length, map, All, Some, slice_get, refl, sym, ap, ◌∙◌, subst, arith}
-use Rattle.command_pool.proofs.Terms.{append_assoc, All-nil, All-cons, Serves, Seat, Command, Place, Reply, Causes, Line, command_at, Answer, Chain, answered}
-use Rattle.command_pool.proofs.Terms.{line_of, LinkedDone, hand, last_of, GaveTurn, HasEnded, AreTaken, view, IsSamePass, Hand, Turns}
-use Rattle.command_pool.proofs.Totals.{last_push}
-use Rattle.command_pool.proofs.Gathering.{number_of}
+-- What a worker took, turn by turn, which is a run, and what all workers of a pool did.
+use Rattle.std.proofs.Common.{Global}
+use Rattle.std.proofs.lemmas.Option.{slice_get_within}
+use Rattle.script_workers.proofs.Runs.{chain_ran, chain_lines}
+use Rattle.command_pool.proofs.Terms.{◌≡◌, ◌-◌, ◌<◌, ◌∷◌, ◌++◌, ◌∙◌, ◌+◌, ◌≤◌, flat_map, ℕ, zero, suc, List, [], length, map, All, Some, slice_get, refl, sym}
+use Rattle.command_pool.proofs.Terms.{ap, subst, arith, Vec, append_assoc, All-nil, All-cons, Serves, Seat, Command, Place, Reply, Causes, Line, command_at}
+use Rattle.command_pool.proofs.Terms.{Answer, Chain, answered, line_of, LinkedDone, hand, last_of, GaveTurn, HasEnded, AreTaken, view, IsSamePass, Hand, Turns}
+use Rattle.command_pool.proofs.Terms.{All-head, All-tail, HaveNumbers, lines_from, Took, TookLinked, IsServedTo, EachServed, row_of, total, total_to, EachSeat}
+use Rattle.command_pool.proofs.Terms.{PoolRan, QueueOf, IsBegun, IsLent, taken_of}
+use Rattle.command_pool.proofs.Gathering.{last_push, number_of, Gathered, gathered_none, gathered_more, each_once, all_told}
 
 -- a hand of one part is known by what it took
 pub hand_is : (v : Hand) (taken : List ℕ) → v ≡ hand 1 0 taken → v ≡ hand 1 0 v.taken
@@ -73,3 +77,124 @@ module _ (k : Causes) (seat : ℕ) where
         by = All-cons (λ (line : Line). line.seat ≡ seat) (line_of d) (map line_of ds) h.2.by others.by;
         chain = (h.0, h.2.linked, others.chain);
       }
+
+-- these answers, numbered from this number on
+abbrev renumbered : ℕ → List (Answer (Place × Reply)) → List (Answer (Place × Reply))
+renumbered number [] = []
+renumbered number (d ∷ ds) = record { seat = d.seat; number = number; done = d.done } ∷ renumbered (suc number) ds
+
+module _ (k : Causes) where
+  -- A chain whose answers are by one seat is that of a script, with its answers numbered on.
+  did_renumbered : (s t : Seat) (seat number : ℕ) (script : List Command) (ds : List (Answer (Place × Reply))) → Chain (answered (LinkedDone k)) s t script ds
+      → All (λ (line : Line). line.seat ≡ seat) (map line_of ds)
+      → Chain (answered (LinkedDone k)) s t script (renumbered number ds) × HaveNumbers (λ (c : Command). 1) seat number script (renumbered number ds)
+  did_renumbered s t seat number [] [] c by = (c, tt)
+  did_renumbered s t seat number (i ∷ script) (d ∷ ds) c by =
+      let next : suc number ≡ number + 1 = omega arith in
+      let others = did_renumbered c.0 t seat (suc number) script ds c.2 (All-tail (λ (line : Line). line.seat ≡ seat) (line_of d) (map line_of ds) by) in (
+        (c.0, c.1, others.0),
+        (
+          All-head (λ (line : Line). line.seat ≡ seat) (line_of d) (map line_of ds) by,
+          refl,
+          subst (λ n. HaveNumbers (λ (c : Command). 1) seat n script (renumbered (suc number) ds)) next others.1,
+        ),
+      )
+  did_renumbered s t seat number _ _ c by = absurd c
+
+lines_renumbered : (number : ℕ) (ds : List (Answer (Place × Reply))) → map line_of (renumbered number ds) ≡ lines_from number (map line_of ds)
+lines_renumbered number [] = refl
+lines_renumbered number (d ∷ ds) =
+    let l : Line = record { seat = d.seat; number = number; place = d.done.0; reply = d.done.1 } in
+    ap (λ ls. l ∷ ls) (lines_renumbered (suc number) ds)
+
+-- a seat that did these commands in a chain took them, one after another
+pub took_of : (k : Causes) (commands : List Command) (s t : Seat) (script : List Command) (ds : List (Answer (Place × Reply)))
+    → AreTaken commands 0 (map line_of ds) script → All (λ (line : Line). line.seat ≡ s.number) (map line_of ds)
+    → Chain (answered (LinkedDone k)) s t script ds → Took commands s t (map line_of ds) × TookLinked k commands s t (map line_of ds)
+took_of k commands s t script ds rising by c =
+    let did = did_renumbered k s t s.number 1 script ds c by in
+    let ran = chain_ran k s t script (renumbered 1 ds) (record { chain = did.0; numbers = did.1 }) in (
+      record { script = script; rising = rising; ran = rw (← lines_renumbered 1 ds) ran },
+      record { script = script; rising = rising; by = by; chain = chain_lines k s t script ds c },
+    )
+
+-- a number that has a command is not above their count
+command_within : (commands : List Command) (number : ℕ) (command : Command) → command_at commands number ≡ Some command → number ≤ length commands
+command_within commands zero command at = absurd (cc)
+command_within commands (suc before) command at = omega (arith, slice_get_within commands before command at)
+
+pub taken_within : (commands : List Command) (before : ℕ) (taken : List Line) (script : List Command) → AreTaken commands before taken script
+    → All (λ (line : Line). line.number ≤ length commands) taken
+taken_within commands before [] [] are = All-nil (λ (line : Line). line.number ≤ length commands)
+taken_within commands before (line ∷ taken) (command ∷ script) are =
+    All-cons (λ (l : Line). l.number ≤ length commands) line taken (command_within commands line.number command are.1)
+    (taken_within commands line.number taken script are.2)
+taken_within commands before _ _ are = absurd are
+
+module _ (k : Causes) {Q A : Type 0} (queue : QueueOf Q A) (commands : List Command) where
+  -- What one worker did in its turns, and what its pass took: the numbers of its lines, and an end mark.
+  record SeatDone (s t : Seat) (b : Turns) (taken : List Line) : Type 0 where
+    pub lent : IsLent queue b
+    pub mark : ℕ
+    pub beyond : length commands < mark
+    pub numbers : taken_of b ≡ map number_of taken ++ mark ∷ []
+    pub within : All (λ (line : Line). line.number ≤ length commands) taken
+    pub took : Took commands s t taken
+    pub linked : TookLinked k commands s t taken
+
+  seat_done : (s t : Seat) (a b : Turns) (ds : List (Answer (Place × Reply))) → IsBegun queue commands a
+      → IsServedTo (λ (u : Seat). u) (LinkedDone k) GaveTurn HasEnded s a t b ds → SeatDone s t b (map line_of ds)
+  seat_done s t a b ds begun to =
+      let served = to.served in
+      let done = turns_done k s.number s a to.end served.last b ds served.serves served.ended_is in
+      let rising : AreTaken commands 0 (map line_of ds) done.script =
+      subst (λ n. AreTaken commands n (map line_of ds) done.script) (ap last_of begun.none_taken)
+      (subst (λ cs. AreTaken cs (last_of (view a.pass).taken) (map line_of ds) done.script) begun.commands_are done.rising) in
+      let took = took_of k commands s to.end done.script ds rising done.by done.chain in
+      record {
+        lent = record {
+          pass = (done.pass.0 ∙ begun.pass.0, done.pass.2 ∙ begun.pass.1);
+          view_is = hand_is (view b.pass) ((view a.pass).taken ++ (map number_of (map line_of ds) ++ done.mark ∷ [])) done.view_is;
+        };
+        mark = done.mark;
+        beyond = subst (λ cs. length cs < done.mark) begun.commands_are done.beyond;
+        numbers = ap (λ (v : Hand). v.taken) done.view_is ∙ ap (λ xs. xs ++ (map number_of (map line_of ds) ++ done.mark ∷ [])) begun.none_taken;
+        within = taken_within commands 0 (map line_of ds) done.script rising;
+        took = subst (λ (u : Seat). Took commands s u (map line_of ds)) to.seat_is took.0;
+        linked = subst (λ (u : Seat). TookLinked k commands s u (map line_of ds)) to.seat_is took.1;
+      }
+
+  -- What all workers did, and what their passes took.
+  pub record PoolDone (olds news : List Seat) (after : List Turns) (lines : List Line) : Type 0 where
+    pub lent : All (IsLent queue) after
+    pub many : length after ≡ length olds
+    pub gathered : Gathered (length commands) (flat_map taken_of after) (length olds) lines
+    pub took : EachSeat (Took commands) olds news lines
+    pub linked : EachSeat (TookLinked k commands) olds news lines
+
+  pub pool_done : (os : List Seat) (begun : List Turns) (ns : List Seat) (after : List Turns) (rows : List (Vec (Answer (Place × Reply)) Global))
+      → All (IsBegun queue commands) begun → EachServed (λ (u : Seat). u) (LinkedDone k) GaveTurn HasEnded os begun ns after rows
+      → PoolDone os ns after (flat_map row_of rows)
+  pool_done [] [] [] [] [] all h =
+      record { lent = All-nil (IsLent queue); many = refl; gathered = gathered_none (length commands); took = refl; linked = refl }
+  pool_done (o ∷ os) (a ∷ begun) (n ∷ ns) (b ∷ after) (r ∷ rows) all h =
+      let one = seat_done o n a b r.items (All-head (IsBegun queue commands) a begun all) h.0 in
+      let others = pool_done os begun ns after rows (All-tail (IsBegun queue commands) a begun all) h.1 in
+      record {
+        lent = All-cons (IsLent queue) b after one.lent others.lent;
+        many = ap suc others.many;
+        gathered = gathered_more (length commands) (taken_of b) (flat_map taken_of after) (length os) (row_of r) (flat_map row_of rows) one.mark
+            one.numbers one.within one.beyond others.gathered;
+        took = (row_of r, flat_map row_of rows, refl, one.took, others.took);
+        linked = (row_of r, flat_map row_of rows, refl, one.linked, others.linked);
+      }
+  pool_done _ _ _ _ _ all h = absurd h
+
+  -- So the pool did each command once, where its passes took each number up to one.
+  pub pool_ran : (os ns : List Seat) (after : List Turns) (lines : List Line) → 1 ≤ length os → PoolDone os ns after lines
+      → (done : ℕ) → ((f : ℕ → ℕ) → total f (flat_map taken_of after) ≡ total_to f done) → PoolRan os ns commands lines
+  pool_ran os ns after lines some h done once = record {
+    once = each_once (length commands) (flat_map taken_of after) (length os) lines h.gathered some done once;
+    count = all_told (length commands) (flat_map taken_of after) (length os) lines h.gathered some done once;
+    each = h.took;
+  }

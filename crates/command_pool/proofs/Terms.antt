@@ -3,7 +3,7 @@ pub use Rattle.std.proofs.Common.{get_or, ◌≡◌, ◌≢◌, ℕ, zero, suc, 
 pub use Rattle.std.proofs.Common.{ap, ◌∙◌, arith, eq-eqb, ne_eqb, Vec, subst, Some, ◌-◌, set, sym, slice_get, append_assoc, ⊎_elim, vec_capacity, vec_len}
 pub use Rattle.std.proofs.lemmas.List.{map-append, length-map, length_push}
 pub use Rattle.std.proofs.lemmas.List.Elements.{All-nil, All-cons, All-append, All-map, All-head, All-tail}
-pub use Rattle.script_workers.specs.Terms.{Line, flat_map, Global, Seat, Command, Place, Reply, Causes, Answer, command_at, Chain, HaveNumbers, answered}
+pub use Rattle.script_workers.specs.Terms.{Line, flat_map, Seat, Command, Place, Reply, Causes, Answer, command_at, Chain, HaveNumbers, answered}
 pub use Rattle.item_workers.specs.Serving.{IsServedTo, EachServed, Serves}
 pub use Rattle.script_workers.specs.Lines.{line_of, row_of}
 pub use Rattle.script_workers.specs.Links.{LinkedDone}

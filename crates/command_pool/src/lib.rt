@@ -21,10 +21,8 @@
 //! it was done, and its place is that of its own attempt (`Linked` in `script_workers`). So a read's snapshot holds all that
 //! the seat had seen when the command began (`linked_fresh` there): nothing is answered from memory.
 //!
-//! Nothing is said of which worker takes which command, nor of what other seats do meanwhile: this holds at every
-//! interleaving. A run ends only where others let it, and takes a `Wait`. No clause speaks of the gate's calls.
-//!
-//! All memory is taken before the workers start. Want of it is the one error, and leaves the stores untouched.
+//! Nothing is said of which worker takes which command. Of other seats, of the end of a run, of the gate and of want of memory is
+//! said what `item_workers` says.
 //!
 //! # How it is proved
 //!
@@ -35,7 +33,7 @@
 //! number was taken exactly once (`proofs/Gathering.antt`).
 //!
 //! A worker's turns, its part of the pass over the commands, are a `Source` of `item_workers`, which has the threads and gives
-//! the chain (`proofs/Taking.antt`). With its lines numbered from 1 a chain is a run (`proofs/Runs.antt`).
+//! the chain. With its lines numbered from 1 a chain is a run (`proofs/Taking.antt`).
 //!
 //! # Its place
 //!

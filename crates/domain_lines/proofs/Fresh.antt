@@ -1,16 +1,10 @@
 -- A section is no older than what its seat had seen when its work began.
-use Rattle.std.proofs.Common.{◌≡◌, ℕ, zero, suc, ◌+◌, ◌-◌, ◌<◌, ◌≤◌, List, [], ◌∷◌, ◌++◌, length, drop, Some}
-use Rattle.std.proofs.Common.{sym, ap, ◌∙◌, subst, arith}
-use Rattle.std.specs.List.{slice_get}
-use Rattle.std.proofs.lemmas.List.{take-append-drop}
 use Rattle.mv_history.specs.declared.history.Entry.{Entry}
 use Rattle.mv_history.specs.Calls.{Continues, IsEntryAt}
-use Rattle.mv_history.specs.Meaning.{Seat}
 use Rattle.section_work.specs.Causes.{Causes}
-use Rattle.mvrlu.specs.Whole.{Whole}
-use Rattle.run_report.proofs.history.Grown.{there_longer}
 use Rattle.work_runner.specs.Tries.{IsEnteredBetween}
-use Rattle.domain_loan.specs.Met.{HasMet}
+use Rattle.domain_lines.proofs.Terms.{◌≡◌, ◌+◌, ◌-◌, ◌<◌, ◌≤◌, ◌∷◌, ◌++◌, ◌∙◌, ℕ, zero, suc, List, [], length, drop, Some, sym, ap, subst, arith, slice_get}
+use Rattle.domain_lines.proofs.Terms.{take-append-drop, Seat, Whole, there_longer, HasMet}
 
 there_below : (es : List Entry) (i : ℕ) (e : Entry) → slice_get es i ≡ Some e → i < length es
 there_below [] i e is = absurd (cc)

@@ -1,3 +1,4 @@
+pub mod Terms
 pub mod OneHistory
 pub mod Fresh
 pub mod NewSeats

@@ -1,14 +1,11 @@
 -- The seats of a domain that nobody has used yet are numbered in order, and so are the handles that they are lent.
-use Rattle.std.proofs.Common.{◌≡◌, ℕ, suc, ◌≤◌, List, [], ◌∷◌, length, map, All, sym, ap, ◌∙◌, subst}
-use Rattle.std.proofs.lemmas.List.{length-map}
-use Rattle.mv_history.specs.Meaning as history
-use Rattle.mvrlu.specs.Meant.{numbers_of, seat_of, handled}
-use Rattle.mvrlu.specs.declared.domain.Domain.{Domain}
 use Rattle.mvrlu.specs.declared.domain.Seat.{Seat}
 use Rattle.mvrlu.specs.declared.handle.Handle.{Handle}
 use Rattle.script_workers.specs.Numbers.{AreNumbered}
-use Rattle.domain_loan.specs.New.{AreNewFrom}
 use Rattle.domain_loan.proofs.Seats.{new_may_hold}
+use Rattle.domain_lines.proofs.Terms.{◌≡◌, ◌≤◌, ◌∷◌, ◌∙◌, ℕ, suc, List, [], length, map, All, sym, ap, subst, length-map, numbers_of, seat_of, handled, Domain}
+use Rattle.domain_lines.proofs.Terms.{AreNewFrom}
+use Rattle.mv_history.specs.Meaning as history
 
 -- new seats are numbered in order
 pub new_numbered : {P : Type 0} (d : Domain P) (number : ℕ) (seats : List history.Seat) → AreNewFrom d number seats → AreNumbered number seats

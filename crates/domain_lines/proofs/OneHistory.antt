@@ -1,22 +1,14 @@
 -- The seats of a domain have met: what each had seen begins its one history, and the table of each counts what that seat did in it.
-use Rattle.std.proofs.Common.{◌≡◌, ℕ, zero, suc, ◌+◌, ◌<◌, List, [], ◌∷◌, length, Some, refl, sym, ap, ◌∙◌, subst, arith}
-use Rattle.std.specs.List.{All, AllZip, slice_get}
-use Rattle.std.proofs.lemmas.List.{append-nil}
 use Rattle.std.proofs.lemmas.List.Elements.{length_all_zip}
 use Rattle.mv_history.specs.declared.answers.LogTable.{LogTable}
 use Rattle.mv_history.specs.declared.history.TheConstants.{LAST}
 use Rattle.mv_history.specs.Legal.{IsLegal, IsAllowed}
-use Rattle.mv_history.specs.Meaning.{Seat}
 use Rattle.mv_history.specs.State.{State, Writes, maker_of, commits_of}
 use Rattle.mvrlu.specs.Holding.{AreTablesOf, IsSeatTable}
-use Rattle.mvrlu.specs.Meant.{numbers_of, opening_of}
-use Rattle.mvrlu.specs.Whole.{Whole}
-use Rattle.mvrlu.specs.declared.domain.Domain.{Domain}
 use Rattle.run_report.specs.Worked.{Past}
 use Rattle.run_report.specs.Whole.{IsTableOf}
-use Rattle.run_report.proofs.history.Grown.{AreKnown}
-use Rattle.domain_loan.specs.Met.{HasMet, HaveMet}
-use Rattle.domain_loan.specs.New.{AreNewFrom}
+use Rattle.domain_lines.proofs.Terms.{◌≡◌, ◌+◌, ◌<◌, ◌∷◌, ◌∙◌, ℕ, zero, suc, List, [], length, Some, refl, sym, ap, subst, arith, All, AllZip, slice_get}
+use Rattle.domain_lines.proofs.Terms.{append-nil, Seat, numbers_of, opening_of, Whole, Domain, AreKnown, HasMet, HaveMet, AreNewFrom}
 use Rattle.domain_lines.specs.Joined.{past_of_whole}
 
 -- What holds of the one history of so many seats, which went on from these to those that met, and of the tables of their logs.

@@ -1,8 +1,6 @@
 -- Rows: one element moves from the front of one to the end of another.
-use Rattle.std.proofs.Common.{◌≡◌, ◌<◌, List, [], ◌∷◌, ◌++◌, length, map, drop, get_or, sym, ap, ◌∙◌, subst, append_assoc, arith}
-use Rattle.std.specs.List.{All}
-use Rattle.std.proofs.lemmas.List.{map-append}
-use Rattle.std.proofs.lemmas.List.Elements.{All-head}
+use Rattle.domain_loan.proofs.Terms.{◌≡◌, ◌<◌, ◌∷◌, ◌++◌, ◌∙◌, List, [], length, map, drop, get_or, sym, ap, subst, append_assoc, arith, All, map-append}
+use Rattle.domain_loan.proofs.Terms.{All-head}
 
 -- the first of a row, and what is left of it
 pub first_of : {X : Type 0} (xs rest : List X) (x : X) → 0 < length xs → x ≡ get_or xs 0 x → rest ≡ drop 1 xs → xs ≡ x ∷ rest

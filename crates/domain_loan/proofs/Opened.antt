@@ -1,16 +1,8 @@
 -- The seats of a domain that was just opened, and those that a run hands back.
-use Rattle.std.proofs.Common.{◌≡◌, ℕ, suc, ◌+◌, List, [], ◌∷◌, length, map, refl, sym, ap, ◌∙◌, subst, arith}
-use Rattle.std.proofs.lemmas.List.{length-map}
-use mathlib.Core.Option.{some}
-use lib.ListN.{get_elem?}
-use Rattle.mv_history.specs.State.{State}
 use Rattle.mv_layout.specs.declared.Config.{Config}
-use Rattle.mvrlu.specs.declared.domain.Domain.{Domain}
-use Rattle.mvrlu.specs.declared.domain.Seat.{Seat}
-use Rattle.mvrlu.specs.Meant.{seat_of}
-use Rattle.mvrlu.specs.Meeting.{AreAll}
 use Rattle.mvrlu.specs.Opened.{IsOpened, IsNewSeatOf}
-use Rattle.domain_loan.specs.New.{AreNewFrom}
+use Rattle.domain_loan.proofs.Terms.{◌≡◌, ◌+◌, ◌∷◌, ◌∙◌, ℕ, suc, List, [], length, map, refl, sym, ap, subst, arith, length-map, some, get_elem?, State, Domain}
+use Rattle.domain_loan.proofs.Terms.{Seat, seat_of, AreAll, AreNewFrom}
 use Rattle.domain_loan.proofs.Seats.{all_itself, all_back}
 
 module _ {P : Type 0} {rules : _} (d : Domain P) where

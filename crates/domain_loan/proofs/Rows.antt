@@ -1,9 +1,6 @@
 -- Rows and results.
-use Rattle.std.proofs.Common.{◌≡◌, ℕ, zero, suc, ◌<◌, List, [], ◌∷◌, length, All, Result, Ok, Err, refl, subst, arith}
-use Rattle.std.specs.Prelude.{IfOk}
-use mathlib.Core.Option.{some}
-use lib.ListN.{get_elem?}
-use Rattle.mv_core.proofs.Terms.{some-injective}
+use Rattle.domain_loan.proofs.Terms.{◌≡◌, ◌<◌, ◌∷◌, ℕ, zero, suc, List, [], length, All, Result, Ok, Err, refl, subst, arith, IfOk, some, get_elem?}
+use Rattle.domain_loan.proofs.Terms.{some-injective}
 
 -- what stands at a place is below the count
 pub place_below : {X : Type 0} (xs : List X) (k : ℕ) (x : X) → get_elem? xs k ≡ some x → k < length xs

@@ -1,24 +1,15 @@
 -- The seats of a domain, new and gone on: they are of the domain, and stand in order of number.
-use Rattle.std.proofs.Common.{◌≡◌, ℕ, zero, suc, ◌+◌, ◌<◌, ◌≤◌, List, [], ◌∷◌, length, map, All, sym, ap, ◌∙◌, subst, arith}
-use Rattle.std.proofs.lemmas.List.{length-map}
-use Rattle.std.proofs.lemmas.List.Elements.{All-nil, All-cons, length_all_zip}
-use mathlib.Core.Option.{some}
-use lib.ListN.{get_elem?}
-use Rattle.mv_core.proofs.Terms.{some-injective}
 use Rattle.mv_history.specs.CallLaws.{Continues-itself}
 use Rattle.mv_history.specs.Calls.{Continues}
-use Rattle.mv_history.specs.Meaning as history
-use Rattle.mvrlu.specs.Meant.{numbers_of, seat_of, handled, IsSeatOf}
-use Rattle.mvrlu.specs.Meeting.{AreAll}
-use Rattle.mvrlu.specs.declared.domain.Domain.{Domain}
-use Rattle.mvrlu.specs.declared.domain.Seat.{Seat}
 use Rattle.mvrlu.specs.declared.handle.Handle.{Handle}
 use Rattle.mvrlu.proofs.AllSeats.{all_from_places, all_in_order}
+use Rattle.domain_loan.proofs.Terms.{◌≡◌, ◌+◌, ◌<◌, ◌≤◌, ◌∷◌, ◌∙◌, ℕ, zero, suc, List, [], length, map, All, sym, ap, subst, arith, length-map, All-nil}
+use Rattle.domain_loan.proofs.Terms.{All-cons, length_all_zip, some, get_elem?, some-injective, numbers_of, seat_of, handled, IsSeatOf, AreAll, Domain, Seat}
+use Rattle.domain_loan.proofs.Terms.{AllContinue, AreNewFrom}
 use Rattle.domain_loan.specs.Lending.{IsLeft}
-use Rattle.domain_loan.specs.Met.{AllContinue}
-use Rattle.domain_loan.specs.New.{AreNewFrom}
 use Rattle.domain_loan.specs.declared.lending.Left.{Left}
 use Rattle.domain_loan.proofs.Rows.{place_below}
+use Rattle.mv_history.specs.Meaning as history
 
 -- each seat goes on as itself
 pub all_itself : (seats : List history.Seat) → AllContinue seats seats

@@ -1,21 +1,13 @@
 -- The seats of a domain that met, by the law of the whole.
-use Rattle.std.proofs.Common.{◌≡◌, ℕ, ◌<◌, List, [], ◌∷◌, length, map, All, ap, ◌∙◌, subst}
-use Rattle.std.specs.Prelude.{Contains}
-use Rattle.std.specs.List.{AllZip}
-use Rattle.std.proofs.lemmas.List.Elements.{All-head, All-tail, All-weaker, All-contains, All-contains_itself}
-use Rattle.mv_history.specs.State.{State, Writes, maker_of, commits_of, rests_of}
 use Rattle.mv_history.specs.declared.Entry.{Entry}
-use Rattle.mv_history.specs.Meaning as history
 use Rattle.mv_core.specs.HistoryFacts.{BeginsWith}
-use Rattle.mvrlu.specs.declared.domain.Domain.{Domain}
-use Rattle.mvrlu.specs.declared.domain.Seat.{Seat}
 use Rattle.mvrlu.specs.Holding.{AreTablesOf}
-use Rattle.mvrlu.specs.Meant.{numbers_of, opening_of, seat_of}
-use Rattle.mvrlu.specs.Meeting.{LawOfTheWhole}
 use Rattle.mvrlu.specs.Whole.{Whole, IsMetSeat, AreApart}
-use Rattle.domain_loan.specs.Met.{AllContinue, HasMet, HaveMet}
-use Rattle.domain_loan.specs.New.{AreNewFrom}
+use Rattle.domain_loan.proofs.Terms.{◌≡◌, ◌<◌, ◌∷◌, ◌∙◌, ℕ, List, [], length, map, All, ap, subst, Contains, AllZip, All-head, All-tail, All-weaker}
+use Rattle.domain_loan.proofs.Terms.{All-contains, All-contains_itself, State, Writes, maker_of, commits_of, rests_of, Domain, Seat, numbers_of, opening_of}
+use Rattle.domain_loan.proofs.Terms.{seat_of, LawOfTheWhole, AllContinue, HasMet, HaveMet, AreNewFrom}
 use Rattle.domain_loan.proofs.Seats.{all_below}
+use Rattle.mv_history.specs.Meaning as history
 
 module _ {P : Type 0} {rules : _} (w : Whole) where
   each_met : (firsts : List history.Seat) (seats : List (Seat P rules)) → AllContinue firsts (map (λ s. seat_of s) seats)

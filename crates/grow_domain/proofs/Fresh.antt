@@ -1,18 +1,15 @@
 -- A read on a growing set is no older than what its seat had seen when its command began.
-use Rattle.std.proofs.Common.{◌≡◌, ℕ, ◌+◌, ◌-◌, ◌≤◌, Some}
 use Rattle.std.specs.List.{slice_get}
 use Rattle.mv_history.specs.declared.history.Entry.{Entry}
 use Rattle.mv_history.specs.Calls.{Continues, IsEntryAt}
-use Rattle.mv_history.specs.Meaning.{Seat}
-use Rattle.set_script.specs.declared.commands.Command.{Command}
 use Rattle.set_script.specs.declared.commands.Reply.{Reply}
 use Rattle.section_work.specs.Causes.{Causes}
 use Rattle.section_work.specs.declared.place.Place.TheVariants.{Read}
 use Rattle.mvrlu.specs.Whole.{Whole}
-use Rattle.domain_loan.specs.Met.{HasMet}
 use Rattle.domain_lines.proofs.Fresh.{fresh_between}
 use Rattle.grow_workers.specs.Links.{GrowKept, LinkedTurn}
-use Rattle.grow_workers.proofs.Fresh.{linked_fresh}
+use Rattle.grow_workers.proofs.Turns.{linked_fresh}
+use Rattle.grow_domain.proofs.Terms.{◌≡◌, ◌+◌, ◌-◌, ◌≤◌, ℕ, Some, Seat, Command, HasMet}
 
 -- On a seat's way from its first to the one that met a command was begun, and it was a read. Then each entry that the seat had seen, of the
 -- commands and splits before it too, stands in the whole history, at its printed time, and the read's place isn't below that.

@@ -1,21 +1,15 @@
 -- The seats of a domain that ran scripts on a growing hash set have met: their lines and tables are those of one run in the whole history.
-use Rattle.std.proofs.Common.{List, [], ◌∷◌, length}
 use Rattle.mv_history.specs.declared.answers.LogTable.{LogTable}
-use Rattle.mv_history.specs.Meaning.{Seat}
 use Rattle.mv_history.specs.State.{state_after}
-use Rattle.set_script.specs.declared.commands.Command.{Command}
 use Rattle.run_report.specs.declared.line.Line.{Line}
 use Rattle.run_report.specs.Worked.{Past}
-use Rattle.domain_loan.specs.Met.{AllContinue}
-use Rattle.domain_lines.proofs.OneHistory.{IsOneHistory}
-use Rattle.grow_hash.specs.Grown.{IsGrownOpening, grown_catalogue}
-use Rattle.grow_hash.specs.GrowRules.{IsGrowCommit}
 use Rattle.grow_hash.specs.Splits.{count_splits}
 use Rattle.grow_report.specs.Turns.{AllRanGrow}
 use Rattle.grow_report.specs.Whole.{GrowRunOf}
 use Rattle.grow_report.proofs.Known.{all_turns}
 use Rattle.grow_report.proofs.OneRun.{grow_run_of}
-use Rattle.grow_hash.specs.Tables.{grow_levels}
+use Rattle.grow_domain.proofs.Terms.{◌∷◌, List, [], length, Seat, Command, AllContinue, IsOneHistory, IsGrownOpening, grown_catalogue, IsGrowCommit}
+use Rattle.grow_domain.proofs.Terms.{grow_levels}
 
 -- seats that ran scripts go on
 pub all_continue : (olds news : List Seat) (scripts : List (List Command)) (lines : List Line) → AllRanGrow olds news scripts lines

@@ -1,4 +1,4 @@
--- The place of a command and of a split: what their tries say of it.
+-- The place of a command and of a split: what their tries say of it, and what one attempt leaves.
 use Rattle.std.proofs.lemmas.Bool.Decides.{nat_tests}
 use Rattle.mv_history.proofs.Writing.{length-state_after}
 use Rattle.set_script.specs.Replies.{next, applies, overflows, reply, changes}
@@ -9,15 +9,19 @@ use Rattle.grow_hash.specs.GrowPlans.{GrowPlan}
 use Rattle.grow_hash.specs.SplitAttempts.{SplitTried}
 use Rattle.grow_hash.specs.declared.answer.Split.{Split}
 use Rattle.script_workers.specs.Commands.{RanTo}
-use Rattle.std.proofs.Common.{◌≡◌, ◌+◌, ◌-◌, ◌≤◌, ◌==◌, ◌&&◌, if◌then◌else◌, ◌∷◌, ◌++◌}
-use Rattle.grow_workers.proofs.Terms.{ℕ, Bool, true, false, not, List, [], Option, Some, None, length, take, inl, inr, refl, sym, ap, ◌∙◌, subst, arith}
-use Rattle.grow_workers.proofs.Terms.{append-nil, Writes, state_at, Continues-Continues, seen_grows, entered_continues, entered_within, grown_catalogue}
-use Rattle.grow_workers.proofs.Terms.{grown_capacity, first_grown, IsGrownOpening, GrowPlaceOf, SplitIf, CannotSplit, IsGrowCommit, GrowAttempted, Done, Commit}
-use Rattle.grow_workers.proofs.Terms.{State, Seat, IsSeat, Continues, Continues-itself, Command, Place, AtCommit, Read, Reply, Causes, past_of, state_of_time}
-use Rattle.grow_workers.proofs.Terms.{last_by, ran_commit, ran_read, ran_after, LinkedCommand, IsAnsweredBy, LinkedIf}
+use Rattle.grow_hash.specs.Tables.{grow_levels}
+use Rattle.item_workers.specs.declared.runner.Tried.{Tried}
+use Rattle.grow_hash.specs.SplitCalls.{most_writes}
+use Rattle.grow_workers.proofs.Terms.{◌≡◌, ◌+◌, ◌-◌, ◌≤◌, ◌==◌, ◌&&◌, if◌then◌else◌, ◌∷◌, ◌++◌, ◌∙◌, ℕ, Bool, true, false, not, List, [], Option, Some, None}
+use Rattle.grow_workers.proofs.Terms.{length, take, inl, inr, refl, sym, ap, subst, arith, append-nil, Writes, state_at, Continues-Continues, seen_grows}
+use Rattle.grow_workers.proofs.Terms.{entered_continues, entered_within, grown_catalogue, grown_capacity, first_grown, IsGrownOpening, GrowPlaceOf, SplitIf}
+use Rattle.grow_workers.proofs.Terms.{CannotSplit, IsGrowCommit, GrowAttempted, Done, Commit, State, Seat, IsSeat, Continues, Continues-itself, Command, Place}
+use Rattle.grow_workers.proofs.Terms.{AtCommit, Read, Reply, Causes, past_of, state_of_time, last_by, ran_commit, ran_read, ran_after, LinkedCommand}
+use Rattle.grow_workers.proofs.Terms.{IsAnsweredBy, LinkedIf, OnTried, under_still, is_added, odd_with, CommitsNone, IsUnder, none_begun, GrowKept, kept}
+use Rattle.grow_workers.proofs.Terms.{LinkedTurn, LinkedDone, IsUnderTurn}
 use Rattle.set_script.specs.declared.commands.Command.TheVariants as commands
 use Rattle.grow_hash.specs.declared.answer.Split.TheVariants as splits
-use Rattle.grow_hash.specs.Tables.{grow_levels}
+use Rattle.item_workers.specs.declared.runner.Tried.TheVariants as tries
 
 -- each state has as many nodes as the first
 pub same_room : (s : Seat) (time : ℕ) → grown_capacity grow_levels (state_of_time (past_of s) time) ≡ grown_capacity grow_levels s.start
@@ -154,3 +158,50 @@ behind true k s t l =
       mine = b.mine ∙ ap (λ cs. cs ++ b.commits) l.none.mine;
       split_if = λ from le. b.split_if from (omega (arith, le, seen_grows s l.from l.none.continues));
     }
+
+-- behind the second of two adds their number is even
+even_then : (o a : Bool) → (o && a) ≡ true → odd_with o a ≡ false
+even_then true true e = refl
+even_then _ _ e = absurd (cc)
+
+module _ (k : Causes) (s : GrowKept) (command : Command) where
+  -- An attempt of the command that is done leaves its link, and a seat that may hold what a split locks.
+  pub done_command : (t u : Seat) (place : Place) (answer : Reply) → IsUnder most_writes s.seat t
+      → IsSeat (IsGrownOpening grow_levels) (IsGrowCommit grow_levels) u
+      → GrowAttempted grow_levels k t u command (Done answer place) → LinkedCommand k s.seat u command place answer × IsUnder most_writes u u
+  done_command t u place answer under lawful left =
+      let linked : LinkedCommand k s.seat u command place answer = record { from = t; none = under.none; attempted = left; lawful = lawful } in
+      let ran = command_ran k s.seat u command place answer linked in
+      (linked, none_begun most_writes u (omega (arith, under.may, under.none.continues.write_max, ran.continues.write_max)))
+
+  -- With no split due behind it, its turn is done.
+  pub turn_done : (u : Seat) (odd : Bool) (place : Place) (answer : Reply) → LinkedCommand k s.seat u command place answer
+      → (s.odd && is_added command answer) ≡ false → odd ≡ odd_with s.odd (is_added command answer) → LinkedTurn k s (kept u odd) command place answer
+  turn_done u odd place answer linked not_due odd_is = record {
+    between = u;
+    command_done = linked;
+    split_done = subst (λ (d : Bool). LinkedIf d k u u) (sym not_due) refl;
+    odd = odd_is;
+  }
+
+  -- What a try of the split leaves that is due behind a command that is done.
+  pub split_told : (between t u : Seat) (odd : Bool) (found : Option (Place × Reply)) (place : Place) (answer : Reply) (tried : Tried (Place × Reply))
+      → LinkedCommand k s.seat between command place answer → IsUnder most_writes between t → (s.odd && is_added command answer) ≡ true
+      → IsSeat (IsGrownOpening grow_levels) (IsGrowCommit grow_levels) u
+      → OnTried (λ d. (d ≡ (place, answer)) × (odd ≡ false) × (found ≡ None) × IsAnsweredBy k t u)
+      ((odd ≡ true) × (found ≡ Some (place, answer)) × CommitsNone t u) tried
+      → OnTried (λ d. LinkedDone k s (kept u odd) command d × ((found ≡ None) × (most_writes ≤ u.write_max))) (IsUnderTurn k s command (kept u odd) found) tried
+  split_told between t u odd found place answer (tries.Done d) linked under due lawful h =
+      let turn : LinkedTurn k s (kept u odd) command place answer = record {
+        between = between;
+        command_done = linked;
+        split_done = subst (λ (b : Bool). LinkedIf b k between u) (sym due)
+            (record { from = t; none = under.none; attempted = h.3; lawful = lawful });
+        odd = h.1 ∙ sym (even_then s.odd (is_added command answer) due);
+      } in (
+        subst (λ (e : Place × Reply). LinkedDone k s (kept u odd) command e) (sym h.0) turn,
+        (h.2, omega (arith, under.may, (answered k t u lawful h.3).continues.write_max)),
+      )
+  split_told between t u odd found place answer tries.Again linked under due lawful h =
+      subst (λ (d : Option (Place × Reply)). IsUnderTurn k s command (kept u odd) d) (sym h.1)
+      (between, linked, under_still most_writes between t u under h.2, due)

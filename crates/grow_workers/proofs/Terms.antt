@@ -11,9 +11,9 @@ pub use Rattle.grow_hash.specs.GrowRules.{IsGrowCommit}
 pub use Rattle.grow_hash.specs.GrowAttempts.{GrowAttempted}
 pub use Rattle.grow_hash.specs.declared.attempt.GrowStep.TheVariants.{Done}
 pub use Rattle.grow_report.specs.Turns.{is_added, odd_with, RanGrow, AllRanGrow, GrowPlaceOf, SplitIf, CannotSplit, Turn, TurnsOf, IsAhead, first_place}
-pub use Rattle.item_workers.proofs.Each.{each_seat, chain_told, all_may}
+pub use Rattle.item_workers.proofs.Links.{each_seat, chain_told, all_may}
 pub use Rattle.script_workers.specs.Lines.{line_of, row_of}
-pub use Rattle.script_workers.proofs.Chains.{by_seat, few_numbers, line_counts}
+pub use Rattle.script_workers.proofs.Runs.{by_seat, few_numbers, line_counts}
 pub use Rattle.mv_history.proofs.Steps.{Continues-Continues}
 pub use Rattle.script_workers.proofs.Places.{last_by, ran_commit, ran_read, ran_after, placed_later, follows_earlier}
 pub use Rattle.grow_workers.specs.Links.{GrowKept, kept, LinkedCommand, LinkedTurn, LinkedDone, LinkedIf, IsAnsweredBy, IsUnderTurn, LinkedLine, LinkedTurns}

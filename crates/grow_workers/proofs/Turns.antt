@@ -1,11 +1,12 @@
--- A chain of commands with their splits is a run.
+-- A chain of commands with their splits is a run, and what all seats did.
 use Rattle.std.proofs.lemmas.Option.{slice_get_within}
 use Rattle.grow_report.proofs.Known.{place_longer, due_longer}
-use Rattle.std.proofs.Common.{◌≡◌, ◌+◌, ◌-◌, ◌≤◌, ◌&&◌, ◌∷◌, ◌++◌}
-use Rattle.grow_workers.proofs.Terms.{ℕ, suc, Bool, true, false, List, [], Option, Some, None, length, map, refl, sym, ap, ◌∙◌, subst, arith, append_assoc}
-use Rattle.grow_workers.proofs.Terms.{append-nil, Continues-Continues, seen_grows, GrowPlaceOf, SplitIf, Turn, TurnsOf, RanGrow, IsAhead, first_place, is_added}
-use Rattle.grow_workers.proofs.Terms.{odd_with, Commit, Change, Seat, Continues, Continues-itself, Command, Place, Causes, Reply, Line, time_of, Past, past_of}
-use Rattle.grow_workers.proofs.Terms.{Answer, Chain, HaveNumbers, answered, line_of, placed_later, follows_earlier, GrowKept, kept, LinkedDone}
+use Rattle.grow_workers.proofs.Terms.{◌≡◌, ◌+◌, ◌-◌, ◌≤◌, ◌&&◌, ◌∷◌, ◌++◌, ◌∙◌, ℕ, suc, Bool, true, false, List, [], Option, Some, None, length, map, refl, sym}
+use Rattle.grow_workers.proofs.Terms.{ap, subst, arith, append_assoc, append-nil, Continues-Continues, seen_grows, GrowPlaceOf, SplitIf, Turn, TurnsOf, RanGrow}
+use Rattle.grow_workers.proofs.Terms.{IsAhead, first_place, is_added, odd_with, Commit, Change, Seat, Continues, Continues-itself, Command, Place, Causes}
+use Rattle.grow_workers.proofs.Terms.{Reply, Line, time_of, Past, past_of, Answer, Chain, HaveNumbers, answered, line_of, placed_later, follows_earlier}
+use Rattle.grow_workers.proofs.Terms.{GrowKept, kept, LinkedDone, entered_fresh, Read, IsEnteredBetween, LinkedTurn, Vec, flat_map, each_seat, chain_told}
+use Rattle.grow_workers.proofs.Terms.{AllRanGrow, Global, EachDid, row_of, by_seat, LinkedLine, LinkedTurns, AllLinkedTurns}
 use Rattle.grow_workers.proofs.Places.{command_ran, behind}
 use Rattle.grow_report.specs.Turns as reported
 
@@ -97,3 +98,41 @@ pub chain_ran : (k : Causes) (s : Seat) (u : GrowKept) (commands : List Command)
 chain_ran k s u commands ds c n =
     let ran = ran_from k (kept s false) u 1 (s.base + length s.seen) commands ds (omega arith) c n in
     record { continues = ran.continues; commits = ran.commits; mine = ran.mine; turns = ran.turns; lines_are = ran.lines_are; each = ran.each }
+
+-- No read is older than what its seat had seen when the command began, which is all that the commands before it and their splits did.
+pub linked_fresh : (k : Causes) (s t : GrowKept) (command : Command) (time : ℕ) (answer : Reply) → (l : LinkedTurn k s t command (Read time) answer)
+    → IsEnteredBetween k s.seat l.between time
+linked_fresh k s t command time answer l =
+    let r = l.command_done.attempted in
+    entered_fresh k l.command_done.from l.between r.enters.before r.entered time r.enters.comes r.enters.enters r.time_is s.seat l.command_done.none
+
+module _ (k : Causes) {T : Type 0} (seat_in : T → Seat) where
+  abbrev first : T → GrowKept
+  first t = kept (seat_in t) false
+
+  module _ (ts : List T) (ns : List Seat) (scripts : List (List Command)) (rows : List (Vec (Answer (Place × Reply)) Global))
+      (each : EachDid (λ (g : GrowKept). g.seat) (LinkedDone k) (λ (c : Command). 1) (map first ts) ns scripts rows) where
+    -- what all seats ran
+    pub all_ran : AllRanGrow (map seat_in ts) ns scripts (flat_map row_of rows)
+    all_ran =
+        each_seat first (λ (g : GrowKept). g.seat) (LinkedDone k) (λ (c : Command). 1)
+        (λ ts ns scripts rows. AllRanGrow (map seat_in ts) ns scripts (flat_map row_of rows)) refl
+        (λ t n s r ts ns scripts rows h rest. (
+          row_of r,
+          flat_map row_of rows,
+          refl,
+          subst (λ (m : Seat). RanGrow (seat_in t) m s (row_of r)) h.seat_is (chain_ran k (seat_in t) h.end s r.items h.did.chain h.did.numbers),
+          rest,
+        ))
+        ts ns scripts rows each
+
+    -- and that each went on from where it was
+    pub all_linked : AllLinkedTurns k (map seat_in ts) ns scripts (flat_map row_of rows)
+    all_linked =
+        by_seat first (λ (g : GrowKept). g.seat) (LinkedDone k) seat_in (LinkedTurns k)
+        (λ t n s r h. (
+          h.end.odd,
+          subst (λ (m : Seat). Chain (LinkedLine k) (first t) (kept m h.end.odd) s (row_of r)) h.seat_is
+              (chain_told (answered (LinkedDone k)) (LinkedLine k) line_of (λ a b c d l. l) (first t) h.end s r.items h.did.chain),
+        ))
+        ts ns scripts rows each

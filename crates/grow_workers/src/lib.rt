@@ -14,7 +14,7 @@
 //!
 //! - after attempts that made no commit there was one of this very command that was done, with this place and this reply. A
 //!   commit is later than all that the seat had seen, and a read is of a section that this attempt entered, whose snapshot
-//!   holds all that the seat had seen when the command began (`linked_fresh` in proofs/Fresh.antt): nothing is answered from
+//!   holds all that the seat had seen when the command began (`linked_fresh` in proofs/Turns.antt): nothing is answered from
 //!   memory;
 //! - where a split is due behind it, after tries that made no commit there was one that answered: a bucket was split, or the
 //!   section that it looked into can't be.
@@ -28,10 +28,7 @@
 //! - a split that is missing has a state that can't be split, of a time from that add on and ahead of the next line;
 //! - the places follow what was seen before the run, and one another: a commit is later, and a read is no earlier.
 //!
-//! Nothing is said of what other seats do meanwhile: this holds at every interleaving. Each command and each split is tried
-//! until it is answered, so a run ends only where others let it, and takes a `Wait`. No clause speaks of the gate's calls.
-//!
-//! All memory is taken before the workers start. Want of it is the one error, and leaves the stores untouched.
+//! Of other seats, of the end of a run, of the gate and of want of memory is said what `item_workers` says.
 //!
 //! # How it is proved
 //!

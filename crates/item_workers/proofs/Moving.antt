@@ -1,6 +1,6 @@
 -- Stores and sources that move into the workers and out of them, one worker at a time.
-use Rattle.std.proofs.Common.{◌≡◌, ◌∷◌, ◌++◌, ℕ, List, [], length, take, drop, map, sym, ap, ◌∙◌, append_assoc, append-nil, take_at}
-use Rattle.item_workers.proofs.Terms.{length-map, map-append, nil_from_length}
+use Rattle.std.proofs.Common.{append-nil, take_at}
+use Rattle.item_workers.proofs.Terms.{◌≡◌, ◌∷◌, ◌++◌, ◌∙◌, ℕ, List, [], length, take, drop, map, sym, ap, append_assoc, length-map, map-append, nil_from_length}
 
 -- one more worker has the first of the stores, or of the sources, that were left
 pub loaded : {W S T : Type 0} (of : W → T) (left : List S → List T) (ws ns : List W) (w : W) (before after : List S) (all : List T) (s : S)

@@ -3,7 +3,7 @@ pub use Rattle.std.proofs.Common.{ℕ, ◌+◌, ◌<◌, ◌^◌, List, [], ◌�
 pub use Rattle.std.proofs.Common.{drop, Some, slice_get, sym, ◌∙◌, append_assoc, true-eqb, vec_len, vec_capacity}
 pub use Rattle.std.specs.declared.alloc.Global.{Global}
 pub use Rattle.std.specs.List.{AllZip}
-pub use Rattle.std.proofs.lemmas.List.{drop_more, drop_all, append-nil, take_all, take_at, length-map, map-append, nil_from_length, take_more}
+pub use Rattle.std.proofs.lemmas.List.{drop_more, drop_all, take_all, length-map, map-append, nil_from_length, take_more}
 pub use Rattle.std.proofs.lemmas.Option.{slice_get_within, get_or_from_slice_get}
 pub use Rattle.std.proofs.lemmas.List.Elements.{All-push, All-head, All-tail}
 pub use Rattle.mv_history.specs.Meaning.{Seat}

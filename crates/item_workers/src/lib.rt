@@ -31,9 +31,9 @@
 //!
 //! # How it is proved
 //!
-//! A link is of one item, so a chain grows by one link where an item is done (`proofs/Serves.antt`). Stores and sources move
-//! into workers and out of them one at a time (`proofs/Moving.antt`), and what the workers leave is a chain for each store
-//! (`proofs/Workers.antt`). A chain over all that a list's source gave is one over the list (`proofs/Lists.antt`).
+//! A link is of one item, so a chain grows by one link where an item is done, a chain over all that a list's source gave is one
+//! over the list, and what the workers leave is a chain for each store (`proofs/Serves.antt`). Stores and sources move into
+//! workers and out of them one at a time (`proofs/Moving.antt`).
 //!
 //! # Its place
 //!

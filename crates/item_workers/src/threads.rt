@@ -27,11 +27,8 @@ pub(crate) struct Worker<W, P, D> {
     pub(crate) answers: Vec<Answer<D>>,
 }
 
-/// Does each list by a runner of the store of its place, each in a thread of its own, and gives the stores back in their
-/// order, with the answers of each list. Where a thread can't be started, this thread does its work.
-///
-/// Each item is tried until it is done, which may go on for ever where others always come first. The gate is called ahead of
-/// an item's first attempt and once it is done, with the number of the seat and that of the item.
+/// Does each list by a runner of the store of its place, as [`run_sources`] does what a source gives, and gives the stores back
+/// in their order, with the answers of each list.
 ///
 /// There are as many lists as stores, a runner may be made of each store, does each item of its list, and no item's number
 /// is above `u32::MAX`.

@@ -1,4 +1,4 @@
-pub mod Scripts
+pub mod Terms
 pub mod Shares
 pub mod Orders
 pub mod OnePool

@@ -1,39 +1,21 @@
 -- The seats of a domain that did the commands of a pool have met: their lines and tables are those of one pool in the whole history.
-use Rattle.std.proofs.Common.{◌≡◌, ℕ, suc, ◌+◌, ◌<◌, ◌==◌, cond, List, length, refl, sym, ◌∙◌, subst, arith}
-use Rattle.std.specs.List.{All}
 use Rattle.std.specs.List.Sorted.{IsPermutation}
-use Rattle.std.proofs.lemmas.List.Elements.{All-weaker}
 use Rattle.std.proofs.lemmas.List.Sorted.{All-permutation, IsPermutation-sym, IsPermutation-trans, length_permutation, sum_by-IsPermutation}
 use Rattle.mv_history.specs.declared.answers.LogTable.{LogTable}
 use Rattle.mv_history.specs.declared.history.TheConstants.{LAST}
-use Rattle.mv_history.specs.Meaning.{Seat}
-use Rattle.mv_history.specs.State.{state_after}
 use Rattle.mv_history.specs.Legal.{IsAllowed}
-use Rattle.set_script.specs.Catalogue.{Maps, empty}
-use Rattle.set_script.specs.CatalogueOf.{catalogue_of}
-use Rattle.set_script.specs.Lawful.{IsOpening}
-use Rattle.set_script.specs.Rules.{capacity, IsSetCommit}
-use Rattle.set_script.specs.declared.commands.Command.{Command}
 use Rattle.set_script.proofs.Opening.{opening_empty}
-use Rattle.run_report.specs.declared.line.Line.{Line}
-use Rattle.run_report.specs.Order.{IsOrdered}
-use Rattle.run_report.specs.Legal.{Follows, IsAlone, IsInTime, Replays}
-use Rattle.run_report.specs.Worked.{Past}
-use Rattle.run_report.specs.Whole.{EachHasOneLine, StandsIn}
-use Rattle.run_report.proofs.Pairs.{pairs_permuted}
 use Rattle.run_report.proofs.history.Grown.{all_worked}
 use Rattle.run_report.proofs.history.Inserted.{some_order}
 use Rattle.run_report.proofs.history.OneRun.{lines_permuted}
 use Rattle.run_report.proofs.history.Replay.{IsLeft, replay}
-use Rattle.command_pool.specs.Pool.{PoolRan}
 use Rattle.domain_loan.specs.Met.{AllContinue}
-use Rattle.domain_lines.proofs.OneHistory.{IsOneHistory}
 use Rattle.script_domain.proofs.OneRun.{run_met}
 use Rattle.script_domain.proofs.Seats.{all_continue}
-use Rattle.pool_domain.specs.Legal.{ReplaysPool}
-use Rattle.pool_domain.specs.Whole.{PoolOf, StandsInPool}
-use Rattle.pool_domain.proofs.Orders.{as_scripts, stands_as, replays_pool, all_alone}
-use Rattle.pool_domain.proofs.Scripts.{scripts_of, script_lines, all_ran, scripts_length, same_commits}
+use Rattle.pool_domain.proofs.Terms.{◌≡◌, ◌+◌, ◌<◌, ◌==◌, ◌∙◌, ℕ, suc, cond, List, length, refl, sym, subst, arith, All, All-weaker, Seat, state_after, Maps}
+use Rattle.pool_domain.proofs.Terms.{empty, catalogue_of, IsOpening, capacity, IsSetCommit, Command, Line, IsOrdered, Follows, IsAlone, IsInTime, Replays, Past}
+use Rattle.pool_domain.proofs.Terms.{EachHasOneLine, StandsIn, pairs_permuted, PoolRan, IsOneHistory, ReplaysPool, PoolOf, StandsInPool}
+use Rattle.pool_domain.proofs.Orders.{as_scripts, stands_as, replays_pool, all_alone, scripts_of, script_lines, all_ran, scripts_length, same_commits}
 use Rattle.pool_domain.proofs.Shares.{IsOneOf, are_shares, all_follow, all_stand, all_seats, all_in_time}
 
 -- What holds of the lines of a pool in a history.

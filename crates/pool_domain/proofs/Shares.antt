@@ -1,24 +1,11 @@
 -- What the seats of a pool took, each with its lines in the whole history.
-use Rattle.std.proofs.Common.{◌≡◌, ℕ, zero, suc, ◌+◌, ◌<◌, ◌≤◌, List, [], ◌∷◌, ◌++◌, length, sym, subst, arith}
-use Rattle.std.proofs.Common.{take_at, drop_at}
-use Rattle.std.specs.List.{All}
-use Rattle.std.specs.Option.{IsSomeAnd}
-use Rattle.std.proofs.lemmas.List.Elements.{All-nil, All-cons, All-weaker, All-append}
-use Rattle.mv_history.specs.declared.history.Commit.{Commit}
-use Rattle.mv_history.specs.State.{commits_of}
-use Rattle.mv_history.specs.Meaning.{Seat}
-use Rattle.set_script.specs.declared.commands.Command.{Command}
-use Rattle.run_report.specs.declared.line.Line.{Line}
-use Rattle.run_report.specs.Order.{time_of}
-use Rattle.run_report.specs.Legal.{EachPair, Follows, IsInTime}
-use Rattle.run_report.specs.Worked.{Past, PlaceOf, LinesOf}
-use Rattle.run_report.proofs.Pairs.{pairs_cons, pairs_append}
 use Rattle.run_report.proofs.Runs.{follows_earlier}
 use Rattle.run_report.proofs.history.Scripts.{AllWorked}
 use Rattle.run_report.proofs.history.Steps.{follows_le}
-use Rattle.command_pool.specs.Pool.{AreTaken, lines_from, EachSeat, Took}
-use Rattle.pool_domain.specs.Whole.{StandsInPool}
-use Rattle.pool_domain.proofs.Scripts.{lines_as_script, scripts_of, script_lines}
+use Rattle.pool_domain.proofs.Terms.{◌≡◌, ◌+◌, ◌<◌, ◌≤◌, ◌∷◌, ◌++◌, ℕ, zero, suc, List, [], length, sym, subst, arith, take_at, drop_at, All, IsSomeAnd}
+use Rattle.pool_domain.proofs.Terms.{All-nil, All-cons, All-weaker, All-append, Commit, commits_of, Seat, Command, Line, time_of, EachPair, Follows, IsInTime}
+use Rattle.pool_domain.proofs.Terms.{Past, PlaceOf, LinesOf, pairs_cons, pairs_append, AreTaken, lines_from, EachSeat, Took, StandsInPool}
+use Rattle.pool_domain.proofs.Orders.{lines_as_script, scripts_of, script_lines}
 
 -- Each of so many seats, the first of which has this number, took some, which stand in the history.
 abbrev pub AreShares : Past → List Command → ℕ → ℕ → List Line → Type 0

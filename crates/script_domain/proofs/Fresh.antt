@@ -1,18 +1,15 @@
 -- A read is no older than what its seat had seen when its command began.
-use Rattle.std.proofs.Common.{◌≡◌, ℕ, ◌+◌, ◌-◌, ◌≤◌, Some}
 use Rattle.std.specs.List.{slice_get}
 use Rattle.mv_history.specs.declared.history.Entry.{Entry}
 use Rattle.mv_history.specs.Calls.{Continues, IsEntryAt}
-use Rattle.mv_history.specs.Meaning.{Seat}
-use Rattle.set_script.specs.declared.commands.Command.{Command}
 use Rattle.set_script.specs.declared.commands.Reply.{Reply}
 use Rattle.section_work.specs.Causes.{Causes}
 use Rattle.section_work.specs.declared.place.Place.TheVariants.{Read}
 use Rattle.mvrlu.specs.Whole.{Whole}
 use Rattle.script_workers.specs.Links.{Linked}
-use Rattle.script_workers.proofs.Fresh.{linked_fresh}
-use Rattle.domain_loan.specs.Met.{HasMet}
+use Rattle.script_workers.proofs.Runs.{linked_fresh}
 use Rattle.domain_lines.proofs.Fresh.{fresh_between}
+use Rattle.script_domain.proofs.Terms.{◌≡◌, ◌+◌, ◌-◌, ◌≤◌, ℕ, Some, Seat, Command, HasMet}
 
 -- A command was begun at one seat, and was a read: the read's place isn't below any entry that the seat had seen then.
 pub fresh_read : (k : Causes) (w : Whole) (first met s t : Seat) (command : Command) (time : ℕ) (answer : Reply) → HasMet w first met

@@ -1,3 +1,4 @@
+pub mod Terms
 pub mod Seats
 pub mod OneRun
 pub mod Fresh

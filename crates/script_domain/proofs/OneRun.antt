@@ -1,18 +1,11 @@
 -- The seats of a domain that ran their scripts have met: their lines and tables are those of one run in the whole history.
-use Rattle.std.proofs.Common.{List, length}
 use Rattle.mv_history.specs.declared.answers.LogTable.{LogTable}
-use Rattle.mv_history.specs.Meaning.{Seat}
 use Rattle.mv_history.specs.State.{state_after}
 use Rattle.set_script.specs.CatalogueOf.{catalogue_of}
-use Rattle.set_script.specs.Lawful.{IsOpening}
-use Rattle.set_script.specs.Rules.{IsSetCommit}
-use Rattle.set_script.specs.declared.commands.Command.{Command}
-use Rattle.run_report.specs.declared.line.Line.{Line}
-use Rattle.run_report.specs.Worked.{AllRan, Past}
 use Rattle.run_report.specs.Whole.{RunOf}
 use Rattle.run_report.proofs.history.Grown.{all_worked}
 use Rattle.run_report.proofs.history.OneRun.{run_of}
-use Rattle.domain_lines.proofs.OneHistory.{IsOneHistory}
+use Rattle.script_domain.proofs.Terms.{List, length, Seat, IsOpening, IsSetCommit, Command, Line, AllRan, Past, IsOneHistory}
 
 pub run_met : (p : Past) (olds news : List Seat) (scripts : List (List Command)) (lines : List Line) (tables : List LogTable)
     → IsOneHistory IsOpening IsSetCommit p (length scripts) olds news tables → AllRan olds news scripts lines

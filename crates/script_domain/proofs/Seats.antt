@@ -1,10 +1,6 @@
 -- The seats before and after their scripts.
-use Rattle.std.proofs.Common.{List, [], ◌∷◌, length, drop}
+use Rattle.script_domain.proofs.Terms.{◌∷◌, List, [], length, drop, Command, Line, AllRan, AllContinue}
 use Rattle.mv_history.specs.Meaning as history
-use Rattle.set_script.specs.declared.commands.Command.{Command}
-use Rattle.run_report.specs.declared.line.Line.{Line}
-use Rattle.run_report.specs.Worked.{AllRan}
-use Rattle.domain_loan.specs.Met.{AllContinue}
 
 -- seats that ran their scripts went on
 pub all_continue : (olds news : List history.Seat) (scripts : List (List Command)) (lines : List Line) → AllRan olds news scripts lines

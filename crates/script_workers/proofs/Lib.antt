@@ -1,5 +1,3 @@
 pub mod Terms
 pub mod Places
 pub mod Runs
-pub mod Fresh
-pub mod Chains

@@ -3,15 +3,14 @@ use Rattle.std.proofs.lemmas.Bool.{eqb-true}
 use Rattle.std.proofs.lemmas.Option.{slice_get_within}
 use Rattle.mv_history.proofs.Writing.{length-state_after}
 use Rattle.set_script.specs.Objects.{first_node}
-use Rattle.mv_history.specs.declared.history.Entry.{Entry}
 use Rattle.set_script.specs.Replies.{reply, changes}
 use Rattle.section_work.specs.Sections.{IsEntered}
 use Rattle.std.proofs.lemmas.List.Elements.{All-nil, All-cons, All-get_or}
-use Rattle.std.proofs.Common.{◌≡◌, ◌+◌, ◌-◌, ◌<◌, ◌≤◌, ◌==◌, if◌then◌else◌, ◌∷◌, ◌++◌, ℕ, eqb, Bool, true, false, List, [], length, take, drop, All, refl, sym}
-use Rattle.script_workers.proofs.Terms.{longer, IsEntryAt, ap, ◌∙◌, subst, arith, length-append, append-nil, get_or_push, take-append-drop, Rest, seen_grows}
-use Rattle.script_workers.proofs.Terms.{entered_continues, entered_within, Continues-Continues, Done, Attempted, Commit, Change, commits_of, Seat, InSection}
-use Rattle.script_workers.proofs.Terms.{IsSeat, Continues, catalogue_of, IsOpening, capacity, IsSetCommit, Command, Place, AtCommit, Read, Reply, Causes, Past}
-use Rattle.script_workers.proofs.Terms.{past_of, state_of_time, CommitsNone, Follows, RanTo, RanAt}
+use Rattle.script_workers.proofs.Terms.{◌≡◌, ◌+◌, ◌-◌, ◌<◌, ◌≤◌, ◌==◌, if◌then◌else◌, ◌∷◌, ◌++◌, ◌∙◌, Entry, ℕ, eqb, Bool, true, false, List, [], length, take}
+use Rattle.script_workers.proofs.Terms.{drop, All, refl, sym, longer, IsEntryAt, ap, subst, arith, length-append, append-nil, get_or_push, take-append-drop}
+use Rattle.script_workers.proofs.Terms.{Rest, seen_grows, entered_continues, entered_within, Continues-Continues, Done, Attempted, Commit, Change, commits_of}
+use Rattle.script_workers.proofs.Terms.{Seat, InSection, IsSeat, Continues, catalogue_of, IsOpening, capacity, IsSetCommit, Command, Place, AtCommit, Read}
+use Rattle.script_workers.proofs.Terms.{Reply, Causes, Past, past_of, state_of_time, CommitsNone, Follows, RanTo, RanAt}
 
 -- one more commit, if it is this seat's
 all_by_one : (seat : ℕ) (c : Commit) (cs : List Commit) (is : Bool) → eqb c.seat seat ≡ is → All (λ (d : Commit). d.seat ≡ seat) cs

@@ -15,7 +15,7 @@
 //! - after attempts that made no commit there was one of this very command that was done, with this place and this reply. A
 //!   commit is later than all that the seat had seen, and a read is of a section that this attempt entered, whose time it
 //!   took then (`took`);
-//! - so a read's snapshot holds all that the seat had seen when the command began (`linked_fresh` in proofs/Fresh.antt):
+//! - so a read's snapshot holds all that the seat had seen when the command began (`linked_fresh` in proofs/Runs.antt):
 //!   nothing is answered from memory.
 //!
 //! From the chain follows (`Ran` in `run_report`):
@@ -27,13 +27,9 @@
 //!   is that of the catalogue of its time, where the command has nothing to change;
 //! - the places follow what was seen before the run, and one another: a commit is later, and a read is no earlier.
 //!
-//! Nothing is said of what other seats do meanwhile: this holds at every interleaving. Each command is tried until it is
-//! done, so a run ends only where others let it, and takes a `Wait`. No clause speaks of the gate's calls.
-//!
-//! All memory is taken before the workers start. Want of it is the one error, and leaves the stores untouched.
-//!
-//! That the numbers of the stores are their places is asked only so that a line's seat names its script.
-//! `S::Open` must be `Send`, since the type of a thread's argument names it.
+//! Of other seats, of the end of a run, of the gate and of want of memory is said what `item_workers` says. That the numbers of
+//! the stores are their places is asked only so that a line's seat names its script. `S::Open` must be `Send`, since the type
+//! of a thread's argument names it.
 //!
 //! # How it is proved
 //!

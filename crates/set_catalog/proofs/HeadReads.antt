@@ -217,14 +217,6 @@ list_start s head words l lt e =
     let ns = l.lists head lt in
     record { nodes = ns.0; here = ap (word 3) e ∙ ap (word 3) ns.1.first; links = ns.1.links; rising = ns.1.rising; entries = map_at-list s head ns.0 ns.1 }
 
--- the walk is over at no node
-pub list_end : (s : State) (head node : ℕ) (left : Map) → node ≡ 0 → AtNode s head node left → left ≡ []
-list_end s head node left z a = go a.nodes a.here a.links a.entries
-  where
-    go : (ns : Nodes) → node ≡ first_of ns → Links s head ns → left ≡ entries_of ns → left ≡ []
-    go [] h q e = e
-    go (n ∷ ns) h q e = let low : 180 ≤ n.object = q.0 in absurd (omega arith)
-
 -- one node further, whose entry is the first
 pub record IsNextNode (s : State) (head node : ℕ) (words : List ℕ) (left : Map) : Type 0 where
   pub key_fits : word 2 words < 2 ^ 32

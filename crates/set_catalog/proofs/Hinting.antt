@@ -25,8 +25,7 @@ use Rattle.std.proofs.Common.{
   subst,
   arith,
 }
-use Rattle.std.proofs.lemmas.List.{append-nil}
-use Rattle.std.proofs.lemmas.List.Elements.{All-nil, All-cons, All-append, All-weaker, Contains-append_left, Contains-append_right}
+use Rattle.std.proofs.lemmas.List.Elements.{All-append, All-weaker, Contains-append_left, Contains-append_right}
 use Rattle.mv_history.specs.State.{State}
 use Rattle.set_catalog.specs.Hinted.{Hinted, TakesHints}
 use Rattle.set_catalog.specs.declared.picks.Picked.{Picked}
@@ -39,21 +38,6 @@ pub record HintLoop (s : State) (old new : Hinted) (but : ℕ) : Type 0 where
   pub gone : List ℕ
   pub parts : old.objects ≡ new.objects ++ gone
   pub wrong : All (λ o. IsVacant s o → o ≡ but) gone
-
--- no hint was tried yet
-pub hint_loop_start : (s : State) (h : Hinted) (but : ℕ) → HintLoop s h h but
-hint_loop_start s h but =
-    record { room = refl; gone = []; parts = sym (append-nil h.objects); wrong = All-nil (λ o. IsVacant s o → o ≡ but) }
-
--- one hint more was tried
-pub hint_loop_more : (s : State) (old h new : Hinted) (but object : ℕ) → HintLoop s old h but → new.room ≡ h.room → h.objects ≡ new.objects ++ object ∷ []
-    → (IsVacant s object → object ≡ but) → HintLoop s old new but
-hint_loop_more s old h new but object l room e w = record {
-  room = room ∙ l.room;
-  gone = object ∷ l.gone;
-  parts = l.parts ∙ ap (λ xs. xs ++ l.gone) e ∙ append_assoc new.objects (object ∷ []) l.gone;
-  wrong = All-cons (λ o. IsVacant s o → o ≡ but) object l.gone w l.wrong;
-}
 
 pub IfSome_all : {X : Type 0} (r : Option X) (P : X → Type 0) → ((x : X) → P x) → IfSome r P
 IfSome_all None P h = tt

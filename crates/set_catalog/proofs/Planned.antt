@@ -1,5 +1,5 @@
 -- The plans of commands, with all that a commit needs of them.
-use Rattle.std.proofs.Common.{◌≡◌, ◌≢◌, ℕ, zero, suc, ◌^◌, ◌+◌, ◌<◌, ◌≤◌, inl, inr, Bool, true, false, if◌then◌else◌, [], length, take, Some}
+use Rattle.std.proofs.Common.{◌≡◌, ◌≢◌, ℕ, zero, suc, ◌^◌, ◌+◌, ◌<◌, ◌≤◌, inl, inr, Bool, true, false, if◌then◌else◌, length, take, Some}
 use Rattle.std.proofs.Common.{refl, sym, ap, ◌∙◌, subst, arith}
 use Rattle.std.specs.Prelude.{nat_lt}
 use Rattle.std.proofs.lemmas.Bool.Decides.{nat_tests}
@@ -131,16 +131,6 @@ planned_alone old new ws z d e = e ∙ ap (λ (n : ℕ). merged (take n old.writ
 -- and how many writes it has
 pub planned_count : (plan : Plan) (n : ℕ) → length (writes_in plan) ≤ n → plan.count ≤ n
 planned_count plan n le = let e = count_is plan in omega arith
-
-pub room_alone : (plan : Plan) (first second : ℕ) (end : End) → plan.count ≡ 0
-    → length (writes_in plan) + count_unheld (writes_in plan) (objects_added first second end) ≤ 16
-room_alone plan first second end z =
-    subst (λ (w : Writes). length w + count_unheld w (objects_added first second end) ≤ 16) (sym (ap (λ (n : ℕ). take n plan.writes) z)) (few end)
-  where
-    few : (end : End) → 0 + count_unheld [] (objects_added first second end) ≤ 16
-    few (Listed head spot) = omega arith
-    few (Empty root) = omega arith
-    few (Grown root fork) = omega arith
 
 in_tree_locks : (name n : ℕ) → first_tree ≤ name → (if nat_lt name first_tree then most_locks else suc n + 4) ≡ suc n + 4
 in_tree_locks name n high = grind (arith, nat_tests)

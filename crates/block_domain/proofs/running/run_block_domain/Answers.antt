@@ -1,12 +1,7 @@
-use Rattle.std.proofs.Common.{sym, ◌∙◌}
-use Rattle.std.proofs.lemmas.List.{length-map}
 use Rattle.mvrlu.specs.Meant.{seat_of}
-use Rattle.set_script.specs.Lawful.{IsOpening}
-use Rattle.set_blocks.specs.BlockRules.{IsBlockCommit}
 use Rattle.block_workers.specs.Workers.{blocks_of}
+use Rattle.block_domain.proofs.Terms.{◌∙◌, sym, length-map, IsOpening, IsBlockCommit, as_many, one_history}
 use Rattle.block_domain.proofs.OneRun.{all_continue, blocks_met}
-use Rattle.domain_loan.proofs.Seats.{as_many}
-use Rattle.domain_lines.proofs.OneHistory.{one_history}
 use Rattle.block_domain.proofs.running.run_block_domain.Goals as goal
 
 -- all seats of the domain came back

@@ -1,5 +1,4 @@
-use Rattle.std.proofs.Common.{◌≡◌}
-use Rattle.block_workers.proofs.Terms.{take, sum_by, count_of}
+use Rattle.block_workers.proofs.Terms.{◌≡◌, take, sum_by, count_of}
 use Rattle.block_workers.proofs.rows.count_all.Given as goal
 
 abbrev pub invariant-loop-script : goal.invariant-loop-script

@@ -1,4 +1,4 @@
-use Rattle.std.proofs.Common.{◌≡◌, take, sum_by, length}
+use Rattle.block_workers.proofs.Terms.{◌≡◌, take, sum_by, length}
 use Rattle.block_workers.proofs.rows.count_commands.Given as goal
 
 abbrev pub invariant-loop-block : goal.invariant-loop-block

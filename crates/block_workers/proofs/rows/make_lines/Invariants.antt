@@ -1,5 +1,4 @@
-use Rattle.std.proofs.Common.{◌≡◌}
-use Rattle.block_workers.proofs.Terms.{take, vec_capacity, flat_map, row_of}
+use Rattle.block_workers.proofs.Terms.{◌≡◌, take, vec_capacity, flat_map, row_of}
 use Rattle.block_workers.proofs.rows.make_lines.Given as goal
 
 abbrev pub invariant-loop-row : goal.invariant-loop-row

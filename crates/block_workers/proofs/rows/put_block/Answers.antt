@@ -1,6 +1,5 @@
-use Rattle.std.proofs.Common.{◌+◌, ◌++◌, ◌∷◌}
-use Rattle.block_workers.proofs.Terms.{[], ap, sym, ◌∙◌, arith, take, append_assoc, Line, lines_at}
-use Rattle.block_workers.proofs.BlockRows.{lines_next}
+use Rattle.block_workers.proofs.Terms.{◌+◌, ◌++◌, ◌∷◌, ◌∙◌, [], ap, sym, arith, take, append_assoc, Line, lines_at}
+use Rattle.block_workers.proofs.BlockChains.{lines_next}
 use Rattle.block_workers.proofs.rows.put_block.Goals as goal
 
 pub push_reserved-requires : goal.push_reserved-requires

@@ -1,5 +1,4 @@
-use Rattle.std.proofs.Common.{◌≡◌, ◌+◌, ◌++◌}
-use Rattle.block_workers.proofs.Terms.{take, length, vec_capacity, lines_at}
+use Rattle.block_workers.proofs.Terms.{◌≡◌, ◌+◌, ◌++◌, take, length, vec_capacity, lines_at}
 use Rattle.block_workers.proofs.rows.put_block.Given as goal
 
 abbrev pub invariant-loop-index : goal.invariant-loop-index

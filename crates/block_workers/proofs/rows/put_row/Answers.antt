@@ -1,6 +1,6 @@
 use Rattle.block_workers.proofs.Terms.{ap, sym, subst, length, length-append, arith, take, List, length-flat_map-take, Place, Reply, Answer, FitsNumbers}
 use Rattle.block_workers.proofs.Terms.{lines_in, row_in}
-use Rattle.block_workers.proofs.BlockRows.{lines_count}
+use Rattle.block_workers.proofs.BlockChains.{lines_count}
 use Rattle.block_workers.proofs.rows.put_row.Goals as goal
 
 -- there is room for the lines of one more answer

@@ -1,5 +1,4 @@
-use Rattle.std.proofs.Common.{◌≡◌, ◌++◌}
-use Rattle.block_workers.proofs.Terms.{take, vec_capacity, row_in}
+use Rattle.block_workers.proofs.Terms.{◌≡◌, ◌++◌, take, vec_capacity, row_in}
 use Rattle.block_workers.proofs.rows.put_row.Given as goal
 
 abbrev pub invariant-loop-answer : goal.invariant-loop-answer

@@ -1,5 +1,5 @@
 use Rattle.block_workers.proofs.Terms.{arith, all_free, all_may}
-use Rattle.block_workers.proofs.AllBlocks.{few_numbers, all_ran, all_counted}
+use Rattle.block_workers.proofs.BlockChains.{few_numbers, all_ran, all_counted}
 use Rattle.block_workers.proofs.running.run_blocks.Goals as goal
 
 -- each block may be done on each store

@@ -1,5 +1,4 @@
-use Rattle.std.proofs.Common.{◌≡◌, ◌≤◌, ◌-◌}
-use Rattle.command_pool.proofs.Terms.{[], length, All, vec_capacity, hand, all_parts, IsBegun, view, IsPassOf}
+use Rattle.command_pool.proofs.Terms.{◌≡◌, ◌≤◌, ◌-◌, [], length, All, vec_capacity, hand, all_parts, IsBegun, view, IsPassOf}
 use Rattle.command_pool.proofs.lending.share_out.Given as goal
 
 abbrev pub invariant-loop : goal.invariant-loop

@@ -1,5 +1,4 @@
-use Rattle.std.proofs.Common.{◌++◌}
-use Rattle.command_pool.proofs.Terms.{◌∙◌, arith, ap, sym, length, append_assoc, flat_map, All-head, All-tail, IsLent, taken_of, view, Hand}
+use Rattle.command_pool.proofs.Terms.{◌++◌, ◌∙◌, arith, ap, sym, length, append_assoc, flat_map, All-head, All-tail, IsLent, taken_of, view, Hand}
 use Rattle.command_pool.proofs.Sharing.{merges}
 use Rattle.command_pool.proofs.lending.take_back.Goals as goal
 

@@ -1,5 +1,4 @@
-use Rattle.std.proofs.Common.{◌≡◌, ◌≤◌, ◌+◌, ◌++◌}
-use Rattle.command_pool.proofs.Terms.{length, All, vec_len, flat_map, all_parts, IsLent, taken_of, view, IsPassOf}
+use Rattle.command_pool.proofs.Terms.{◌≡◌, ◌≤◌, ◌+◌, ◌++◌, length, All, vec_len, flat_map, all_parts, IsLent, taken_of, view, IsPassOf}
 use Rattle.command_pool.proofs.lending.take_back.Given as goal
 
 abbrev pub invariant-loop-turns : goal.invariant-loop-turns

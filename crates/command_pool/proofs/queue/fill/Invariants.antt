@@ -1,5 +1,4 @@
-use Rattle.std.proofs.Common.{◌≡◌}
-use Rattle.command_pool.proofs.Terms.{[], hand, all_parts, view, IsPassOf}
+use Rattle.command_pool.proofs.Terms.{◌≡◌, [], hand, all_parts, view, IsPassOf}
 use Rattle.command_pool.proofs.queue.fill.Given as goal
 
 abbrev pub invariant-loop-count : goal.invariant-loop-count

@@ -1,4 +1,4 @@
-use Rattle.command_pool.proofs.Terms.{arith, ap, ◌∙◌, view, Hand}
+use Rattle.command_pool.proofs.Terms.{◌∙◌, arith, ap, view, Hand}
 use Rattle.command_pool.proofs.Sharing.{takes}
 use Rattle.command_pool.proofs.queue.take.Goals as goal
 

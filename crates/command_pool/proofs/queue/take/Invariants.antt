@@ -1,5 +1,4 @@
-use Rattle.std.proofs.Common.{◌≡◌}
-use Rattle.command_pool.proofs.Terms.{view, IsPassOf, IsSamePass}
+use Rattle.command_pool.proofs.Terms.{◌≡◌, view, IsPassOf, IsSamePass}
 use Rattle.command_pool.proofs.queue.take.Given as goal
 
 abbrev pub invariant-loop : goal.invariant-loop

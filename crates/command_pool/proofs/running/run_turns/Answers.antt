@@ -1,6 +1,5 @@
-use Rattle.std.proofs.Common.{◌≤◌}
-use Rattle.command_pool.proofs.Terms.{length, map, ap, sym, ◌∙◌, arith, flat_map, length-map, row_of, total, Hand}
-use Rattle.command_pool.proofs.Pools.{pool_done, pool_ran}
+use Rattle.command_pool.proofs.Terms.{◌≤◌, ◌∙◌, length, map, ap, sym, arith, flat_map, length-map, row_of, total, Hand}
+use Rattle.command_pool.proofs.Taking.{pool_done, pool_ran}
 use Rattle.command_pool.proofs.Sharing.{learns}
 use Rattle.command_pool.proofs.running.run_turns.Goals as goal
 

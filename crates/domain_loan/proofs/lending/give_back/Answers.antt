@@ -1,5 +1,4 @@
-use Rattle.std.proofs.Common.{◌∙◌, ap, length, arith}
-use Rattle.mvrlu.specs.Meant.{seat_of, handled}
+use Rattle.domain_loan.proofs.Terms.{◌∙◌, ap, length, arith, seat_of, handled}
 use Rattle.domain_loan.proofs.Moves.{first_of, moved, meant_first}
 use Rattle.domain_loan.proofs.lending.give_back.Goals as goal
 

@@ -1,5 +1,4 @@
-use Rattle.std.proofs.Common.{◌≡◌, ◌≤◌, ◌+◌, ◌++◌, length, map, vec_len, vec_capacity}
-use Rattle.mvrlu.specs.Meant.{seat_of, handled}
+use Rattle.domain_loan.proofs.Terms.{◌≡◌, ◌≤◌, ◌+◌, ◌++◌, length, map, vec_len, vec_capacity, seat_of, handled}
 use Rattle.domain_loan.proofs.lending.give_back.Given as goal
 
 abbrev pub invariant-loop-seats : goal.invariant-loop-seats

@@ -1,6 +1,4 @@
-use Rattle.std.proofs.Common.{◌∙◌, ap, length, arith}
-use Rattle.std.proofs.lemmas.List.Elements.{All-rest}
-use Rattle.mvrlu.specs.Meant.{seat_of, handled, IsSeatOf}
+use Rattle.domain_loan.proofs.Terms.{◌∙◌, ap, length, arith, All-rest, seat_of, handled, IsSeatOf}
 use Rattle.domain_loan.proofs.Moves.{first_of, holds_first, moved, meant_first}
 use Rattle.domain_loan.proofs.lending.lend.Goals as goal
 

@@ -1,5 +1,4 @@
-use Rattle.std.proofs.Common.{◌≡◌, ◌≤◌, ◌+◌, ◌++◌, length, map, All, vec_len, vec_capacity}
-use Rattle.mvrlu.specs.Meant.{seat_of, handled, IsSeatOf}
+use Rattle.domain_loan.proofs.Terms.{◌≡◌, ◌≤◌, ◌+◌, ◌++◌, length, map, All, vec_len, vec_capacity, seat_of, handled, IsSeatOf}
 use Rattle.domain_loan.proofs.lending.lend.Given as goal
 
 abbrev pub invariant-loop-handles : goal.invariant-loop-handles

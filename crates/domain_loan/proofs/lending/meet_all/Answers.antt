@@ -1,4 +1,4 @@
-use Rattle.mvrlu.specs.Meant.{whole_of}
+use Rattle.domain_loan.proofs.Terms.{whole_of}
 use Rattle.domain_loan.proofs.Seats.{all_back}
 use Rattle.domain_loan.proofs.Whole.{have_met}
 use Rattle.domain_loan.proofs.lending.meet_all.Goals as goal

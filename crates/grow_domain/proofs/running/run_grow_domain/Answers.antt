@@ -1,13 +1,8 @@
-use Rattle.std.proofs.Common.{sym, ◌∙◌}
 use Rattle.std.proofs.lemmas.List.{length-map}
 use Rattle.mvrlu.specs.Meant.{seat_of}
-use Rattle.grow_hash.specs.Grown.{IsGrownOpening}
-use Rattle.grow_hash.specs.GrowRules.{IsGrowCommit}
-use Rattle.grow_hash.specs.Tables.{grow_levels}
 use Rattle.script_workers.specs.Workers.{items_of}
+use Rattle.grow_domain.proofs.Terms.{◌∙◌, sym, IsGrownOpening, IsGrowCommit, grow_levels, as_many, one_history}
 use Rattle.grow_domain.proofs.OneRun.{all_continue, grown_met}
-use Rattle.domain_loan.proofs.Seats.{as_many}
-use Rattle.domain_lines.proofs.OneHistory.{one_history}
 use Rattle.grow_domain.proofs.running.run_grow_domain.Goals as goal
 
 -- all seats of the domain came back

@@ -1,6 +1,5 @@
-use Rattle.std.proofs.Common.{◌∙◌}
-use Rattle.domain_loan.proofs.Seats.{new_own, left_for}
 use Rattle.domain_lines.proofs.NewSeats.{lent_length, lent_numbered, lent_may_hold}
+use Rattle.grow_domain.proofs.Terms.{◌∙◌, new_own, left_for}
 use Rattle.grow_domain.proofs.OneRun.{all_continue}
 use Rattle.grow_domain.proofs.running.run_seats.Goals as goal
 

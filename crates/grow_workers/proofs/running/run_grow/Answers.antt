@@ -1,5 +1,5 @@
 use Rattle.grow_workers.proofs.Terms.{false, arith, all_may, few_numbers, line_counts, GrowKept, kept, LinkedDone}
-use Rattle.grow_workers.proofs.Chains.{all_ran, all_linked}
+use Rattle.grow_workers.proofs.Turns.{all_ran, all_linked}
 use Rattle.grow_workers.proofs.running.run_grow.Goals as goal
 
 -- each command may be done on each store

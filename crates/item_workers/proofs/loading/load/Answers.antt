@@ -1,5 +1,5 @@
-use Rattle.std.proofs.Common.{◌∷◌, refl, sym, ap, ◌∙◌, arith, map, length, true-eqb, vec_len}
-use Rattle.item_workers.proofs.Terms.{nil_from_length, All-push, All-head, All-tail, IsReady, keeps, source_of}
+use Rattle.item_workers.proofs.Terms.{◌∷◌, ◌∙◌, refl, sym, ap, arith, map, length, true-eqb, vec_len, nil_from_length, All-push, All-head, All-tail, IsReady}
+use Rattle.item_workers.proofs.Terms.{keeps, source_of}
 use Rattle.item_workers.proofs.Moving.{loaded, all_moved}
 use Rattle.item_workers.proofs.loading.load.Goals as goal
 

@@ -1,5 +1,4 @@
-use Rattle.std.proofs.Common.{◌≡◌, ◌≤◌, ◌+◌, ◌++◌}
-use Rattle.item_workers.proofs.Terms.{map, length, All, vec_len, vec_capacity, AreRooms, IsReady, keeps, source_of}
+use Rattle.item_workers.proofs.Terms.{◌≡◌, ◌≤◌, ◌+◌, ◌++◌, map, length, All, vec_len, vec_capacity, AreRooms, IsReady, keeps, source_of}
 use Rattle.item_workers.proofs.loading.load.Given as goal
 
 abbrev pub invariant-loop-stores : goal.invariant-loop-stores

@@ -1,5 +1,4 @@
-use Rattle.std.proofs.Common.{◌++◌, ◌∷◌}
-use Rattle.item_workers.proofs.Terms.{map-append, [], arith, ap, length, map, refl, sym, true-eqb, vec_len, ◌∙◌, stands_at, source_of, answers_of}
+use Rattle.item_workers.proofs.Terms.{◌++◌, ◌∷◌, ◌∙◌, map-append, [], arith, ap, length, map, refl, sym, true-eqb, vec_len, stands_at, source_of, answers_of}
 use Rattle.item_workers.proofs.Moving.{unloaded, all_moved}
 use Rattle.item_workers.proofs.loading.unload.Goals as goal
 

@@ -1,5 +1,4 @@
-use Rattle.std.proofs.Common.{◌≡◌, ◌≤◌, ◌+◌, ◌++◌}
-use Rattle.item_workers.proofs.Terms.{map, length, vec_len, vec_capacity, stands_at, source_of, answers_of}
+use Rattle.item_workers.proofs.Terms.{◌≡◌, ◌≤◌, ◌+◌, ◌++◌, map, length, vec_len, vec_capacity, stands_at, source_of, answers_of}
 use Rattle.item_workers.proofs.loading.unload.Given as goal
 
 abbrev pub invariant-loop-workers : goal.invariant-loop-workers

@@ -1,5 +1,4 @@
-use Rattle.std.proofs.Common.{◌≡◌}
-use Rattle.item_workers.proofs.Terms.{◌∙◌, Some, slice_get, arith, slice_get_within, get_or_from_slice_get}
+use Rattle.item_workers.proofs.Terms.{◌≡◌, ◌∙◌, Some, slice_get, arith, slice_get_within, get_or_from_slice_get}
 use Rattle.item_workers.proofs.Serves.{serves_more}
 use Rattle.item_workers.proofs.running.run_from.Goals as goal
 

@@ -1,5 +1,4 @@
-use Rattle.std.proofs.Common.{◌+◌, ◌≤◌}
-use Rattle.item_workers.proofs.Terms.{length, vec_capacity, Serves}
+use Rattle.item_workers.proofs.Terms.{◌+◌, ◌≤◌, length, vec_capacity, Serves}
 use Rattle.item_workers.proofs.running.run_from.Given as goal
 
 abbrev pub invariant-loop : goal.invariant-loop

@@ -1,5 +1,5 @@
 use Rattle.item_workers.proofs.Terms.{◌∙◌, map, take, take_more, map-append, All-push, IsAt, items_of}
-use Rattle.item_workers.proofs.Lists.{at_first}
+use Rattle.item_workers.proofs.Serves.{at_first}
 use Rattle.item_workers.proofs.Links.{zip_more}
 use Rattle.item_workers.proofs.threads.own_sources.Goals as goal
 

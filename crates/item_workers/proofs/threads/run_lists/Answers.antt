@@ -1,6 +1,6 @@
 use Rattle.std.proofs.lemmas.Slice.Zip.{AllZip-long}
 use Rattle.item_workers.proofs.Terms.{◌∙◌, map, length-map, items_of}
-use Rattle.item_workers.proofs.Lists.{own_did}
+use Rattle.item_workers.proofs.Serves.{own_did}
 use Rattle.item_workers.proofs.threads.run_lists.Goals as goal
 
 -- there is a source for each list

@@ -1,6 +1,6 @@
 use Rattle.item_workers.proofs.Terms.{◌∙◌, arith, ap, length, AllZip, RanBy, keeps}
 use Rattle.item_workers.proofs.Moving.{as_many_mapped, written_back}
-use Rattle.item_workers.proofs.Workers.{each_served}
+use Rattle.item_workers.proofs.Serves.{each_served}
 use Rattle.item_workers.proofs.threads.run_sources.Goals as goal
 
 pub run_all-requires-after_bounds : goal.run_all-requires-after_bounds

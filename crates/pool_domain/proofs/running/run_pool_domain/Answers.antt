@@ -1,14 +1,7 @@
-use Rattle.std.proofs.Common.{sym, ◌∙◌, refl, subst}
-use Rattle.std.proofs.lemmas.List.{length-map}
 use Rattle.mvrlu.specs.Meant.{seat_of, whole_of}
 use Rattle.mvrlu.specs.Whole.{last_state}
-use Rattle.set_script.specs.CatalogueOf.{catalogue_of}
-use Rattle.set_script.specs.Lawful.{IsOpening}
-use Rattle.set_script.specs.Rules.{IsSetCommit}
-use Rattle.domain_loan.proofs.Seats.{as_many}
 use Rattle.domain_lines.specs.Joined.{past_of_whole}
-use Rattle.domain_lines.proofs.OneHistory.{one_history}
-use Rattle.pool_domain.specs.Whole.{PoolOf}
+use Rattle.pool_domain.proofs.Terms.{◌∙◌, sym, refl, subst, length-map, catalogue_of, IsOpening, IsSetCommit, as_many, one_history, PoolOf}
 use Rattle.pool_domain.proofs.OnePool.{all_went_on, pool_met}
 use Rattle.pool_domain.proofs.running.run_pool_domain.Goals as goal
 

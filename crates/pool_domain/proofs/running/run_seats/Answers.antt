@@ -1,6 +1,5 @@
-use Rattle.std.proofs.Common.{arith}
-use Rattle.domain_loan.proofs.Seats.{new_own, left_for}
 use Rattle.domain_lines.proofs.NewSeats.{lent_length, lent_may_hold}
+use Rattle.pool_domain.proofs.Terms.{arith, new_own, left_for}
 use Rattle.pool_domain.proofs.OnePool.{all_went_on}
 use Rattle.pool_domain.proofs.running.run_seats.Goals as goal
 

@@ -1,13 +1,9 @@
-use Rattle.std.proofs.Common.{sym, ◌∙◌}
 use Rattle.std.proofs.lemmas.List.{length-map}
 use Rattle.mvrlu.specs.Meant.{seat_of}
-use Rattle.set_script.specs.Lawful.{IsOpening}
-use Rattle.set_script.specs.Rules.{IsSetCommit}
 use Rattle.script_workers.specs.Workers.{items_of}
+use Rattle.script_domain.proofs.Terms.{◌∙◌, sym, IsOpening, IsSetCommit, as_many, one_history}
 use Rattle.script_domain.proofs.OneRun.{run_met}
 use Rattle.script_domain.proofs.Seats.{all_continue}
-use Rattle.domain_loan.proofs.Seats.{as_many}
-use Rattle.domain_lines.proofs.OneHistory.{one_history}
 use Rattle.script_domain.proofs.running.run_domain.Goals as goal
 
 -- all seats of the domain came back

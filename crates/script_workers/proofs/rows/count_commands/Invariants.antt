@@ -1,5 +1,4 @@
-use Rattle.std.proofs.Common.{◌≡◌}
-use Rattle.script_workers.proofs.Terms.{take, sum_by, command_count}
+use Rattle.script_workers.proofs.Terms.{◌≡◌, take, sum_by, command_count}
 use Rattle.script_workers.proofs.rows.count_commands.Given as goal
 
 abbrev pub invariant-loop-script : goal.invariant-loop-script

@@ -1,5 +1,4 @@
-use Rattle.std.proofs.Common.{◌≡◌, ◌++◌}
-use Rattle.script_workers.proofs.Terms.{map, take, vec_capacity, line_of}
+use Rattle.script_workers.proofs.Terms.{◌≡◌, ◌++◌, map, take, vec_capacity, line_of}
 use Rattle.script_workers.proofs.rows.put_row.Given as goal
 
 abbrev pub invariant-loop-answer : goal.invariant-loop-answer

@@ -1,5 +1,5 @@
 use Rattle.script_workers.proofs.Terms.{arith, all_free, all_may, LinkedDone}
-use Rattle.script_workers.proofs.Chains.{few_numbers, all_ran, all_linked, line_counts}
+use Rattle.script_workers.proofs.Runs.{few_numbers, all_ran, all_linked, line_counts}
 use Rattle.script_workers.proofs.running.run_scripts.Goals as goal
 
 -- each command may be done on each store

@@ -1,5 +1,5 @@
-use Rattle.std.proofs.Common.{arith}
 use Rattle.work_runner.proofs.Tries.{under_still}
+use Rattle.block_workers.proofs.Terms.{arith}
 use Rattle.block_workers.proofs.blocks.BlocksRunner.attempt.Goals as goal
 
 -- the block is done

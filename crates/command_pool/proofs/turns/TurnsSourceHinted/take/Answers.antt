@@ -1,7 +1,6 @@
-use Rattle.std.proofs.Common.{◌-◌}
-use Rattle.command_pool.proofs.Terms.{length, ap, refl, arith, length_push, view, Hand}
+use Rattle.command_pool.proofs.Terms.{◌-◌, length, ap, refl, arith, length_push, view, Hand}
 use Rattle.command_pool.proofs.Taking.{command_found, command_there}
-use Rattle.command_pool.proofs.Totals.{rising_last, rising_length}
+use Rattle.command_pool.proofs.Gathering.{rising_last, rising_length}
 use Rattle.command_pool.proofs.turns.TurnsSourceHinted.take.Goals as goal
 
 -- numbers are positive

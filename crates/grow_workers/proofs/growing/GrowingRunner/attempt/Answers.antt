@@ -1,6 +1,5 @@
-use Rattle.std.proofs.Common.{◌≡◌, ◌&&◌}
-use Rattle.grow_workers.proofs.Terms.{◌∙◌, sym, is_added, odd_with}
-use Rattle.grow_workers.proofs.Attempts.{done_command, turn_done, split_told}
+use Rattle.grow_workers.proofs.Terms.{◌≡◌, ◌&&◌, ◌∙◌, sym, is_added, odd_with}
+use Rattle.grow_workers.proofs.Places.{done_command, turn_done, split_told}
 use Rattle.grow_workers.proofs.growing.GrowingRunner.attempt.Goals as goal
 
 pub returns-in-Some : goal.returns-in-Some

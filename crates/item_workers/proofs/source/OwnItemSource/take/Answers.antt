@@ -1,7 +1,6 @@
-use Rattle.std.proofs.Common.{◌+◌}
 use Rattle.std.proofs.lemmas.List.Sums.{sum_by_more, sum_by_more_le}
 use Rattle.std.proofs.lemmas.Option.{slice_get_read}
-use Rattle.item_workers.proofs.Terms.{arith, refl, ap}
+use Rattle.item_workers.proofs.Terms.{◌+◌, arith, refl, ap}
 use Rattle.item_workers.proofs.source.OwnItemSource.take.Goals as goal
 
 -- the next number is within those of all items

@@ -1,5 +1,5 @@
 // Seats that own a share of their domain: what each call answers, in a section and outside.
-use crate::comparing::assert_same;
+use crate::comparing::{assert_same, must};
 use mv_history::{LockAnswer, Room, Words};
 use mv_layout::Config;
 use mvrlu::OpenFault;
@@ -86,23 +86,15 @@ fn calls_of_a_seat_that_owns_a_share(rt: HostRuntime) -> Result<(), Fail> {
     let (seat, tidied) = seat.tidy();
     let (_seat, counted) = seat.count();
     let (_other, seen) = look(other);
-    assert_same(&rt, &outside, &true, "calls outside");
-    assert_same(&rt, &matches!(room, Ok(Room::Enough)), &true, "room");
-    assert_same(&rt, &matches!(entered, Ok(())), &true, "entering");
-    assert_same(&rt, &inside, &true, "calls in a section");
+    must(&rt, outside, "calls outside");
+    must(&rt, matches!(room, Ok(Room::Enough)), "room");
+    must(&rt, matches!(entered, Ok(())), "entering");
+    must(&rt, inside, "calls in a section");
     assert_same(&rt, &time, &Some(8), "the time of the commit");
-    assert_same(
-        &rt,
-        &matches!(tidied, Ok(tidy) if tidy.live == 0),
-        &true,
-        "a log that is emptied",
-    );
-    assert_same(
-        &rt,
-        &matches!(counted, Ok(counts) if counts.commits == 1),
-        &true,
-        "the counts",
-    );
+    let emptied = matches!(tidied, Ok(tidy) if tidy.live == 0);
+    must(&rt, emptied, "a log that is emptied");
+    let one = matches!(counted, Ok(counts) if counts.commits == 1);
+    must(&rt, one, "the counts");
     // The log is emptied behind a rest, which is the entry of time 9.
     assert_same(
         &rt,
@@ -117,6 +109,6 @@ fn calls_of_a_seat_that_owns_a_share(rt: HostRuntime) -> Result<(), Fail> {
 fn numbers_out_of_range_open_no_seats(rt: HostRuntime) -> Result<(), Fail> {
     let none = Config { objects: 0, ..TWO };
     let refused = matches!(open_seats(rt.alloc(), none), Err(OpenFault::Config(_)));
-    assert_same(&rt, &refused, &true, "a domain of no objects");
+    must(&rt, refused, "a domain of no objects");
     Ok(())
 }

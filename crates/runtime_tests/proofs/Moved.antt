@@ -1,7 +1,6 @@
 -- Where each move leaves a client.
-use Rattle.std.proofs.Common.{◌≡◌, ℕ, Bool, true, false, List, refl, sym, ap, ◌∙◌, subst, Option, Some, None}
+use Rattle.std.proofs.Common.{◌≡◌, ℕ, List, refl, sym, ap, ◌∙◌, subst, Option, Some, None}
 use Rattle.std.specs.Prelude.{Contains}
-use Rattle.mv_history.specs.State.{touches}
 use Rattle.mv_history.specs.declared.Step.{Step}
 use Rattle.mv_history.specs.declared.Entry.{Entry}
 use Rattle.mv_history.specs.declared.StepKind.{StepKind}
@@ -10,12 +9,10 @@ use Rattle.mv_layout.specs.declared.Config.{Config}
 use Rattle.mv_core.specs.declared.view.View.{View}
 use Rattle.mv_core.specs.declared.view.LoadedClocks.{LoadedClocks}
 use Rattle.mv_core.specs.declared.view.Section.{Section}
-use Rattle.mv_core.specs.Rings.{own_of}
 use Rattle.mv_core.specs.EnterSteps.{IsWhole, check_loaded, mark_cleared}
 use Rattle.mv_core.specs.WalkSteps.{IsWalking}
-use Rattle.mv_core.proofs.kinds.locking.lock_head.LockedLog.{none_held}
 use Rattle.commit_clock.specs.Helps.{HasLoaded, Helps}
-use Rattle.reader_marks.specs.Sections.{Begins, IsOpen}
+use Rattle.reader_marks.specs.Sections.{Begins}
 use Rattle.seat_log.specs.Notes.{Noted}
 use Rattle.seat_log.specs.Stands.{Stands}
 use Rattle.seat_log.proofs.PlainSteps.{LeavesLog, stands_left, stands_entered, stands_unmarked, kinds_leave, kind_leaves}
@@ -23,9 +20,8 @@ use Rattle.version_chain.specs.Walks.{inside_of, section_in, MayWalk, IsWalkStep
 use Rattle.version_chain.specs.Reads.{Reads}
 use Rattle.mv_history.specs.declared.answers.LockAnswer.{LockAnswer}
 use Rattle.object_lock.specs.declared.locking.StartedLock.{StartedLock}
-use Rattle.object_lock.specs.Locks.{IsStarted, Outcome, TriesFew}
-use Rattle.object_lock.specs.Tops.{Tries}
-use Rattle.object_lock.specs.Writes.{Stores, Rewrites}
+use Rattle.object_lock.specs.Locks.{Outcome}
+use Rattle.object_lock.specs.Writes.{Stores}
 use Rattle.commit_abort.proofs.Tried.{stands_next, phase_next, helped_next}
 use Rattle.runtime_tests.specs.Clients.{IsOutside, IsInside, HasStarted}
 use Rattle.runtime_tests.proofs.Begun.{may_walk}
@@ -40,15 +36,6 @@ entered c v w l time o b = record {
   stands = stands_entered c v w l time b o.stands;
   unbuilt = o.unbuilt;
   helped = λ x e. absurd cc;
-}
-
--- a section that holds nothing may be left
-pub may_leave : (c : Config) (v : View) (l : Noted) (word : Option ℕ) → IsInside c v l word → l.held ≡ 0 → IsOpen v
-may_leave c v l word i none = record {
-  inside = section_in v;
-  phase = i.may.phase;
-  open_is = i.may.open_is;
-  nothing = none_held v.ring (i.stands.held ∙ none);
 }
 
 pub left : (c : Config) (v w : View) (l : Noted) (word : Option ℕ) → IsInside c v l word → w ≡ mark_cleared c v → IsOutside c w l
@@ -91,16 +78,6 @@ has_read c kind leaves v w l word i r may =
     (stands_left c v w l i.stands (ap (λ (u : View). u.number) r.rest) (ap (λ (u : View). u.ring) r.rest) (ap (λ (u : View). u.past.mine) r.rest)
     (ap (λ (u : View). u.past.rests) r.rest) r.trail.0 r.trail.1 (kind_leaves kind leaves r.trail.0 r.trail.3)) i.unbuilt
 
-pub tried : (c : Config) (v w : View) (l m : Noted) (word : Option ℕ) (before after : ℕ) {exchanged : List Step}
-    → IsInside c v l word → Tries v w before after exchanged → MayWalk w → Stands c w m → m.built ≡ None → IsInside c w m word
-tried c v w l m word before after i t may stands unbuilt =
-    still_inside c v w l m word i (ap (λ (u : View). u.scan) t.rest) (ap (λ (u : View). u.clocks) t.rest) may stands unbuilt
-
--- a lock was begun: a version of the object is built
-pub has_started : (c : Config) (v w : View) (l m : Noted) (word : Option ℕ) (before after : ℕ) (lock : StartedLock) → IsInside c v l word
-    → {exchanged : List Step} → Tries v w before after exchanged → IsStarted c w m lock → HasStarted c w m lock
-has_started c v w l m word before after lock i t started = record { started = started; no_scan = ap (λ (u : View). u.scan) t.rest ∙ i.no_scan }
-
 -- and ended
 pub has_ended : {words : List ℕ} (c : Config) (v w : View) (l m : Noted) (object before after : ℕ) (lock : StartedLock) (answer : LockAnswer)
     → HasStarted c v l lock → {exchanged : List Step} → Outcome c v w m object words answer before after exchanged → IsInside c w m None
@@ -116,17 +93,6 @@ pub written : (c : Config) (v w : View) (l m : Noted) (word : Option ℕ) (n : �
     → m.built ≡ None → IsInside c w m word
 written c v w l m word n i s may stands unbuilt =
     still_inside c v w l m word i (ap (λ (u : View). u.scan) s.rest) (ap (λ (u : View). u.clocks) s.rest) may stands unbuilt
-
--- a lock with given words, of an object that the section holds, or doesn't
-pub tried_with : (c : Config) (v w : View) (l m : Noted) (object : ℕ) (words : List ℕ) (word : Option ℕ) (before after : ℕ) → IsInside c v l word
-    → (touches (own_of c v.ring) object ≡ true → Rewrites c v w object words before after)
-    → (touches (own_of c v.ring) object ≡ false → TriesFew c v w object before after)
-    → MayWalk w → Stands c w m → m.built ≡ None → IsInside c w m word
-tried_with c v w l m object words word before after i again new may stands unbuilt = go (touches (own_of c v.ring) object) refl
-  where
-    go : (t : Bool) → touches (own_of c v.ring) object ≡ t → IsInside c w m word
-    go true e = written c v w l m word 6 i (again e).stores may stands unbuilt
-    go false e = tried c v w l m word before after i (new e).1 may stands unbuilt
 
 -- CLOCK was loaded, and its word helped
 pub loaded : (c : Config) (v x y : View) (l : Noted) (old : Option ℕ) (word : ℕ) (h : List Entry) → IsInside c v l old → IsWhole c v word h

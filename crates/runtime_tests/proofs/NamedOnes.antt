@@ -13,15 +13,14 @@ use Rattle.mv_layout.specs.Words.{clock_time_of}
 use Rattle.mv_core.specs.declared.view.View.{View}
 use Rattle.mv_core.specs.Rings.{held_count}
 use Rattle.mv_core.specs.EnterSteps.{if_none}
-use Rattle.mv_core.specs.NameSteps.{LogTold, MayNameCommit}
+use Rattle.mv_core.specs.NameSteps.{LogTold}
 use Rattle.commit_clock.specs.Names.{NamesCommit}
 use Rattle.commit_clock.specs.declared.naming.Named.TheVariants.{Done, Lost}
-use Rattle.seat_log.specs.Notes.{Noted, committed_noted, aborted_noted}
+use Rattle.seat_log.specs.Notes.{Noted, committed_noted}
 use Rattle.seat_log.specs.Stands.{Stands}
 use Rattle.version_chain.specs.Walks.{section_in}
-use Rattle.commit_abort.specs.Commits.{MayCommit, Commits, IsKept}
+use Rattle.commit_abort.specs.Commits.{Commits, IsKept}
 use Rattle.commit_abort.specs.Finishes.{Finishes}
-use Rattle.commit_abort.specs.Aborts.{IsOpen, Aborts}
 use Rattle.seat_log.proofs.PlainSteps.{stands_left, one_leaves}
 use Rattle.runtime_tests.specs.Clients.{IsOutside, IsInside, HasJustNamed}
 use Rattle.runtime_tests.proofs.Moved.{walks_in}
@@ -32,19 +31,6 @@ allows_any tag before writes = ⊤
 
 some_held : (c : Config) (v : View) (l : Noted) → Stands c v l → 0 < l.held → 0 < held_count v.ring
 some_held c v l k some = let e = k.held in omega arith
-
-pub may_name : (c : Config) (v : View) (l : Noted) (word : ℕ) (tag : List ℕ) → IsInside c v l (Some word) → 0 < l.held
-    → clock_time_of word < 35184372088831 → MayNameCommit allows_any c v word tag (section_in v)
-may_name c v l word tag i some room = record {
-  phase = i.may.phase;
-  open_is = i.may.open_is;
-  past_help = i.may.helped;
-  some_held = some_held c v l i.stands some;
-  loaded = (i.helped word refl).0;
-  helped = (i.helped word refl).1;
-  room = room;
-  fit = λ s drifts. tt;
-}
 
 pub just_named : (c : Config) (v w : View) (l : Noted) (word time : ℕ) (tag : List ℕ) → IsInside c v l (Some word) → 0 < l.held
     → clock_time_of word < 35184372088831 → NamesCommit c v (section_in v) tag word (Done time) w → LogTold c v word → HasJustNamed c w l time
@@ -86,11 +72,6 @@ finished c v w l m time most named ends noted stands = record {
   unbuilt = ap (λ (k : Noted). k.built) noted ∙ named.named.unbuilt;
 }
 
-pub may_commit : (c : Config) (v : View) (l : Noted) (word : Option ℕ) (tag : List ℕ) → IsInside c v l word → 0 < l.held
-    → MayCommit allows_any c v tag (section_in v)
-may_commit c v l word tag i some =
-    record { phase = i.may.phase; open_is = i.may.open_is; past_help = i.may.helped; some_held = some_held c v l i.stands some; fit = λ s drifts. tt }
-
 pub committed : (c : Config) (v w : View) (l m : Noted) (word : Option ℕ) (tag : List ℕ) (time : ℕ) → IsInside c v l word
     → Commits c v w (section_in v) tag time → m ≡ committed_noted l time → Stands c w m → IsOutside c w m
 committed c v w l m word tag time i ends noted stands = record {
@@ -113,15 +94,4 @@ kept c v w l m word i is noted stands = record {
   stands = stands;
   unbuilt = ap (λ (k : Noted). k.built) noted ∙ i.unbuilt;
   helped = λ x e. absurd cc;
-}
-
-pub may_abort : (c : Config) (v : View) (l : Noted) (word : Option ℕ) → IsInside c v l word → IsOpen v (section_in v)
-may_abort c v l word i = record { phase = i.may.phase; open_is = i.may.open_is }
-
-pub aborted : (c : Config) (v w : View) (l m : Noted) (word : Option ℕ) (most dead : ℕ) → IsInside c v l word → Aborts v w most
-    → m ≡ aborted_noted l dead → Stands c w m → IsOutside c w m
-aborted c v w l m word most dead i ends noted stands = record {
-  may = record { outside = ends.outside; no_scan = ap (λ (u : View). u.scan) ends.rest ∙ i.no_scan };
-  stands = stands;
-  unbuilt = ap (λ (k : Noted). k.built) noted ∙ i.unbuilt;
 }

@@ -1,5 +1,5 @@
 -- Where rounds, tidies and the parts of a write-back leave a client.
-use Rattle.std.proofs.Common.{◌≡◌, ℕ, ◌<◌, List, [], ◌∷◌, refl, sym, ap, ◌∙◌, subst, arith, Some, None, Err}
+use Rattle.std.proofs.Common.{◌≡◌, ℕ, ◌<◌, [], ◌∷◌, refl, sym, ap, ◌∙◌, subst, arith, Some, None, Err}
 use Rattle.std.specs.Prelude.{slice_index}
 use Rattle.mv_history.specs.declared.Step.{Step}
 use Rattle.mv_history.specs.declared.StepKind.TheVariants.{ClearMark, StoreMaster}
@@ -13,26 +13,14 @@ use Rattle.seat_log.specs.declared.version.Note.{Note}
 use Rattle.seat_log.specs.Notes.{Noted, IsNoteAt}
 use Rattle.seat_log.specs.Stands.{Stands}
 use Rattle.log_reclaim.specs.declared.writing_back.Back.{Back}
-use Rattle.log_reclaim.specs.declared.writing_back.BackEnd.{BackEnd}
-use Rattle.log_reclaim.specs.declared.writing_back.BackEnd.TheVariants as end
 use Rattle.log_reclaim.specs.declared.writing_back.NoBack.{NoBack}
 use Rattle.log_reclaim.specs.declared.writing_back.NoBack.TheVariants.{Young, Gone, Above}
-use Rattle.log_reclaim.specs.Backs.{IsCommitted, IsWriting, HasLooked, LeavesAt, StartsSo, StoresWord, FinishesSo}
-use Rattle.log_reclaim.specs.Parts.{Reclaims, Shrinks}
+use Rattle.log_reclaim.specs.Backs.{IsCommitted, IsWriting, HasLooked, LeavesAt, StartsSo, StoresWord}
 use Rattle.log_reclaim.proofs.looks.OneNote.{note_of, note_is, position_is, place_is}
 use Rattle.log_reclaim.proofs.Reclaiming.{reclaims_may}
 use Rattle.log_reclaim.proofs.looks.Visits.{looked_rest, looked_stands, left_steps, left_makes, left_stands}
 use Rattle.seat_log.proofs.PlainSteps.{stands_left, one_leaves}
 use Rattle.runtime_tests.specs.Clients.{IsOutside, IsWritingBack}
-
--- slots were reclaimed
-pub reclaimed : (c : Config) (v w : View) (l m : Noted) (made : List Step) (freed : ℕ) → IsOutside c v l → Reclaims v w made → Shrinks l m freed
-    → Stands c w m → IsOutside c w m
-reclaimed c v w l m made freed o reclaims shrinks stands = record {
-  may = record { outside = reclaims.outside; no_scan = reclaims.no_scan };
-  stands = stands;
-  unbuilt = ap (λ (k : Noted). k.built) shrinks.rest ∙ o.unbuilt;
-}
 
 -- a committed version of the log may be written back
 pub may_start : (c : Config) (v : View) (l : Noted) (index : ℕ) (n : Note) → Stands c v l → IsNoteAt l index n → 0 < n.time
@@ -88,20 +76,6 @@ back_stored c v w l b d k is stores =
         unbuilt = e.unbuilt;
       };
     }
-
--- it has ended
-pub back_ended : (c : Config) (v w : View) (l m : Noted) (back : Back) (ended : BackEnd) → IsWritingBack c v l → FinishesSo c v w l m back ended
-    → Stands c w m → IsOutside c w m
-back_ended c v w l m back end.Cut k f stands = record {
-  may = record { outside = ap (λ (u : View). u.phase) f.view; no_scan = ap (λ (u : View). u.scan) f.view ∙ k.between.no_scan };
-  stands = stands;
-  unbuilt = ap (λ (n : Noted). n.built) f.log ∙ k.between.unbuilt;
-}
-back_ended c v w l m back (end.Above seat) k f stands = record {
-  may = record { outside = ap (λ (u : View). u.phase) f.view; no_scan = ap (λ (u : View). u.scan) f.view ∙ k.between.no_scan };
-  stands = stands;
-  unbuilt = ap (λ (n : Noted). n.built) f.log ∙ k.between.unbuilt;
-}
 
 -- it was given up, and its section left
 pub back_given_up : (c : Config) (v w : View) (l : Noted) → IsWritingBack c v l → w ≡ mark_cleared c v → IsOutside c w l

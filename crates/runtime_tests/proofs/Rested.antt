@@ -7,11 +7,9 @@ use Rattle.mv_history.specs.declared.answers.Rival.{Rival}
 use Rattle.mv_layout.specs.declared.Config.{Config}
 use Rattle.mv_layout.specs.declared.Place.TheVariants.{Clock}
 use Rattle.mv_layout.specs.Places.{place_of}
-use Rattle.mv_layout.specs.Words.{clock_time_of}
 use Rattle.mv_core.specs.declared.view.View.{View}
 use Rattle.mv_core.specs.declared.view.Past.{Past}
 use Rattle.mv_core.specs.EnterSteps.{check_loaded}
-use Rattle.mv_core.specs.NameSteps.{MayNameRest}
 use Rattle.commit_clock.specs.Helps.{HasLoaded, IsHelpStep, Helps}
 use Rattle.commit_clock.specs.Names.{NamesRest}
 use Rattle.commit_clock.specs.declared.naming.Named.TheVariants.{Done, Lost}
@@ -52,10 +50,6 @@ clock_helped c v w l word k helps =
       loaded = helps.still_loaded word k.loaded;
       helped = helps.helped;
     }
-
--- a rest may be named after it
-pub may_rest : (c : Config) (v : View) (l : Noted) (word : ℕ) → HasHelpedClock c v l word → clock_time_of word < 35184372088831 → MayNameRest v word
-may_rest c v l word k room = record { outside = k.outside.may.outside; loaded = k.loaded; helped = k.helped; room = room }
 
 -- a rest was made, and is noted
 pub rested : (c : Config) (v w : View) (l m : Noted) (word time : ℕ) → HasHelpedClock c v l word → NamesRest c v word (Done time) w

@@ -1,44 +1,48 @@
 -- What is known of a client by its stage.
 use Rattle.std.proofs.Common.{◌≡◌, ℕ, sym, subst, Option}
+use Rattle.mv_history.specs.declared.rules.AnyRules.{AnyRules}
 use Rattle.mv_layout.specs.declared.Config.{Config}
+use Rattle.mv_core.specs.declared.shared.Shared.{Shared}
 use Rattle.mv_core.specs.declared.view.View.{View}
+use Rattle.mv_core.specs.Passes.{view, config_of}
 use Rattle.seat_log.specs.Notes.{Noted}
 use Rattle.object_lock.specs.declared.locking.StartedLock.{StartedLock}
+use Rattle.runtime_tests.specs.declared.clients.Client.{Client}
 use Rattle.runtime_tests.specs.declared.clients.Stage.{Stage}
 use Rattle.runtime_tests.specs.declared.clients.Stage.TheVariants.{Outside, Lowered, Marked, Taken, Inside, Named, Locking, Loaded, Helped, WritingBack}
 use Rattle.runtime_tests.specs.Clients.{IsOutside, HasLowered, HasMarked, HasTaken, IsInside, HasJustNamed, HasStarted, HasClock, HasHelpedClock}
-use Rattle.runtime_tests.specs.Clients.{IsWritingBack, IsAt}
+use Rattle.runtime_tests.specs.Clients.{IsWritingBack, IsAt, IsReady}
 
-module _ (c : Config) (v : View) (l : Noted) (stage : Stage) (at : IsAt c v l stage) where
-  pub at_outside : stage ≡ Outside → IsOutside c v l
-  at_outside e = subst (IsAt c v l) e at
+module _ (s : Shared AnyRules) (k : Client) (ready : IsReady s k) where
+  pub at_outside : k.stage ≡ Outside → IsOutside (config_of s) (view k.pass) k.log
+  at_outside e = subst (IsAt (config_of s) (view k.pass) k.log) e ready.1
 
-  pub at_lowered : (low : ℕ) → stage ≡ Lowered low → HasLowered c v l low
-  at_lowered low e = subst (IsAt c v l) e at
+  pub at_lowered : (low : ℕ) → k.stage ≡ Lowered low → HasLowered (config_of s) (view k.pass) k.log low
+  at_lowered low e = subst (IsAt (config_of s) (view k.pass) k.log) e ready.1
 
-  pub at_marked : stage ≡ Marked → HasMarked c v l
-  at_marked e = subst (IsAt c v l) e at
+  pub at_marked : k.stage ≡ Marked → HasMarked (config_of s) (view k.pass) k.log
+  at_marked e = subst (IsAt (config_of s) (view k.pass) k.log) e ready.1
 
-  pub at_taken : (word : ℕ) → stage ≡ Taken word → HasTaken c v l word
-  at_taken word e = subst (IsAt c v l) e at
+  pub at_taken : (word : ℕ) → k.stage ≡ Taken word → HasTaken (config_of s) (view k.pass) k.log word
+  at_taken word e = subst (IsAt (config_of s) (view k.pass) k.log) e ready.1
 
-  pub at_inside : (word : Option ℕ) → stage ≡ Inside word → IsInside c v l word
-  at_inside word e = subst (IsAt c v l) e at
+  pub at_inside : (word : Option ℕ) → k.stage ≡ Inside word → IsInside (config_of s) (view k.pass) k.log word
+  at_inside word e = subst (IsAt (config_of s) (view k.pass) k.log) e ready.1
 
-  pub at_locking : (lock : StartedLock) → stage ≡ Locking lock → HasStarted c v l lock
-  at_locking lock e = subst (IsAt c v l) e at
+  pub at_locking : (lock : StartedLock) → k.stage ≡ Locking lock → HasStarted (config_of s) (view k.pass) k.log lock
+  at_locking lock e = subst (IsAt (config_of s) (view k.pass) k.log) e ready.1
 
-  pub at_loaded : (word : ℕ) → stage ≡ Loaded word → HasClock c v l word
-  at_loaded word e = subst (IsAt c v l) e at
+  pub at_loaded : (word : ℕ) → k.stage ≡ Loaded word → HasClock (config_of s) (view k.pass) k.log word
+  at_loaded word e = subst (IsAt (config_of s) (view k.pass) k.log) e ready.1
 
-  pub at_helped : (word : ℕ) → stage ≡ Helped word → HasHelpedClock c v l word
-  at_helped word e = subst (IsAt c v l) e at
+  pub at_helped : (word : ℕ) → k.stage ≡ Helped word → HasHelpedClock (config_of s) (view k.pass) k.log word
+  at_helped word e = subst (IsAt (config_of s) (view k.pass) k.log) e ready.1
 
-  pub at_writing_back : stage ≡ WritingBack → IsWritingBack c v l
-  at_writing_back e = subst (IsAt c v l) e at
+  pub at_writing_back : k.stage ≡ WritingBack → IsWritingBack (config_of s) (view k.pass) k.log
+  at_writing_back e = subst (IsAt (config_of s) (view k.pass) k.log) e ready.1
 
-  pub at_named : (time : ℕ) → stage ≡ Named time → HasJustNamed c v l time
-  at_named time e = subst (IsAt c v l) e at
+  pub at_named : (time : ℕ) → k.stage ≡ Named time → HasJustNamed (config_of s) (view k.pass) k.log time
+  at_named time e = subst (IsAt (config_of s) (view k.pass) k.log) e ready.1
 
 -- still at that stage
 pub in_stage : (c : Config) (v : View) (l : Noted) (stage : Stage) (word : Option ℕ) → stage ≡ Inside word → IsInside c v l word → IsAt c v l stage

@@ -1,10 +1,9 @@
-// The ends of a section that holds something: a commit, whole or by its calls, and an abort.
-ghost use Rattle.std.specs.Prelude.{◌≡◌};
+// Commits, whole or by their calls.
 ghost use Rattle.runtime_tests.specs.Clients.{IsReady};
 
 use crate::clients::{Client, Stage};
-use crate::moves::Answer;
-use commit_abort::{Ended, abort, commit, finish};
+use crate::moves::{Answer, Move};
+use commit_abort::{Ended, commit};
 use commit_clock::{Named, name};
 use mv_core::{Shared, Steps};
 use mv_history::AnyRules;
@@ -15,9 +14,11 @@ use std::sync::ledger::Ledger;
 // The tag of each commit. The rules allow every one.
 const TAG: [u64; 4] = [1, 2, 3, 4];
 
-pub(crate) fn naming<L: Ledger>(
+// Commits a section that holds something, or names its commit.
+pub(crate) fn committing<L: Ledger>(
     shared: &Shared<AnyRules>,
     client: &mut Client,
+    next: Move,
     steps: &mut Steps<L>,
 ) -> Answer
     requires ready { IsReady shared.now client.old }
@@ -26,84 +27,31 @@ pub(crate) fn naming<L: Ledger>(
     let Stage::Inside(kept) = client.stage else {
         return Answer::Skipped;
     };
-    let Some(word) = kept else {
-        return Answer::Skipped;
-    };
-    if held(&client.log) == 0 || clock_time(word) >= LAST {
-        return Answer::Skipped;
-    }
-    let named = name(shared, &mut client.pass, word, TAG, steps);
-    match named {
-        Named::Done(time) => {
-            client.stage = Stage::Named(time);
-            Answer::Named(time)
-        }
-        Named::Lost(rival) => {
-            client.stage = Stage::Inside(None);
-            Answer::Lost(rival.seat, rival.time)
-        }
-    }
-}
-
-pub(crate) fn finishing<L: Ledger>(
-    shared: &Shared<AnyRules>,
-    client: &mut Client,
-    steps: &mut Steps<L>,
-) -> Answer
-    requires ready { IsReady shared.now client.old }
-    ensures ready { IsReady shared.now client.new }
-{
-    let Stage::Named(time) = client.stage else {
-        return Answer::Skipped;
-    };
-    finish(shared, &mut client.pass, &mut client.log, time, steps);
-    client.stage = Stage::Outside;
-    Answer::Finished
-}
-
-pub(crate) fn committing<L: Ledger>(
-    shared: &Shared<AnyRules>,
-    client: &mut Client,
-    steps: &mut Steps<L>,
-) -> Answer
-    requires ready { IsReady shared.now client.old }
-    ensures ready { IsReady shared.now client.new }
-{
-    let Stage::Inside(_) = client.stage else {
-        return Answer::Skipped;
-    };
     if held(&client.log) == 0 {
         return Answer::Skipped;
     }
-    let ended = commit(shared, &mut client.pass, &mut client.log, TAG, steps);
-    match ended {
-        Ended::Done(time) => {
-            client.stage = Stage::Outside;
-            Answer::Done(time)
-        }
-        Ended::Again(rival) => {
+    match (next, kept) {
+        (Move::Name, Some(word)) if clock_time(word) < LAST => {
             client.stage = Stage::Inside(None);
-            Answer::Again(rival.seat, rival.time)
+            match name(shared, &mut client.pass, word, TAG, steps) {
+                Named::Done(time) => {
+                    client.stage = Stage::Named(time);
+                    Answer::Named(time)
+                }
+                Named::Lost(rival) => Answer::Lost(rival.seat, rival.time),
+            }
         }
-        Ended::End => {
+        (Move::Commit, _) => {
             client.stage = Stage::Inside(None);
-            Answer::End
+            match commit(shared, &mut client.pass, &mut client.log, TAG, steps) {
+                Ended::Done(time) => {
+                    client.stage = Stage::Outside;
+                    Answer::Done(time)
+                }
+                Ended::Again(rival) => Answer::Again(rival.seat, rival.time),
+                Ended::End => Answer::End,
+            }
         }
+        _ => Answer::Skipped,
     }
-}
-
-pub(crate) fn aborting<L: Ledger>(
-    shared: &Shared<AnyRules>,
-    client: &mut Client,
-    steps: &mut Steps<L>,
-) -> Answer
-    requires ready { IsReady shared.now client.old }
-    ensures ready { IsReady shared.now client.new }
-{
-    let Stage::Inside(_) = client.stage else {
-        return Answer::Skipped;
-    };
-    abort(shared, &mut client.pass, &mut client.log, steps);
-    client.stage = Stage::Outside;
-    Answer::Aborted
 }

@@ -68,11 +68,11 @@ mod first_sections;
 #[cfg(test)]
 mod first_walks;
 #[cfg(test)]
+mod inside;
+#[cfg(test)]
 mod join_rows;
 #[cfg(test)]
 mod joining;
-#[cfg(test)]
-mod lock_moves;
 #[cfg(test)]
 mod lock_rows;
 #[cfg(test)]
@@ -82,11 +82,13 @@ mod lost_lock_rows;
 #[cfg(test)]
 mod mark_rows;
 #[cfg(test)]
-mod marking;
-#[cfg(test)]
 mod moves;
 #[cfg(test)]
 mod opening;
+#[cfg(test)]
+mod outside;
+#[cfg(test)]
+mod parts;
 #[cfg(test)]
 mod playing;
 #[cfg(test)]
@@ -96,19 +98,15 @@ mod reads;
 #[cfg(test)]
 mod reclaim_rows;
 #[cfg(test)]
-mod reclaiming;
-#[cfg(test)]
 mod rest_rows;
-#[cfg(test)]
-mod resting;
-#[cfg(test)]
-mod sections;
 #[cfg(test)]
 mod stop_rows;
 #[cfg(test)]
 mod version_stop_rows;
 #[cfg(test)]
 mod walks;
+#[cfg(test)]
+mod write_backs;
 
 pub use clients::{Client, Stage};
 #[cfg(test)]

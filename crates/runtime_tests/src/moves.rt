@@ -1,15 +1,8 @@
 // What a client may do next, and what it is answered.
-ghost use Rattle.std.specs.Prelude.{◌≡◌, ◌<◌};
-ghost use Rattle.mv_core.specs.Passes.{config_of};
 ghost use Rattle.runtime_tests.specs.Clients.{IsReady};
 
-use crate::clients::{Client, Stage};
-use crate::commits::{aborting, committing, finishing, naming};
-use crate::lock_moves::{ending, starting};
-use crate::marking::{entering_by_parts, knowing, scanning};
-use crate::reclaiming::{giving_up, rounding, tidying};
-use crate::resting::{helping, resting, taking_clock};
-use crate::sections::{entering, leaving, loading, locking, locking_with, reading, writing};
+use crate::clients::Client;
+use crate::outside::outside;
 use log_reclaim::{BackEnd, NoBack};
 use mv_core::{Shared, Steps};
 use mv_history::{AnyRules, Holder, LockAnswer, LogTable, Words};
@@ -140,57 +133,8 @@ pub(crate) fn clock(word: u64) -> Answer {
     Answer::Clock(clock_time(word), clock_seat(word), slot)
 }
 
-// Makes a part of a call, or what is made outside a section.
-fn make_part<L: Ledger>(
-    shared: &Shared<AnyRules>,
-    client: &mut Client,
-    next: Move,
-    steps: &mut Steps<L>,
-) -> Answer
-    requires ready { IsReady shared.now client.old }
-    ensures ready { IsReady shared.now client.new }
-{
-    match next {
-        Move::LockStart(object) => starting(shared, client, object, steps),
-        Move::LockEnd => ending(shared, client, steps),
-        Move::LoadLow | Move::StoreMark(_) | Move::LoadTime => {
-            entering_by_parts(shared, client, next, steps)
-        }
-        Move::Scan => scanning(shared, client, steps),
-        Move::Known => knowing(shared, client, steps),
-        Move::Table => Answer::Counts(table(&client.log)),
-        Move::Round(back) => rounding(shared, client, back, steps),
-        Move::Tidy => tidying(shared, client, steps),
-        _ => Answer::Skipped,
-    }
-}
-
-// Makes a move that loads CLOCK or makes an entry, or one of `make_part`.
-fn make_entry<L: Ledger>(
-    shared: &Shared<AnyRules>,
-    client: &mut Client,
-    next: Move,
-    steps: &mut Steps<L>,
-) -> Answer
-    requires ready { IsReady shared.now client.old }
-    ensures ready { IsReady shared.now client.new }
-{
-    match next {
-        Move::Now => match client.stage {
-            Stage::Outside => taking_clock(shared, client, steps),
-            _ => loading(shared, client, steps),
-        },
-        Move::Help => helping(shared, client, steps),
-        Move::Rest => resting(shared, client, steps),
-        Move::Name => naming(shared, client, steps),
-        Move::Finish => finishing(shared, client, steps),
-        Move::Commit => committing(shared, client, steps),
-        _ => make_part(shared, client, next, steps),
-    }
-}
-
 // Makes a move of a client that goes on with nothing under way, and answers what it was answered. A move
-// that isn't one of those is skipped.
+// that isn't one of its stage is skipped.
 pub(crate) fn make<L: Ledger>(
     shared: &Shared<AnyRules>,
     client: &mut Client,
@@ -201,16 +145,7 @@ pub(crate) fn make<L: Ledger>(
     ensures ready { IsReady shared.now client.new }
 {
     match next {
-        Move::Enter => entering(shared, client, steps),
-        Move::Leave => match client.stage {
-            Stage::WritingBack => giving_up(shared, client, steps),
-            _ => leaving(shared, client, steps),
-        },
-        Move::Read(object) => reading(shared, client, object, steps),
-        Move::Lock(object) => locking(shared, client, object, steps),
-        Move::LockWith(object, words) => locking_with(shared, client, object, words, steps),
-        Move::Write(object, words) => writing(shared, client, object, words, steps),
-        Move::Abort => aborting(shared, client, steps),
-        _ => make_entry(shared, client, next, steps),
+        Move::Table => Answer::Counts(table(&client.log)),
+        _ => outside(shared, client, next, steps),
     }
 }

@@ -7,8 +7,8 @@ use crate::comparing::assert_same;
 use crate::joining::joining;
 use crate::moves::{Answer, Move, make};
 use crate::opening::open;
-use crate::reclaiming::{back_finishing, back_starting, back_storing};
-use crate::walks::{reading_found, walk_starting, walk_stepping};
+use crate::walks::walking;
+use crate::write_backs::{back_starting, writing_back};
 use mv_core::{Shared, Steps};
 use mv_history::AnyRules;
 use mv_layout::Config;
@@ -66,14 +66,11 @@ fn make_next<L: Ledger>(
     ensures ready { IsPlayable shared.now client.new }
 {
     match next {
-        Move::WalkStart(object) if object < shared.config().objects => {
-            walk_starting(shared, client, object, steps)
+        Move::WalkStart(_) | Move::WalkStep | Move::ReadFound => {
+            walking(shared, client, next, steps)
         }
-        Move::WalkStep => walk_stepping(shared, client, steps),
-        Move::ReadFound => reading_found(shared, client, steps),
         Move::BackStart(index) => back_starting(shared, client, index, steps),
-        Move::BackWord => back_storing(shared, client, steps),
-        Move::BackFinish => back_finishing(shared, client, steps),
+        Move::BackWord | Move::BackFinish => writing_back(shared, client, next, steps),
         _ => {
             let answer = make(shared, client, next, steps);
             client.under_way = UnderWay::Nothing;

@@ -1,60 +1,29 @@
-use Rattle.std.proofs.Common.{rules, arith, [], ◌∷◌}
-use Rattle.mv_core.specs.Passes.{view, config_of}
+use Rattle.std.proofs.Common.{arith, [], ◌∷◌, ap, ◌∙◌}
 use Rattle.seat_log.proofs.OwnSlots.{of_still}
-use Rattle.runtime_tests.proofs.NamedOnes.{may_commit, committed, kept}
+use Rattle.runtime_tests.specs.declared.clients.Stage.TheVariants.{Inside}
+use Rattle.runtime_tests.proofs.NamedOnes.{just_named, name_lost}
 use Rattle.runtime_tests.proofs.Stages.{at_inside}
 use Rattle.runtime_tests.proofs.commits.committing.Goals as goal
 
-pub commit-ended-requires : goal.commit-ended-requires
-commit-ended-requires g c κs within =
-    let config = config_of c.args.shared.now in
-    let v = view c.args.client.now.pass in
-    let l = c.args.client.now.log in
-    let i = at_inside config v l c.args.client.now.stage c.requires.ready.1 _ c.in-Inside.is in
-    let may = may_commit config v l _ (1 ∷ 2 ∷ 3 ∷ 4 ∷ []) i (let e = c.held.ensures.held in let ne = c.if-held-eq0.false in omega arith) in
-    (search rules, (search rules, (c.requires.ready.0, (may, (i.stands, i.unbuilt)))))
-
 pub returns-in-Done : goal.returns-in-Done
 returns-in-Done g c =
-    let config = config_of c.args.shared.now in
-    let v = view c.args.client.now.pass in
-    let w = view c.commit-ended.new.pass in
-    let l = c.args.client.now.log in
-    let i = at_inside config v l c.args.client.now.stage c.requires.ready.1 _ c.in-Inside.is in
+    let i = at_inside c.args.shared.now c.args.client.now c.requires.ready _ (c.in-Inside.is ∙ ap Inside c.in-Name-Some.is-1) in
     let e = c.in-Done.ensures in
     record {
       ready = (
-        of_still c.args.shared.now c.args.client.now.pass c.commit-ended.new.pass e.same c.requires.ready.0,
-        committed config v w l c.commit-ended.new.log _ _ c.in-Done.time i e.ends e.log e.stands,
+        of_still c.args.shared.now c.args.client.now.pass c.name.new.pass e.same c.requires.ready.0,
+        just_named _ _ _ _ _ c.in-Done.time (1 ∷ 2 ∷ 3 ∷ 4 ∷ []) i (let h = c.held.ensures.held in let some = c.if-held-eq0.false in omega arith)
+            (let t = c.clock_time.ensures in let lt = c.if-clock_time-lt-LAST.true in omega arith) e.names e.log,
       );
     }
 
-pub returns-in-Again : goal.returns-in-Again
-returns-in-Again g c =
-    let config = config_of c.args.shared.now in
-    let v = view c.args.client.now.pass in
-    let w = view c.commit-ended.new.pass in
-    let l = c.args.client.now.log in
-    let i = at_inside config v l c.args.client.now.stage c.requires.ready.1 _ c.in-Inside.is in
-    let e = c.in-Again.ensures in
+pub returns-in-Lost : goal.returns-in-Lost
+returns-in-Lost g c =
+    let i = at_inside c.args.shared.now c.args.client.now c.requires.ready _ (c.in-Inside.is ∙ ap Inside c.in-Name-Some.is-1) in
+    let e = c.in-Lost.ensures in
     record {
       ready = (
-        of_still c.args.shared.now c.args.client.now.pass c.commit-ended.new.pass e.same c.requires.ready.0,
-        kept config v w l c.commit-ended.new.log _ i e.ends.kept e.log e.stands,
-      );
-    }
-
-pub returns-in-End : goal.returns-in-End
-returns-in-End g c =
-    let config = config_of c.args.shared.now in
-    let v = view c.args.client.now.pass in
-    let w = view c.commit-ended.new.pass in
-    let l = c.args.client.now.log in
-    let i = at_inside config v l c.args.client.now.stage c.requires.ready.1 _ c.in-Inside.is in
-    let e = c.in-End.ensures in
-    record {
-      ready = (
-        of_still c.args.shared.now c.args.client.now.pass c.commit-ended.new.pass e.same c.requires.ready.0,
-        kept config v w l c.commit-ended.new.log _ i e.ends.kept e.log e.stands,
+        of_still c.args.shared.now c.args.client.now.pass c.name.new.pass e.same c.requires.ready.0,
+        name_lost _ _ _ _ _ (1 ∷ 2 ∷ 3 ∷ 4 ∷ []) c.in-Lost.rival i e.names,
       );
     }

@@ -1,8 +1,8 @@
-use Rattle.std.proofs.Common.{rules, ◌≡◌, sym, ap, ◌∙◌, subst, Some}
+use Rattle.std.proofs.Common.{rules, ◌≡◌, sym, subst, Some}
 use Rattle.std.proofs.lemmas.List.Elements.{All-pop}
 use Rattle.mv_core.specs.EnterSteps.{MayLoadLow}
 use Rattle.mv_core.specs.Passes.{view, config_of}
-use Rattle.runtime_tests.specs.Clients.{AreReady, IsPlayable, IsAt}
+use Rattle.runtime_tests.specs.Clients.{IsPlayable, IsAt}
 use Rattle.runtime_tests.specs.declared.clients.Stage.{Stage}
 use Rattle.runtime_tests.specs.declared.clients.Stage.TheVariants.{Outside}
 use Rattle.runtime_tests.proofs.joining.joining.Goals as goal

@@ -212,6 +212,3 @@ module _ (c : Config) (v w : View) (l m : Noted) (made : List Step) (freed : ℕ
         first,
         inl untried,
       )
-
-  pub emptied_live : m.live ≡ []
-  emptied_live = no_notes m.live sweep.empty

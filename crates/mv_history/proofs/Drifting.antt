@@ -1,9 +1,8 @@
 -- What stays while others commit: lemmas for clients, and one for stores.
 use Rattle.std.proofs.Common.{◌≡◌, ℕ, true, List, [], ◌∷◌, ◌++◌, length, refl, sym, subst, ◌∙◌, append_assoc}
 use Rattle.std.proofs.lemmas.List.Elements.{All-head, All-tail}
-use Rattle.mv_history.specs.WordsLaws.{AreWords-written}
 use Rattle.mv_history.specs.State.{State, Writes, Entry, Rest, Change, written, touches, writes_of, state_after}
-use Rattle.mv_history.specs.Legal.{AreApart, NoneWrites, AreWords, AreWrites, IsLegal, IsAllowed}
+use Rattle.mv_history.specs.Legal.{AreApart, NoneWrites, AreWrites, IsLegal, IsAllowed}
 use Rattle.mv_history.specs.Drift.{TaggedWrites, drifted, AreAllowed, Avoid, Drifts, IsFit}
 use Rattle.mv_history.specs.Meaning.{words_at}
 use Rattle.mv_history.proofs.Writing.{length-written, words-written_other, state_after-append}
@@ -44,13 +43,6 @@ length-drifts allowed held from s d =
     drift_keeps_apart allowed held from (λ u. length u ≡ length from)
     (λ u tag ws e w a apart kept. length-written u ws ∙ e)
     refl s d
-
--- each object keeps the width of its words while others commit
-pub AreWords-drifts : (allowed : List ℕ → State → Writes → Type 0) (held : Writes) (from s : State) → Drifts allowed held from s → AreWords from → AreWords s
-AreWords-drifts allowed held from s d h =
-    drift_keeps_apart allowed held from AreWords
-    (λ u tag ws e w a apart kept. AreWords-written u ws e w)
-    h s d
 
 -- a fit commit is allowed on the state itself
 pub allowed_at_once : (allowed : List ℕ → State → Writes → Type 0) (s : State) (tag : List ℕ) (ws : Writes) → IsFit allowed s tag ws → allowed tag s ws

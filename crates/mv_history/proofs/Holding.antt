@@ -1,7 +1,7 @@
 -- What a section reads after a lock or a write.
 use Rattle.std.proofs.Common.{◌≡◌, ◌≢◌, ℕ, ◌+◌, ◌≤◌, eq-eqb, Bool, true, false, cond, eqb, not, ◌||◌, List, [], ◌∷◌, ◌++◌}
 use Rattle.std.proofs.Common.{length, set, refl, sym, ap, ◌∙◌, arith}
-use Rattle.std.proofs.lemmas.List.{set-set, set_comm, set-get_or}
+use Rattle.std.proofs.lemmas.List.{set-set, set_comm}
 use Rattle.std.proofs.lemmas.Bool.{not-true, and_parts}
 use Rattle.std.proofs.lemmas.Bool.Decides.{nat_tests}
 use Rattle.mv_history.specs.State.{State, Writes, written, touches, rewritten}
@@ -9,7 +9,7 @@ use Rattle.mv_history.specs.Legal.{are_distinct}
 use Rattle.mv_history.specs.Meaning.{InSection, Holds, Lacks, snapshot_of, state_of, words_at}
 use Rattle.mv_history.specs.Calls.{IsAsBefore, Locks, LocksWith, Rewrites}
 use Rattle.mv_history.proofs.Steps.{Continues-Continues}
-use Rattle.mv_history.proofs.Writing.{written-append, touches-append}
+use Rattle.mv_history.proofs.Writing.{touches-append}
 use Rattle.mv_history.proofs.Snapshots.{snapshot_of-later}
 
 -- an object that is not written later may be set after all of them
@@ -74,14 +74,6 @@ locks-rewrites a b c o words lacks p q = record {
 pub state_of-as_before : (a b : InSection) → a.at ≤ length a.seat.seen → IsAsBefore a b → state_of b ≡ state_of a
 state_of-as_before a b l p =
     ap (written (snapshot_of b)) p.own ∙ ap (λ u. written u a.own) (snapshot_of-later a b p.seat.continues p.at l)
-
--- a lock changes nothing that the section reads
-pub state_of-locks : (a b : InSection) (o : ℕ) → a.at ≤ length a.seat.seen → Locks a b o → state_of b ≡ state_of a
-state_of-locks a b o l p =
-    ap (written (snapshot_of b)) p.own
-    ∙ ap (λ u. written u (a.own ++ (o, words_at (state_of a) o) ∷ [])) (snapshot_of-later a b p.continues p.at l)
-    ∙ written-append (snapshot_of a) a.own ((o, words_at (state_of a) o) ∷ [])
-    ∙ set-get_or (state_of a) o []
 
 -- a write sets the words of its object alone
 pub state_of-rewrites : (a b : InSection) (o : ℕ) (words : List ℕ) → a.at ≤ length a.seat.seen → are_distinct a.own ≡ true → Holds a o

@@ -82,8 +82,3 @@ GoesOn-GoesOn {a} {b} {c} p q = record {
   at = q.at ∙ p.at;
   names_no_commit = NamesNoCommit-NamesNoCommit p.continues q.continues p.names_no_commit q.names_no_commit;
 }
-
--- a section that is as before, with no commit tried, goes on
-pub GoesOn-as_before : {a b : InSection} → IsAsBefore a b → NamesNoCommit a.seat b.seat → GoesOn a b
-GoesOn-as_before {a} {b} p n =
-    record { continues = p.seat.continues; mine = p.seat.mine; rests = p.seat.rests; at = p.at; names_no_commit = n }

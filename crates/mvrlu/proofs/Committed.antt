@@ -55,9 +55,6 @@ loaded_by p q word most steps k = record {
 module _ (p q : Placed) (config : q.config ≡ p.config) (table : q.table ≡ p.table) (base : p.view.base ≡ p.config.base) where
   -- a commit that was made
   module _ (tag : List ℕ) (time : ℕ) (k : Commits p.config p.view q.view (section_in p.view) tag time) where
-    trail_is : call_trail (seat_from p) (seat_from q) ≡ k.steps
-    trail_is = made p.view.trail q.view.trail k.steps k.loads.trail
-
     seen_is : q.view.past.seen ≡ k.history ++ Change (commit_of p.config p.view (section_in p.view) tag) ∷ []
     seen_is = ap (λ (x : Past). x.seen) k.past
 

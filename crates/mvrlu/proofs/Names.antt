@@ -17,10 +17,6 @@ module _ {P : Type 0} (s : Shared P) (p : Placed) (f : Fits s p) where
   pub fits_table : p.table ≡ table_of s
   fits_table = (homes_apart p.config (config_of s) p.table (table_of s) f.0).1
 
--- the numbers of a place that is this one
-pub config_inside : {P : Type 0} (s : Shared P) (p x : Placed) → p ≡ x → Fits s x → config_of s ≡ p.config
-config_inside s p x same f = fits_config s p (subst (Fits s) (sym same) f)
-
 -- its pass is of the domain
 pub fits_pass : {P : Type 0} {g : Ghosts P} (starts : State → Type 0) (allows : List ℕ → State → Writes → Type 0) (s : Shared P)
     (pass : Pass P g) (log : Noted) → Fits s (placed pass log) → IsPlaced starts allows (placed pass log) → IsOf s pass

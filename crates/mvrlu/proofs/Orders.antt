@@ -39,12 +39,6 @@ at_place (z ∷ xs) (suc i) zero y x e = inl e
 at_place (z ∷ xs) (suc i) (suc k) y x e = ⊎_elim inl (λ r. inr (ap suc r.0, r.1)) (at_place xs i k y x e)
 
 module _ {P X : Type 0} (meant : X → Seat) (d : Domain P) where
-  pub rising_none : AreRising meant d []
-  rising_none k x e = absurd (cc)
-
-  pub falling_none : (above : ℕ) → AreFalling meant d above []
-  falling_none above k number x e place = absurd (cc)
-
   pub rising_front : (xs all : List X) (y : X) → all ≡ xs ++ y ∷ [] → AreRising meant d all → AreRising meant d xs
   rising_front xs all y split are k x e = are k x (ap (λ zs. get_elem? zs k) split ∙ before_end xs y x k e)
 

@@ -89,9 +89,6 @@ module _ (c : Config) (v x : View) (l : Noted) (object before here : ℕ) (s : S
   top_answers SetFull room cause words = absurd cause
   top_answers LogFull room cause words = absurd cause
 
-  pub top_refused : (answer : LockAnswer) → IsRefused c v x object answer → answer ≢ Held
-  top_refused answer cause e = subst (IsRefused c v x object) e cause
-
 -- what was done leaves what is held as it was
 module _ (c : Config) (v w : View) (keeps : KeepsOwn c v w) where
   pub kept_too : (x : View) → KeepsOwn c w x → KeepsOwn c v x

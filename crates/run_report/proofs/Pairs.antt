@@ -1,8 +1,8 @@
 -- Facts of each line, or of each two lines, where a line is added or the lines are put in another order.
-use Rattle.std.proofs.Common.{List, [], ◌∷◌, ◌++◌}
+use Rattle.std.proofs.Common.{List, ◌∷◌, ◌++◌}
 use Rattle.std.specs.List.{All}
 use Rattle.std.specs.List.Sorted.{IsPermutation}
-use Rattle.std.proofs.lemmas.List.Elements.{All-push, All-cons, All-append}
+use Rattle.std.proofs.lemmas.List.Elements.{All-cons, All-append}
 use Rattle.std.proofs.lemmas.List.Sorted.{All-permutation}
 use Rattle.run_report.specs.declared.line.Line.{Line}
 use Rattle.run_report.specs.Legal.{EachPair}
@@ -11,13 +11,6 @@ use Rattle.run_report.specs.Legal.{EachPair}
 pub pairs_permuted : (R : Line → Line → Type 0) (lines others : List Line) → IsPermutation lines others → EachPair R lines → EachPair R others
 pairs_permuted R lines others same pairs =
     All-permutation (λ a. All (R a) others) lines others same (λ k d lt. All-permutation (R _) lines others same (pairs k d lt))
-
--- a line more
-pub pairs_push : (R : Line → Line → Type 0) (lines : List Line) (line : Line) → EachPair R lines → All (λ a. R a line) lines → All (R line) lines
-    → R line line → EachPair R (lines ++ line ∷ [])
-pairs_push R lines line pairs before after itself =
-    All-push (λ a. All (R a) (lines ++ line ∷ [])) lines line (λ k d lt. All-push (R _) lines line (pairs k d lt) (before k d lt))
-    (All-push (R line) lines line after itself)
 
 -- a line ahead of the others
 pub pairs_cons : (R : Line → Line → Type 0) (line : Line) (lines : List Line) → R line line → All (R line) lines → All (λ a. R a line) lines

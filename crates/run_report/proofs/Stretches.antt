@@ -1,5 +1,5 @@
 -- The lines of stretches that are found, cut and gathered one after another.
-use Rattle.std.proofs.Common.{◌≡◌, ℕ, ◌+◌, ◌<◌, List, [], ◌∷◌, ◌++◌, length, take, get_or, sym, ap, ◌∙◌, append_assoc, subst}
+use Rattle.std.proofs.Common.{◌≡◌, ℕ, ◌+◌, ◌<◌, List, [], ◌∷◌, ◌++◌, length, take, get_or, sym, append_assoc, subst}
 use Rattle.std.specs.Borrow.{Bor}
 use Rattle.std.specs.List.Sorted.{IsPermutation}
 use Rattle.std.proofs.lemmas.List.{take_more, flat_map_more}
@@ -10,13 +10,6 @@ use Rattle.run_report.specs.InOrder.{lines_of}
 -- one stretch more
 pub one_more : (done : List (Bor (List Line))) (s : Bor (List Line)) → lines_of (done ++ s ∷ []) ≡ lines_of done ++ s.now
 one_more done s = sym (flat_map_more (λ (t : Bor (List Line)). t.now) [] done s)
-
--- what is found, with one stretch more, and what is left
-pub found_more : (lines rest others : List Line) (found : List (Bor (List Line))) (s : Bor (List Line)) → lines_of found ++ rest ≡ lines
-    → rest ≡ s.now ++ others → lines_of (found ++ s ∷ []) ++ others ≡ lines
-found_more lines rest others found s told is =
-    ap (λ (front : List Line). front ++ others) (one_more found s) ∙ append_assoc (lines_of found) s.now others
-    ∙ ap (λ (back : List Line). lines_of found ++ back) (sym is) ∙ told
 
 -- the middle two of four lists change places
 swap_middle : (a b c d : List Line) → IsPermutation ((a ++ b) ++ (c ++ d)) ((a ++ c) ++ (b ++ d))

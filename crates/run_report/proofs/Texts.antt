@@ -33,9 +33,9 @@ use Rattle.std.specs.List.{flat_map, zip}
 use Rattle.std.proofs.lemmas.List.{at_drop_more, take_more, take_all, flat_map_more}
 use Rattle.std.proofs.lemmas.Slice.Zip.{length-zip, get_or-zip}
 use Rattle.mv_history.specs.declared.answers.LogTable.{LogTable}
-use Rattle.set_script.specs.Catalogue.{Map, Maps, map_of}
+use Rattle.set_script.specs.Catalogue.{Map}
 use Rattle.set_script.specs.Names.{name_text}
-use Rattle.run_report.specs.Text.{text_of_key, text_of_set, text_of_sets, text_of_table, text_of_tables}
+use Rattle.run_report.specs.Text.{text_of_key, text_of_set, text_of_table, text_of_tables}
 
 -- the keys of a map beside its values are the map
 pub zip_of_parts : (m : Map) → zip (map (λ (e : ℕ × ℕ). e.0) m) (map (λ (e : ℕ × ℕ). e.1) m) ≡ m
@@ -71,11 +71,6 @@ pub set_told : (name : ℕ) (m : Map) (keys values old named keyed now : List �
 set_told name m keys values old named keyed now (Ok u) first second some name_told keys_told end_told = end_told
     ∙ rw (keys_told, name_told) (set_whole name m keys values old first second some)
 set_told name m keys values old named keyed now (Err e) first second some name_told keys_told end_told = tt
-
--- one set more
-pub sets_more : (maps : Maps) (name : ℕ) → name < length maps
-    → text_of_sets name (drop name maps) ≡ text_of_set name (map_of name maps) ++ text_of_sets (name + 1) (drop (name + 1) maps)
-sets_more maps name lt = at_drop_more (text_of_sets name) maps name [] lt ∙ rw (add-one name) refl
 
 -- one table more
 pub tables_more : (tables : List LogTable) (seat : ℕ) (table : LogTable) → seat < length tables → table ≡ get_or tables seat table

@@ -28,9 +28,6 @@ module _ (c : Config) (v : View) (l : Noted) (position word value : ℕ) (k : St
   abbrev at : ℕ
   at = position - l.freed
 
-  n : Note
-  n = (held_note c v l position k held).0
-
   noted : IsNoteAt l (position - l.freed) (held_note c v l position k held).0
   noted = (held_note c v l position k held).1
 
@@ -53,9 +50,6 @@ module _ (c : Config) (v : View) (l : Noted) (position word value : ℕ) (k : St
       }
 
   module _ (m : Note) (is_note : IsNoteAt l (position - l.freed) m) (here : slot_at v.ring (index_of c position) ≡ Live (version_of m) Held) where
-    new : Slot
-    new = Live (version_of (with_word word value m)) Held
-
     within : index_of c position < length v.ring.slots
     within = live_within v.ring (index_of c position) (version_of m) Held here
 
@@ -72,9 +66,6 @@ module _ (c : Config) (v : View) (l : Noted) (position word value : ℕ) (k : St
         let room = k.log.room in
         let slots = k.slots in
         ne (places_apart c l.freed i at (omega arith) (omega arith) (e ∙ ap (index_of c) (sym place_is)))
-
-    after : View
-    after = data_stored c v position word value (version_of m)
 
     stands_so : Stands c (data_stored c v position word value (version_of m)) (word_noted l position word value)
     stands_so =

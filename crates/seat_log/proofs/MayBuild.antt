@@ -32,9 +32,6 @@ module _ (c : Config) (v : View) (position : ℕ) (may : MayBuild c v position) 
       record { inside = may.open_is.0; phase = may.open_is.1; open_is = may.open_is.2; next = may.next; build = build_is; fits = fits }
 
   module _ (w : View) (field x : ℕ) (is : w ≡ built_stored c v position field x (build_at c v position)) where
-    new : Build
-    new = built_too (build_at c v position) field x
-
     pub first_stays : first_in w ≡ first_in v
     first_stays =
         ap first_in is

@@ -1,8 +1,8 @@
 -- What a section's locks and writes do, one after another.
 use Rattle.std.specs.Result.{IsErrAnd, IfErr}
-use Rattle.std.proofs.Common.{◌≡◌, ◌+◌, ◌<◌, ◌≤◌, ◌||◌, ◌∷◌, ◌++◌, ℕ, suc, Bool, true, false, cond, List, [], length, get_or, take, drop, set, refl, sym, ap}
+use Rattle.std.proofs.Common.{◌≡◌, ◌+◌, ◌<◌, ◌≤◌, ◌||◌, ◌∷◌, ◌++◌, ℕ, suc, Bool, true, false, List, [], length, get_or, take, drop, set, refl, sym, ap}
 use Rattle.section_work.proofs.Terms.{◌∙◌, subst, arith, Result, Ok, Err, take_all, take_more, State, Writes, written, touches, rewritten, are_distinct}
-use Rattle.section_work.proofs.Terms.{AreWithin, InSection, words_at, snapshot_of, state_of, Holds, Lacks, GoesOn, Locks, Rewrites, GoesOn-itself}
+use Rattle.section_work.proofs.Terms.{AreWithin, InSection, snapshot_of, state_of, GoesOn, Rewrites, GoesOn-itself}
 use Rattle.section_work.proofs.Terms.{written-append, touches_at, GoesOn-GoesOn, state_of-as_before, state_of-rewrites, snapshot_of-goes_on, with_lock}
 use Rattle.section_work.proofs.Terms.{with_locks, with_writes, objects_of, count_unheld, HasRoom, HoldsMore, Rewritten, IsRefused, Refuses, Refusal}
 use Rattle.section_work.proofs.OwnWrites.{written-with_locks}
@@ -11,25 +11,6 @@ use Rattle.section_work.proofs.HeldWrites.{with_writes-push, count-append, at_pl
 
 pub holds_nothing : (a : InSection) → HoldsMore a a [] a.own
 holds_nothing a = record { goes_on = GoesOn-itself a; spare = omega arith; own = refl; snapshot = refl }
-
--- One lock.
-pub holds_lock : (a b : InSection) (o : ℕ) → a.at ≤ length a.seat.seen → GoesOn a b → (Holds a o → b ≡ a) → (Lacks a o → Locks a b o)
-    → HoldsMore a b (o ∷ []) (with_locks (state_of a) a.own (o ∷ []))
-holds_lock a b o le goes held new = go (touches a.own o) refl
-  where
-    go : (t : Bool) → touches a.own o ≡ t → HoldsMore a b (o ∷ []) (with_locks (state_of a) a.own (o ∷ []))
-    go true e = record {
-      goes_on = goes;
-      spare = ap (λ (u : Bool). b.seat.spare + (cond u 0 1 + 0)) e ∙ omega (arith, ap (λ (u : InSection). u.seat.spare) (held e));
-      own = ap (λ (u : InSection). u.own) (held e) ∙ sym (ap (λ (u : Bool). cond u a.own (a.own ++ (o, words_at (state_of a) o) ∷ [])) e);
-      snapshot = snapshot_of-goes_on a b goes le;
-    }
-    go false e = record {
-      goes_on = goes;
-      spare = ap (λ (u : Bool). b.seat.spare + (cond u 0 1 + 0)) e ∙ omega (arith, (new e).spare);
-      own = (new e).own ∙ sym (ap (λ (u : Bool). cond u a.own (a.own ++ (o, words_at (state_of a) o) ∷ [])) e);
-      snapshot = snapshot_of-goes_on a b goes le;
-    }
 
 -- locks leave the state
 pub holds-state : (a b : InSection) (os : List ℕ) → HoldsMore a b os (with_locks (state_of a) a.own os) → state_of b ≡ state_of a

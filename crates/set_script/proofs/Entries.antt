@@ -1,5 +1,5 @@
 -- Whether a key is there with a value, and what its value is.
-use Rattle.std.proofs.Common.{◌≡◌, ◌≢◌, ℕ, Bool, true, false, cond, eqb, eq-eqb, eqb-true, ne_eqb, [], ◌∷◌, refl, ap, ◌∙◌, arith, Some}
+use Rattle.std.proofs.Common.{◌≡◌, ◌≢◌, ℕ, Bool, true, false, cond, eqb, eq-eqb, ne_eqb, [], ◌∷◌, refl, ap, ◌∙◌, arith, Some}
 use Rattle.std.proofs.lemmas.Bool.Decides.{nat_tests}
 use Rattle.set_script.specs.Catalogue.{Map, has_key, has_entry, value_of}
 
@@ -23,14 +23,6 @@ has_entry-other k u v m e n = has_entry-value k u v m e ∙ ne_eqb u v n
 
 pub has_entry-there : (k v : ℕ) (m : Map) → value_of k m ≡ Some v → has_entry k v m ≡ true
 has_entry-there k v m e = has_entry-value k v v m e ∙ eq-eqb v v refl
-
-pub there-has_entry : (k v : ℕ) (m : Map) → has_entry k v m ≡ true → value_of k m ≡ Some v
-there-has_entry k v [] h = absurd (cc)
-there-has_entry k v (x ∷ m) h = go (eqb x.0 k) (there-has_entry k v m) h
-  where
-    go : (b : Bool) → (has_entry k v m ≡ true → value_of k m ≡ Some v) → cond b (eqb x.1 v) (has_entry k v m) ≡ true → cond b (Some x.1) (value_of k m) ≡ Some v
-    go true r g = ap Some (eqb-true x.1 v g)
-    go false r g = r g
 
 -- a key has one value
 pub value_once : (k u v : ℕ) (m : Map) → value_of k m ≡ Some u → value_of k m ≡ Some v → u ≡ v

@@ -1,5 +1,5 @@
 -- Heads and the names to which they belong.
-use Rattle.std.proofs.Common.{◌≡◌, ◌≢◌, ℕ, suc, ◌+◌, ◌-◌, ◌/◌, ◌%◌, ◌^◌, ◌<◌, ◌≤◌, ◌⊎◌, inl, inr, true, List, ap, ◌∙◌, arith, eqb-true, eq-eqb}
+use Rattle.std.proofs.Common.{◌≡◌, ◌≢◌, ℕ, suc, ◌+◌, ◌-◌, ◌/◌, ◌%◌, ◌<◌, ◌≤◌, ◌⊎◌, inl, inr, true, List, ap, ◌∙◌, arith, eqb-true, eq-eqb}
 use Rattle.std.proofs.lemmas.Bool.{cases_lt}
 use Rattle.std.proofs.lemmas.Bool.Decides.{nat_tests}
 use Rattle.mv_history.specs.State.{State}
@@ -69,10 +69,6 @@ owned_fits s head o l lh lo e =
 pub owned_key_at : (s : State) (head o : ℕ) → IsLawful s → head < 170 → 180 ≤ o → owner s o ≡ suc head → is_key_at head (words_at s o) ≡ true
 owned_key_at s head o l lh lo e =
     let z : kind s o ≡ 0 = owned_kind s head o l lh lo e in is_key_at-to head (words_at s o) e (omega arith)
-
--- in a list any key may stand
-pub list_fits : (head k : ℕ) → head < 10 → k < 2 ^ 32 → FitsHead head k
-list_fits head k lh fit = (fit, λ ge. absurd (omega arith))
 
 -- The head in which a key stands follows from the name and the key.
 pub one_head : (g head k : ℕ) → head < 170 → FitsHead head k → (g < 170 → FitsHead g k) → name_of g ≡ name_of head → g ≡ head

@@ -1,5 +1,5 @@
 -- The ways to change the map of one name: what a change of any structure needs so that its commit is fit.
-use Rattle.std.proofs.Common.{◌≡◌, ℕ, suc, ◌-◌, ◌<◌, ◌≤◌, ◌⊎◌, true, false, List, ◌++◌, length, set, refl, sym, ap, ◌∙◌, subst, arith, Some, []}
+use Rattle.std.proofs.Common.{◌≡◌, ℕ, suc, ◌-◌, ◌<◌, ◌≤◌, ◌⊎◌, true, false, List, ◌++◌, length, set, refl, sym, ap, ◌∙◌, subst, arith, Some}
 use Rattle.mv_history.specs.State.{State, Writes, written, touches}
 use Rattle.mv_history.specs.Legal.{are_distinct}
 use Rattle.mv_history.specs.Meaning.{words_at}
@@ -12,12 +12,11 @@ use Rattle.set_script.specs.CatalogueOf.{name_of, catalogue_of}
 use Rattle.set_script.specs.Replies.{changed, applies}
 use Rattle.set_script.specs.Objects.{owner}
 use Rattle.set_script.specs.Lawful.{IsLawful}
-use Rattle.section_work.specs.OwnWrites.{with_locks, with_writes, objects_of}
+use Rattle.section_work.specs.OwnWrites.{objects_of}
 use Rattle.set_script.specs.Tags.{tag_of}
 use Rattle.set_script.specs.Rules.{capacity, IsInRange, Keeps, MakesSome, IsSetCommit}
 use Rattle.set_script.proofs.ObjectWords.{word}
 use Rattle.section_work.proofs.Objects.{IsIn, in_left, in_right, touches-in}
-use Rattle.section_work.proofs.OwnWrites.{own_from_none}
 use Rattle.set_script.proofs.Halves.{KeepsOf, keeps_of, Half}
 use Rattle.set_script.proofs.Replying.{overflows-fits, Works, works}
 use Rattle.set_script.proofs.Cost.{cost_fits}
@@ -110,12 +109,6 @@ pub record Stays (Place : State → Type 0) (from s : State) (held : List ℕ) :
 
 pub vacant_same : (s s' : State) (os : List ℕ) → length s' ≡ length s → AreSame s s' os → AreVacant s os → AreVacant s' os
 vacant_same s s' os e f v o i = let x : o < length s = (v o i).1 in ((v o i).0, omega arith, ap (word 0) (f o i) ∙ (v o i).2)
-
--- A section that held nothing holds exactly the writes of the way.
-pub way_own : {Fits : Map → Type 0} {change : Map → Map} (head : ℕ) (w : Way head Fits change) (s : State) → IsLawful s → w.Place s → AreVacant s w.fresh
-    → with_writes (with_locks s [] (w.objects ++ w.fresh)) (w.writes s) ≡ w.writes s
-way_own head w s l p v =
-    ap (λ os. with_writes (with_locks s [] os) (w.writes s)) (sym (w.names s)) ∙ own_from_none s (w.writes s) (w.distinct s l p v)
 
 module _ {Fits : Map → Type 0} {change : Map → Map} (head : ℕ) (w : Way head Fits change) (command : Command) (does : Does command (name_of head) Fits change)
     (lh : head < 180) where

@@ -32,9 +32,6 @@ pub grow_site : (s : State) (root k p l m w : ℕ) → k < 2 ^ 32 → IsGrowPlac
     → (j : ℕ) × (x : ℕ) × (ps : Path) × IsSite s root k p l m w j x ps
 grow_site s root k p l m w fits place vm vw ne = (r.2, r.3, r.0, site)
   where
-    t : Tree
-    t = place.ends.0
-
     r : (ps : Path) × (n : ℕ) × (j : ℕ) × (v : ℕ) × (place.ends.0 ≡ plug ps (leaf n j v)) × Follows k ps
     r = path_to k place.ends.0
 

@@ -252,9 +252,6 @@ pub record IsUnderWay (s : State) (table : List ℕ) (node held : ℕ) (m : Map)
   pub sum : count + length rest ≡ length m
   pub walk : IsWalk s table node held rest
 
-pub under_way_start : (s : State) (table : List ℕ) (node held : ℕ) (m : Map) → IsWalk s table node held m → IsUnderWay s table node held m 0
-under_way_start s table node held m w = record { rest = m; sum = omega arith; walk = w }
-
 -- one entry more was passed
 pub under_way_more : (s t : State) (table table' : List ℕ) (node node' held held' : ℕ) (m : Map) (key value count : ℕ) → t ≡ s →
     IsUnderWay s table node held m count → ((r : Map) → IsWalk t table node held r → IsPassed t table' node' held' r key value) →

@@ -1,12 +1,12 @@
 -- The words that a reader has read so far.
-use Rattle.std.proofs.Common.{◌≡◌, ◌≢◌, ℕ, ◌+◌, ◌<◌, List, [], ◌∷◌, ◌++◌, length, set, get_or, refl, sym, ap}
+use Rattle.std.proofs.Common.{◌≡◌, ◌≢◌, ℕ, ◌+◌, ◌<◌, List, [], ◌∷◌, ◌++◌, length, set, get_or, sym, ap}
 use Rattle.std.proofs.Common.{◌∙◌, subst, arith, below_more, length-set, get_or-set_other, get_or-set_same}
 use Rattle.std.proofs.lemmas.List.{ext_get_or}
 use Rattle.mv_history.specs.declared.Step.{Step}
 use Rattle.mv_history.specs.declared.StepKind.{StepKind}
 use Rattle.mv_core.specs.declared.view.View.{View}
 use Rattle.version_chain.specs.Reads.{Reads}
-use Rattle.version_chain.proofs.Trails.{Grows, grows_none, grows_one}
+use Rattle.version_chain.proofs.Trails.{Grows, grows_one}
 
 -- So many of the words were read, by one load each: the view has changed in its trail alone, and those words are these.
 pub record HasRead (kind : StepKind) (v w : View) (these words : List ℕ) (n before after : ℕ) : Type 0 where
@@ -18,16 +18,6 @@ pub record HasRead (kind : StepKind) (v w : View) (these words : List ℕ) (n be
   pub count : after ≡ before + n
 
 module _ (kind : StepKind) (v : View) (these : List ℕ) (before : ℕ) where
-  pub read_none : (words : List ℕ) → length words ≡ 6 → HasRead kind v v these words 0 before before
-  read_none words wide = record {
-    wide = wide;
-    these_wide = λ lt. absurd (omega arith);
-    read = λ k lt. absurd (omega arith);
-    trail = grows_none (λ s. s.kind ≡ kind) v.trail;
-    rest = refl;
-    count = omega arith;
-  }
-
   -- one word more: what is read of a view doesn't change with its trail
   pub read_one : (w x : View) (words : List ℕ) (n after later found : ℕ) (s : Step) (read_of : View → List ℕ)
       → ((t : List Step) → read_of (record v { trail = t }) ≡ these)

@@ -2,8 +2,7 @@
 use Rattle.std.proofs.Common.{◌≡◌, ◌≢◌, ℕ, ◌<◌, ◌≤◌, Bool, false, if◌then◌else◌, List, sym, ap, ◌∙◌, subst, ne_eqb, Option, Some, None}
 use Rattle.mv_history.specs.declared.Entry.{Entry}
 use Rattle.mv_layout.specs.declared.Config.{Config}
-use Rattle.mv_layout.specs.Words.{link_of, link_seat_of, link_position_of}
-use Rattle.mv_layout.proofs.Unpacking as unpacking
+use Rattle.mv_layout.specs.Words.{link_of}
 use Rattle.mv_core.specs.declared.view.View.{View}
 use Rattle.mv_core.specs.declared.view.Walk.TheVariants as place
 use Rattle.mv_core.specs.declared.view.Stand.{Stand}
@@ -12,9 +11,9 @@ use Rattle.mv_core.specs.declared.view.Phase.TheVariants.{Inside}
 use Rattle.mv_core.specs.WalkSteps.{IsPackedOf, IsLinkOf, stand_at, first_loaded, stamp_loaded, MayLoadData}
 use Rattle.mv_history.specs.declared.Step.{Step}
 use Rattle.version_chain.specs.declared.walking.FoundVersion.{FoundVersion}
-use Rattle.version_chain.specs.Slots.{found_of, IsLinked, StandsAtSlot, HasFoundSlot}
+use Rattle.version_chain.specs.Slots.{IsLinked, StandsAtSlot, HasFoundSlot}
 use Rattle.mv_core.specs.Slots.{IsSlotLinked}
-use Rattle.version_chain.specs.Walks.{time_at, stand_of, stand_in, section_in, with_first, with_stamp, HasFound, MayWalk, StandsAtVersion}
+use Rattle.version_chain.specs.Walks.{time_at, stand_of, stand_in, section_in, with_first, with_stamp, MayWalk, StandsAtVersion}
 
 -- a walk at a link that isn't 0 stands at the version of that link
 pub stands_here : (v : View) (object link : ℕ) (passed : Passed) → link ≢ 0 → v.walk ≡ stand_at object link passed false
@@ -59,20 +58,6 @@ module _ (c : Config) (v w x : View) (object link first found slot : ℕ) (seen 
         ap (λ (s : Stand). s.object) stand,
       )
 
--- such a version is named by the seat and the position of its link
-pub version_here : (c : Config) (v : View) (at : FoundVersion) → StandsAtSlot c v at
-    → StandsAtVersion c v (link_seat_of at.link) (link_position_of at.link)
-version_here c v at here = record {
-  stands = here.stands;
-  link_is = here.link_is ∙ unpacking.link_is at.link here.packed.0;
-  packed = subst (IsPackedOf c) (sym here.link_is) here.packed;
-  seat_small = unpacking.link_seat_small at.link here.packed.0;
-  position_small = unpacking.link_position_small at.link;
-  time = here.time;
-  stamp_is = here.stamp_is;
-  not_above = here.not_above;
-}
-
 -- and one of a seat and a position is at the cell of its slot
 pub slot_here : (c : Config) (v : View) (seat position link slot : ℕ) → StandsAtVersion c v seat position → link ≡ link_of seat position
     → IsSlotLinked c link slot → StandsAtSlot c v (record { link = link; slot = slot })
@@ -85,11 +70,6 @@ slot_here c v seat position link slot here is slot_is = record {
   stamp_is = here.stamp_is;
   not_above = here.not_above;
 }
-
--- what was found with its cell was found
-pub found_too : (c : Config) (v : View) (object : ℕ) (found : Option FoundVersion) → HasFoundSlot c v object found → HasFound c v object (found_of found)
-found_too c v object None here = here
-found_too c v object (Some at) here = (version_here c v at here.0, here.1)
 
 -- and its link is a packed one
 pub linked_here : (c : Config) (v : View) (object : ℕ) (found : Option FoundVersion) → HasFoundSlot c v object found → IsLinked found

@@ -1,5 +1,5 @@
 -- A write-back ends: its exchange may be tried, and what is left of the view and of the log where it is won, and where it is lost.
-use Rattle.std.proofs.Common.{◌≡◌, ◌≢◌, ℕ, zero, suc, ◌+◌, ◌<◌, ◌≤◌, true, false, List, length, map, refl, sym, ap, ◌∙◌, subst, ⊎_elim, arith, Some, None}
+use Rattle.std.proofs.Common.{◌≡◌, ◌≢◌, ℕ, zero, suc, ◌+◌, ◌<◌, true, false, List, map, refl, sym, ap, ◌∙◌, subst, ⊎_elim, arith, Some, None}
 use Rattle.mv_history.specs.declared.Entry.{Entry}
 use Rattle.mv_layout.specs.declared.Config.{Config}
 use Rattle.mv_layout.specs.Words.{clock_time_of, link_of, link_seat_of}
@@ -253,11 +253,3 @@ module _ (c : Config) (from v : View) (l : Noted) (b : Back) (time : ℕ) (k : H
 
     pub stands_timed : Stands c w m
     stands_timed = stands_then c from l b k.stands k.writing k.cut_view won v k.death.word loaded w m left log_is
-
--- the time that was found in CLOCK is that of what is seen
-pub seen_cut : (c : Config) (v w : View) (l m : Noted) (b : Back) (time : ℕ) → IsCutAt c v w l m b time → time ≤ c.base + length w.past.seen
-seen_cut c v w l m b time t =
-    let whole = t.0.whole.1 in
-    let at = t.1 in
-    let seen : length w.past.seen ≡ length t.0.history = ap (λ (u : View). length u.past.seen) t.0.view in
-    omega arith

@@ -90,10 +90,6 @@ module _ (c : Config) (v u w : View) (l m p : Noted) (made more : List Step) (ma
       (note_here n (subst (λ j. IsNoteAt p j n) e at)))
       (λ ne. note_else i n at ne)
 
-  -- the log's oldest position stays
-  freed_is : p.freed ≡ l.freed
-  freed_is = ap (λ (x : Noted). x.freed) o.log ∙ ap (λ (x : Noted). x.freed) s.log
-
   untimed_now : (i : ℕ) (n : Note) → IsNoteAt p i n → i < index + 1 → n.dead ≡ 0 → StaysUntimed c w (made ++ more) mark clock back n (found_at found n.position)
   untimed_now i n at lt none =
       dite (ℕ_discrete i index)

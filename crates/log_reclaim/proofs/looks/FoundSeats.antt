@@ -1,14 +1,9 @@
 -- The table of which other seat's version each write-back of a round found in HEAD.
-use Rattle.std.proofs.Common.{◌≡◌, ◌≢◌, ℕ, zero, suc, ◌+◌, ◌-◌, ◌<◌, refl, sym, ap, ◌∙◌, arith, get_or, Option, Some, None}
+use Rattle.std.proofs.Common.{◌≡◌, ◌≢◌, ℕ, ◌+◌, ◌-◌, ◌<◌, refl, sym, ap, ◌∙◌, arith, get_or, Option, Some, None}
 use Rattle.std.proofs.lemmas.List.{length-set, get_or-set_same, get_or-set_other}
 use Rattle.seat_log.specs.Notes.{Noted}
 use Rattle.log_reclaim.specs.declared.settling.Found.{Found}
 use Rattle.log_reclaim.specs.Sweeps.{seat_of_byte, byte_of_seat, found_at, found_set, IsTableOf}
-
--- a byte that isn't 0 tells the seat before it
-pub seat_of_some : (byte : ℕ) → byte ≢ 0 → seat_of_byte byte ≡ Some (byte - 1)
-seat_of_some zero some = absurd (some refl)
-seat_of_some (suc seat) some = ap Some (let e : seat ≡ suc seat - 1 = omega arith in e)
 
 -- a seat is told by its byte
 seat_back : (above : Option ℕ) → seat_of_byte (byte_of_seat above) ≡ above

@@ -41,18 +41,6 @@ pub record HasStored (c : Config) (v w : View) (b d : Back) (count before after 
   pub rest : w ≡ record v { back = w.back; trail = w.trail }
   pub steps : after ≡ before + count
 
--- none yet
-pub stored_none : (c : Config) (v : View) (b : Back) (before : ℕ) → IsWriting c v b → b.stored ≡ 0 → HasStored c v v b b 0 before before
-stored_none c v b before is begun = record {
-  writing = is;
-  same = λ q. record b { stored = begun q };
-  made = [];
-  trail = sym (append-nil v.trail);
-  kinds = All-nil IsStore;
-  rest = refl;
-  steps = omega arith;
-}
-
 -- three steps more
 three_more : (t made : List Step) (a b d : Step) → (((t ++ made) ++ a ∷ []) ++ b ∷ []) ++ d ∷ [] ≡ t ++ (made ++ a ∷ b ∷ d ∷ [])
 three_more t made a b d =

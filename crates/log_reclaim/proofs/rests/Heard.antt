@@ -11,7 +11,6 @@ use Rattle.seat_log.specs.mv_core.declared.view.View.{View}
 use Rattle.seat_log.specs.mv_core.declared.view.Section.{Section}
 use Rattle.seat_log.specs.mv_core.EnterSteps.{mark_cleared}
 use Rattle.seat_log.specs.mv_core.WalkSteps.{head_loaded}
-use Rattle.seat_log.specs.mv_core.SeatSteps.{grace_loaded}
 use Rattle.seat_log.specs.commit_clock.Hears.{TellsTime, FindsUpTo, Hears}
 use Rattle.seat_log.proofs.commit_clock_lemmas.Hearing.{hears_one, hears_on, hears_quiet}
 use Rattle.seat_log.specs.reader_marks.declared.scanning.Watermark.{Watermark}
@@ -20,7 +19,7 @@ use Rattle.seat_log.specs.declared.version.Note.{Note}
 use Rattle.seat_log.specs.Notes.{Noted}
 use Rattle.log_reclaim.specs.declared.writing_back.Back.{Back}
 use Rattle.log_reclaim.specs.Backs.{HasCut, HasLostTo, FindsDeath}
-use Rattle.log_reclaim.specs.Parts.{grace_load, super_load}
+use Rattle.log_reclaim.specs.Parts.{super_load}
 use Rattle.log_reclaim.specs.Rounds.{FreesAll}
 use Rattle.log_reclaim.specs.Tries.{LoadsSuper}
 use Rattle.log_reclaim.proofs.FreedAll.{free_kind}
@@ -43,10 +42,6 @@ heard_left c v u w top first is =
 -- SUPER was loaded
 pub heard_super : (c : Config) (v w : View) (l m : Noted) (n : Note) (found : Bool) (top : ℕ) → LoadsSuper c v w l m n found → Hears v w top
 heard_super c v w l m n found top k = hears_one v w top (super_load c v.number n k.time) k.makes.reclaims.trail (λ tells. absurd tells)
-
--- GRACE was loaded
-pub heard_grace : (c : Config) (v w : View) (found top : ℕ) → w ≡ grace_loaded c v found → Hears v w top
-heard_grace c v w found top is = hears_one v w top (grace_load c found) (ap (λ (x : View). x.trail) is) (λ tells. absurd tells)
 
 -- a chain was cut, and CLOCK loaded
 pub heard_cut : (c : Config) (v u x w : View) (back : Back) (time : ℕ) → HasCut c v u back → FindsDeath c u x time → w ≡ mark_cleared c x → Hears v w time

@@ -18,7 +18,6 @@ use Rattle.mv_core.specs.ReclaimSteps.{GoesToWord, head_cut, cut_lost}
 use Rattle.mv_core.specs.Moves.{Moment, load_head, store_master, cut_head, IsStorable}
 use Rattle.mv_core.proofs.logs.Links.{link_some, position_small}
 use Rattle.mv_core.proofs.kinds.walking.WalkOn.{at_some}
-use Rattle.seat_log.specs.declared.version.Note.{Note}
 use Rattle.seat_log.specs.Stands.{version_of}
 use Rattle.seat_log.proofs.CutLogs.{stands_cut_lost}
 use Rattle.replay_rules.specs.declared.plan.Call.TheVariants.{Tidy}
@@ -82,9 +81,6 @@ module _ (c : Config) (k : Checked c) (n : ℕ) (lt : n < c.seats) (made : List 
 
   -- the version that is written back, in its slot
   module _ (logs : Logs c v log freed from) (none : from ≡ length log) (at : ℕ) (back : IsBack v.grace log freed at) where
-    abbrev m : Note
-    m = note_of at (version_at log at)
-
     abbrev noted_as : (note : CommitNote) × (slot_at v.ring (index_of c at) ≡ Live (version_of (note_of at (version_at log at))) (Committed note))
         × (note.time ≡ (version_at log at).time) × (note.dead ≡ None) × (note.cut ≡ false)
     noted_as = untimed c v log freed from logs none at back.unfreed back.live back.no_death

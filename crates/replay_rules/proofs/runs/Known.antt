@@ -10,7 +10,6 @@ use Rattle.mv_core.specs.Rule.{Facts, IsSeated}
 use Rattle.mv_core.proofs.moves.Notes.{seat_is}
 use Rattle.mv_core.proofs.logs.Links.{next_small}
 use Rattle.mv_core.specs.Known.{Known}
-use Rattle.mv_core.specs.MoveLaws.{Holds}
 use Rattle.mv_core.proofs.frames.Turning.{known_of}
 use Rattle.seat_log.proofs.PlainSteps.{LeavesLog, IsPlain, one_plain, stands_plain}
 use Rattle.replay_rules.specs.declared.seats.Version.{Version}
@@ -57,9 +56,6 @@ leb_gt a b e = go (cases_lt b a)
 module _ (c : Config) (k : Checked c) (n : ℕ) (made : List Made) (each : AreMade c made) where
   abbrev v : View
   v = (state_of c made).seats n
-
-  holds : Holds any_start any_commit c (zeros c) (state_of c made)
-  holds = holds_behind c k made each
 
   -- all facts hold
   pub facts : Facts any_start any_commit c (zeros c) (state_of c made).memory (state_of c made).history (parts_of (state_of c made).seats)

@@ -46,9 +46,6 @@ module _ (c : Config) (k : Checked c) (n : ℕ) (lt : n < c.seats) (made : List 
   abbrev v : View
   v = s.seats n
 
-  few_seats : n < 64
-  few_seats = let seats = k.seats.1 in omega (arith, lt, seats)
-
   abbrev seat_so : SeatOf
   seat_so = seat_with n log freed from time Tidy sweep own left
 

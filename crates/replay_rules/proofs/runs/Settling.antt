@@ -100,9 +100,6 @@ module _ (c : Config) (k : Checked c) (n : ℕ) (lt : n < c.seats) (made : List 
   abbrev v : View
   v = s.seats n
 
-  few_seats : n < 64
-  few_seats = let seats = k.seats.1 in omega (arith, lt, seats)
-
   -- behind a version the next one is looked at
   pub behind_so : (w : View) (log2 : List Version) (sweep2 : Sweep) (at : ℕ) → w.scan ≡ None → RestsAt c w log2 freed from None → IsSwept w.grace sweep2
       → freed ≤ at

@@ -53,9 +53,6 @@ module _ (c : Config) (k : Checked c) (n : ℕ) (lt : n < c.seats) (made : List 
   abbrev v : View
   v = s.seats n
 
-  abbrev i_of : InSection c v log freed from time → Section
-  i_of i = i.section
-
   -- the version that the walk stands at is in a slot of the domain, and the link isn't 0
   pub stands_in : (inside : InSection c v log freed from time) (o link : ℕ) → StandsAt v o link
       → (link_seat_of link < c.seats) × (slot_named c link < c.slots) × (link ≢ 0) × (link < 2 ^ 64)

@@ -66,9 +66,6 @@ module _ (starts : State → Type 0) (allows : List ℕ → State → Writes →
     nothing : HoldsNothing (f.ring n)
     nothing j x lives = let r = k.open_section.held n j x lives in not_inside r.0 r.1
 
-    now : clock_time_of word ≡ c.base + length h
-    now = ap clock_time_of (sym won) ∙ k.history.long
-
     abbrev clock : ℕ
     clock = clock_of t n 8191
 

@@ -91,9 +91,6 @@ module _ (c : Config) (v0 w : View) (log : List Version) (freed from began : ℕ
 
   -- the version that is due names the holder
   module _ (at : ℕ) (due : IsDueAt log freed sweep.last.time at) where
-    abbrev x : Version
-    x = version_at log at
-
     abbrev note_at : IsNoteAt (after_noted c v0 w log freed from began k rests) (at - freed) (note_in log at)
     note_at = noted_at c rests.2.noted log freed from at rests.2.is due.low due.live
 

@@ -94,9 +94,6 @@ module _ (c : Config) (n : ℕ) (v0 v : View) (log : List Version) (freed from :
           (first_before log freed (IsDeadAbove sweep.latest) i low (omega (arith, lt, past)) lt) in
           omega (arith, low_time, latest)
 
-  within_log : (from2 : RestsAt c v log freed from None) → freed ≤ length log
-  within_log rests = rests.2.is.within
-
   -- behind the frees of a round
   frees_so : freed ≤ length log → (again swept : Bool) → sweep.again ≡ again → sweep.swept ≡ swept
       → Frees c v0 v k.made k.old log freed sweep again swept → dead_count log state sweep.bound ≡ 0 → So (after_frees log state)

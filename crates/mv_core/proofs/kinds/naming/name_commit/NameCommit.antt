@@ -75,9 +75,6 @@ module _ (starts : State → Type 0) (allows : List ℕ → State → Writes →
     abbrev t : ℕ
     t = new_time c.base h e
 
-    now : clock_time_of word ≡ c.base + length h
-    now = ap clock_time_of (sym won) ∙ k.history.long
-
     abbrev first : ℕ
     first = set_first (f.ring n)
 

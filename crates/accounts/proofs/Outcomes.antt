@@ -8,12 +8,12 @@ use Rattle.section_work.specs.declared.attempting.Attempt.TheVariants.{Done}
 use Rattle.std.proofs.Common.{◌≡◌, ◌+◌, ◌-◌, ◌==◌}
 use Rattle.accounts.proofs.Terms.{ℕ, true, List, refl, ap, ◌∙◌, subst, arith, nat_tests, state_at, Seat, IsSeat, IsWorn, length-seen, Enough, Short, Late}
 use Rattle.accounts.proofs.Terms.{balance, from_of, IsOpening, IsTransfer, transfer_meaning}
-use Rattle.accounts.specs.declared.transfer_work.Found.{Found}
+use Rattle.accounts.specs.declared.transfer_work.Funds.{Funds}
 use Rattle.accounts.specs.Attempts.{attempt_of, IsDone, IsShort, Answers}
 
 module _ (k : Causes) (old new : Seat) (law : IsSeat IsOpening IsTransfer new) (tag : List ℕ) where
   -- the rules, which the new seat's history keeps, say that its commit is the transfer
-  done_is : (found : Found) (time : ℕ) → IsDoneAt k (transfer_meaning tag) old new found time → IsDone k old new tag time
+  done_is : (found : Funds) (time : ℕ) → IsDoneAt k (transfer_meaning tag) old new found time → IsDone k old new tag time
   done_is found time d =
       let c = d.done.commit in
       record {
@@ -55,7 +55,7 @@ module _ (k : Causes) (old new : Seat) (law : IsSeat IsOpening IsTransfer new) (
       (r.mine, omega (arith, at_end time new.last r.settles.1, r.time_is, e.continues.base, e.at, length-seen e.continues, law.time))
 
   -- What an attempt answers that is done, by what it leaves as a work.
-  pub answered_is : (found : Found) (place : Place) → Attempted k (transfer_meaning tag) old new (Done found place)
+  pub answered_is : (found : Funds) (place : Place) → Attempted k (transfer_meaning tag) old new (Done found place)
       → Answers k old new tag (attempt_of found place)
   answered_is found (AtCommit time) h = done_is found time h
   answered_is Enough (Read time) h = absurd h.settles

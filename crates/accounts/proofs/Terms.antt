@@ -11,5 +11,5 @@ pub use Rattle.mv_history.specs.Calls.{Continues, Enters, IsAsBefore, Leaves}
 pub use Rattle.accounts.specs.Layout.{words_of, account_of}
 pub use Rattle.accounts.specs.Rules.{balance, IsTransfer, balance_of, from_of, to_of, IsOpening, total, amount_of}
 pub use Rattle.accounts.specs.Transfers.{transfer_tag, transfer_meaning}
-pub use Rattle.accounts.specs.declared.transfer_work.Found.TheVariants.{Enough, Short, Late}
+pub use Rattle.accounts.specs.declared.transfer_work.Funds.TheVariants.{Enough, Short, Late}
 pub use Rattle.accounts.specs.Repeats.{IsSum, ReadsEach}

@@ -7,14 +7,14 @@ use Rattle.section_work.specs.Causes.{Causes}
 use Rattle.section_work.specs.Sections.{TriesOne}
 use Rattle.section_work.specs.Attempts.{Enters, GivesUp}
 use Rattle.std.specs.Prelude.{◌≡◌, ◌+◌, ◌-◌, ◌<◌, ◌≤◌, ◌∷◌, ◌++◌}
-use Rattle.accounts.specs.Terms.{ℕ, List, [], length, state_at, Seat, InSection, IsWorn, Continues, IsEntryAt, Found, Enough, TooLittle, Late}
-use Rattle.accounts.specs.declared.attempt.Attempt.{Attempt}
-use Rattle.accounts.specs.declared.attempt.Attempt.TheVariants.{Done, Short, Refused, End}
+use Rattle.accounts.specs.Terms.{ℕ, List, [], length, state_at, Seat, InSection, IsWorn, Continues, IsEntryAt, Funds, Enough, TooLittle, Late}
+use Rattle.accounts.specs.declared.attempt.TransferAttempt.{TransferAttempt}
+use Rattle.accounts.specs.declared.attempt.TransferAttempt.TheVariants.{Done, Short, Refused, End}
 use Rattle.accounts.specs.Rules.{balance, from_of, amount_of, IsTransfer}
 use Rattle.accounts.specs.Transfers.{transfer_meaning}
 
 -- what is answered of a transfer that was found so at its place
-abbrev pub attempt_of : Found → Place → Attempt
+abbrev pub attempt_of : Funds → Place → TransferAttempt
 attempt_of found (AtCommit time) = Done time
 attempt_of (TooLittle had) (Read time) = Short time had
 attempt_of Enough (Read time) = End
@@ -47,14 +47,14 @@ pub record IsShort (k : Causes) (old new : Seat) (tag : List ℕ) (time had : �
   pub less : had < amount_of tag
 
 -- what an attempt leaves of the seat's own commits, and why
-abbrev pub Answers : Causes → Seat → Seat → List ℕ → Attempt → Type 0
+abbrev pub Answers : Causes → Seat → Seat → List ℕ → TransferAttempt → Type 0
 Answers k old new tag (Done time) = IsDone k old new tag time
 Answers k old new tag (Short time had) = IsShort k old new tag time had
 Answers k old new tag (Refused cause) = GivesUp k (transfer_meaning tag) old new cause
 Answers k old new tag End = (new.mine ≡ old.mine) × IsWorn new
 
 -- What an attempt leaves: all that was seen is still seen, it tried one commit at most, and this stands behind its answer.
-pub record Attempted (k : Causes) (old new : Seat) (tag : List ℕ) (attempt : Attempt) : Type 0 where
+pub record Attempted (k : Causes) (old new : Seat) (tag : List ℕ) (attempt : TransferAttempt) : Type 0 where
   pub continues : Continues old new
   pub tries : TriesOne old new
   pub answers : Answers k old new tag attempt

@@ -3,6 +3,6 @@ pub use Rattle.std.specs.Prelude.{◌≡◌, ℕ, ◌+◌, ◌-◌, ◌<◌, ◌
 pub use Rattle.mv_history.specs.State.{state_at, State, Writes, written}
 pub use Rattle.mv_history.specs.Meaning.{Seat, InSection, IsWorn, words_at}
 pub use Rattle.mv_history.specs.Calls.{Continues, IsEntryAt}
-pub use Rattle.accounts.specs.declared.transfer_work.Found.{Found}
-pub use Rattle.accounts.specs.declared.transfer_work.Found.TheVariants.{Enough, Short as TooLittle, Late}
+pub use Rattle.accounts.specs.declared.transfer_work.Funds.{Funds}
+pub use Rattle.accounts.specs.declared.transfer_work.Funds.TheVariants.{Enough, Short as TooLittle, Late}
 pub use Rattle.accounts.specs.declared.rules.TheConstants.{ACCOUNTS}

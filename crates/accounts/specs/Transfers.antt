@@ -1,8 +1,8 @@
 -- What a transfer means, as a unit of work.
 use Rattle.section_work.specs.Works.{Meaning}
 use Rattle.std.specs.Prelude.{◌≡◌, ◌≢◌, ◌<◌, ◌≤◌, ◌∷◌}
-use Rattle.accounts.specs.Terms.{ℕ, true, Bool, List, [], State, Writes, written, ACCOUNTS, Found, Enough, Late}
-use Rattle.accounts.specs.declared.transfer_work.Found.TheVariants.{Short}
+use Rattle.accounts.specs.Terms.{ℕ, true, Bool, List, [], State, Writes, written, ACCOUNTS, Funds, Enough, Late}
+use Rattle.accounts.specs.declared.transfer_work.Funds.TheVariants.{Short}
 use Rattle.accounts.specs.Rules.{balance, from_of, amount_of, IsTransfer}
 
 -- some amount, between two different accounts
@@ -22,7 +22,7 @@ pub record PlansTransfer (tag : List ℕ) (s : State) (planned : List ℕ) (ws :
   pub moves : IsTransfer planned s ws
 
 -- why none is made: the balance is less than the amount, or it is as much, but no time is left
-abbrev pub SettlesTransfer : List ℕ → State → Bool → Found → Type 0
+abbrev pub SettlesTransfer : List ℕ → State → Bool → Funds → Type 0
 SettlesTransfer tag s last Enough = ⊥
 SettlesTransfer tag s last (Short had) = (had ≡ balance s (from_of tag)) × (had < amount_of tag)
 SettlesTransfer tag s last Late = (amount_of tag ≤ balance s (from_of tag)) × (last ≡ true)
@@ -34,7 +34,7 @@ pub record MakesTransfer (tag : List ℕ) (before after : State) : Type 0 where
   pub after_is : after ≡ written before writes
 
 -- the transfer of this tag, as a work
-abbrev pub transfer_meaning : List ℕ → Meaning Found
+abbrev pub transfer_meaning : List ℕ → Meaning Funds
 transfer_meaning tag = record {
   most = 2;
   changes = λ s. amount_of tag ≤ balance s (from_of tag);

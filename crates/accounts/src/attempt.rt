@@ -5,13 +5,13 @@ ghost use Rattle.section_work.specs.Causes.{causes};
 ghost use Rattle.accounts.specs.Attempts.{Attempted, attempt_of};
 
 use crate::rules::Accounts;
-use crate::transfer_work::{Found, Transfer};
+use crate::transfer_work::{Funds, Transfer};
 use mv_history::Store;
-use section_work::{Attempt as Worked, Cause, Place, attempt_work};
+use section_work::{Attempt, Cause, Place, attempt_work};
 
 /// What an attempt of a transfer comes to.
 #[derive(Clone, Copy, Debug, PartialEq, Eq)]
-pub enum Attempt {
+pub enum TransferAttempt {
     /// The transfer is the commit of this printed time.
     Done { time: u64 },
     /// At this printed time the account had only this balance, which is less than the amount.
@@ -37,7 +37,7 @@ pub fn transfer<S: Store<Rules = Accounts>>(
     from: u32,
     to: u32,
     amount: u64,
-) -> (S, Attempt)
+) -> (S, TransferAttempt)
     requires from { from < how_many }
     requires to { to < how_many }
     requires other { from ≢ to }
@@ -50,23 +50,23 @@ pub fn transfer<S: Store<Rules = Accounts>>(
     let mut nothing = ();
     let (store, attempt) = attempt_work(store, &work, &mut nothing);
     match attempt {
-        Worked::Done { reply, place } => {
+        Attempt::Done { reply, place } => {
             let answered = answer(reply, place);
             (store, answered)
         }
-        Worked::Again(cause) => (store, Attempt::Refused(cause)),
+        Attempt::Again(cause) => (store, TransferAttempt::Refused(cause)),
     }
 }
 
 // What a transfer that was found so at its place comes to.
-fn answer(found: Found, place: Place) -> Attempt
+fn answer(found: Funds, place: Place) -> TransferAttempt
     ensures { result ≡ attempt_of found place }
 {
     match place {
-        Place::Commit(time) => Attempt::Done { time },
+        Place::Commit(time) => TransferAttempt::Done { time },
         Place::Read(time) => match found {
-            Found::Short { balance } => Attempt::Short { time, balance },
-            Found::Enough | Found::Late => Attempt::End,
+            Funds::Short { balance } => TransferAttempt::Short { time, balance },
+            Funds::Enough | Funds::Late => TransferAttempt::End,
         },
     }
 }

@@ -46,7 +46,7 @@ mod repeating;
 mod rules;
 mod transfer_work;
 
-pub use attempt::{Attempt, transfer};
+pub use attempt::{TransferAttempt, transfer};
 pub use layout::Account;
 pub use reading::{SumAt, keeps_total, sum, total};
 pub use repeating::{Moved, make_transfers, read_sums};

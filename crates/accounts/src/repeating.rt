@@ -3,7 +3,7 @@ ghost use Rattle.std.specs.Prelude.{◌≡◌, ◌≢◌, ◌<◌, ◌≤◌, []
 ghost use Rattle.accounts.specs.declared.rules.TheConstants.{ACCOUNTS as how_many};
 ghost use Rattle.accounts.specs.Repeats.{Moves, Reads};
 
-use crate::attempt::{Attempt, transfer};
+use crate::attempt::{TransferAttempt, transfer};
 use crate::reading::{SumAt, sum};
 use crate::rules::{ACCOUNTS, Accounts};
 use mv_history::Store;
@@ -45,14 +45,14 @@ pub fn make_transfers<R: Wait, S: Store<Rules = Accounts>>(
         let (next, attempt) = transfer(store, from, to, (1 + turn % MOST) as u64);
         store = next;
         match attempt {
-            Attempt::Done { .. } => {
+            TransferAttempt::Done { .. } => {
                 made += 1;
                 turn = turn.wrapping_add(1);
             }
             // Another transfer is due: this account may stay short.
-            Attempt::Short { .. } => turn = turn.wrapping_add(1),
-            Attempt::Refused(_) => refused = refused.saturating_add(1),
-            Attempt::End => break,
+            TransferAttempt::Short { .. } => turn = turn.wrapping_add(1),
+            TransferAttempt::Refused(_) => refused = refused.saturating_add(1),
+            TransferAttempt::End => break,
         }
     }
     let moved = Moved {

@@ -7,7 +7,7 @@ use section_work::{Decision, Work};
 
 /// What a transfer comes to in a state.
 #[derive(Clone, Copy, Debug, Drop, PartialEq, Eq)]
-pub(crate) enum Found {
+pub(crate) enum Funds {
     /// The account has the amount.
     Enough,
     /// The account has only this balance, which is less than the amount.
@@ -31,7 +31,7 @@ impl Work for Transfer {
 
     type Rules = Accounts;
 
-    type Reply = Found;
+    type Reply = Funds;
 
     type Plan = [(u32, Words); 2];
 
@@ -54,12 +54,12 @@ impl Work for Transfer {
         _memo: &mut (),
         view: V,
         _time: u64,
-    ) -> (V, Decision<Found, [(u32, Words); 2]>) {
+    ) -> (V, Decision<Funds, [(u32, Words); 2]>) {
         let mut view = view;
         let payer: Account = read_record(&mut view, self.from);
         let balance = payer.balance;
         if balance < self.amount {
-            return (view, Decision::Settled(Found::Short { balance }));
+            return (view, Decision::Settled(Funds::Short { balance }));
         }
         let payee: Account = read_record(&mut view, self.to);
         let left = Account {
@@ -69,7 +69,7 @@ impl Work for Transfer {
             balance: payee.balance + self.amount,
         };
         let plan = [(self.from, left.to_words()), (self.to, gained.to_words())];
-        let reply = Found::Enough;
+        let reply = Funds::Enough;
         (view, Decision::Change { plan, reply })
     }
 
@@ -82,8 +82,8 @@ impl Work for Transfer {
         [self.from as u64, self.to as u64, self.amount, 0]
     }
 
-    fn at_last(&self, _reply: Found) -> Found {
-        Found::Late
+    fn at_last(&self, _reply: Funds) -> Funds {
+        Funds::Late
     }
 
     ghost knows_on = { λ memo s t on known. tt };

@@ -8,17 +8,17 @@
 #![tactic(auto)]
 
 use accounts::total;
-use accounts_run::{Asked, Teller, run_in_domain, tellers};
+use accounts_run::{Teller, TellerOrder, run_in_domain, tellers};
 use std::process::ExitCode;
 use std::{env, io};
 
 // What each thread is asked for. Each account opens with 100.
-const MOVER: Asked = Asked {
+const MOVER: TellerOrder = TellerOrder {
     transfers: 300,
     sums: 0,
 };
 
-const READER: Asked = Asked {
+const READER: TellerOrder = TellerOrder {
     transfers: 0,
     sums: 300,
 };

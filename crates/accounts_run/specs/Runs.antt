@@ -12,7 +12,7 @@ use Rattle.accounts.specs.declared.reading.SumAt.{SumAt}
 use Rattle.accounts.specs.declared.rules.TheConstants.{ACCOUNTS}
 use Rattle.accounts.specs.Rules.{total, IsTransfer}
 use Rattle.accounts.specs.Repeats.{Moves, Reads}
-use Rattle.accounts_run.specs.declared.teller.Asked.{Asked}
+use Rattle.accounts_run.specs.declared.teller.TellerOrder.{TellerOrder}
 use Rattle.accounts_run.specs.declared.teller.Teller.{Teller}
 use Rattle.mvrlu.specs.Causes.{Took}
 use Rattle.domain_run.specs.Numbers.{numbers_for}
@@ -20,7 +20,7 @@ use Rattle.mvrlu.specs.Opened.{new_seat}
 use Rattle.mvrlu.specs.Whole.{Whole, IsMetSeat, AreApart}
 
 -- what a teller is asked for
-abbrev pub asked_of : Teller → Asked
+abbrev pub asked_of : Teller → TellerOrder
 asked_of teller = teller.asked
 
 -- the teller has read nothing, and has room for its sums
@@ -29,7 +29,7 @@ pub record HasRoom (teller : Teller) : Type 0 where
   pub room : teller.asked.sums ≤ vec_capacity teller.read
 
 -- it is asked for this
-abbrev pub IsNew : Asked → Teller → Type 0
+abbrev pub IsNew : TellerOrder → Teller → Type 0
 IsNew asked teller = (teller.asked ≡ asked) × HasRoom teller
 
 -- and its seat may hold two accounts

@@ -36,4 +36,4 @@ mod running;
 mod teller;
 
 pub use running::run_in_domain;
-pub use teller::{Asked, Teller, tellers};
+pub use teller::{Teller, TellerOrder, tellers};

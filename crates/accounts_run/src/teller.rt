@@ -10,7 +10,7 @@ use std::sync::Wait;
 
 /// What one thread is to do over the accounts: make so many transfers, and then read so many sums.
 #[derive(Clone, Copy, Debug, PartialEq, Eq)]
-pub struct Asked {
+pub struct TellerOrder {
     pub transfers: u32,
     pub sums: u32,
 }
@@ -19,7 +19,7 @@ pub struct Asked {
 #[derive(Drop)]
 pub struct Teller {
     /// What it is asked for.
-    pub asked: Asked,
+    pub asked: TellerOrder,
     /// The transfers that it made.
     pub moved: Moved,
     /// The sums that it read, in order.
@@ -27,7 +27,7 @@ pub struct Teller {
 }
 
 // A teller that has done nothing, with room for its sums.
-fn with_room(alloc: Global, asked: Asked) -> Result<Teller, AllocError>
+fn with_room(alloc: Global, asked: TellerOrder) -> Result<Teller, AllocError>
     ensures { IfOk result (IsNew asked) }
 {
     let read = Vec::with_capacity(alloc, asked.sums as usize)?;
@@ -39,7 +39,7 @@ fn with_room(alloc: Global, asked: Asked) -> Result<Teller, AllocError>
 }
 
 /// A teller for each, with room for its sums, that has done nothing. The error is want of memory.
-pub fn tellers(alloc: Global, asked: &[Asked]) -> Result<Vec<Teller>, AllocError>
+pub fn tellers(alloc: Global, asked: &[TellerOrder]) -> Result<Vec<Teller>, AllocError>
     ensures asked { IfOk result (λ tellers. map asked_of tellers.items ≡ asked.now) }
     ensures new { IfOk result (λ tellers. All HasRoom tellers.items) }
 {

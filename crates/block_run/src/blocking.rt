@@ -7,7 +7,7 @@ ghost use Rattle.block_run.specs.BlockRuns.{IsTextOfBlocks, block_runs};
 ghost use Rattle.script_files.specs.Scripts.{AnyStop, NoneFails, blocks as by_block};
 
 use block_domain::run_block_domain;
-use run_kinds::{FromRun, Told, USUAL, open_run, ran_or_met, tell};
+use run_kinds::{FromRun, RunAnswer, USUAL, open_run, ran_or_met, tell};
 use run_outside::{Files, Gate};
 use run_words::Options;
 use script_files::set_blocks::{Block, BlockRules};
@@ -49,7 +49,7 @@ fn run_block_sets<R: Threads + Wait + Sync, G: Gate>(
     options: Options,
     scripts: &[Vec<Block>],
     gate: &G,
-) -> Result<Told<BlockRules, Catalogue>, AllocError>
+) -> Result<RunAnswer<BlockRules, Catalogue>, AllocError>
     requires fit { FitOptions options }
     requires slots { options.slots ≡ 1024 }
     requires some { 1 ≤ length scripts.now }
@@ -62,7 +62,7 @@ fn run_block_sets<R: Threads + Wait + Sync, G: Gate>(
         rt, alloc, domain, seats, scripts, gate,
     ))?;
     let end = read_all(alloc, &mut closing)?;
-    Ok(Told {
+    Ok(RunAnswer {
         closing,
         lines,
         end,

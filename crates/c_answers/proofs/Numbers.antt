@@ -1,7 +1,7 @@
 -- A number that is told is read back from its 32 bits.
 use Rattle.std.proofs.Common.{◌≡◌, ℤ, refl, ap, ◌∙◌, w32, to_z, of_z}
-use Rattle.set_catalog.specs.declared.answer.Attempt.{Attempt}
-use Rattle.set_catalog.specs.declared.answer.Attempt.TheVariants.{Done, Again}
+use Rattle.set_catalog.specs.declared.answer.CommandAttempt.{CommandAttempt}
+use Rattle.set_catalog.specs.declared.answer.CommandAttempt.TheVariants.{Done, Again}
 use Rattle.grow_hash.specs.declared.answer.Split.{Split}
 use Rattle.grow_hash.specs.declared.answer.Split.TheVariants as split
 use Rattle.grow_hash.specs.declared.attempt.GrowStep.{GrowStep}
@@ -45,7 +45,7 @@ pub code_back : (why : Status) (z : ℤ) → z ≡ code_of why → to_z w32 (of_
 code_back why z e = ap (λ x. to_z w32 (of_z w32 x)) e ∙ reads_back why
 
 -- the number of an attempt
-pub answer_back : (answer : Attempt) → to_z w32 (of_z w32 (reply_told answer).status) ≡ (reply_told answer).status
+pub answer_back : (answer : CommandAttempt) → to_z w32 (of_z w32 (reply_told answer).status) ≡ (reply_told answer).status
 answer_back (Done r place) = reads_back (status_of_reply r)
 answer_back (Again cause) = reads_back (status_of_cause cause)
 

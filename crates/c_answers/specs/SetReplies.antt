@@ -7,8 +7,8 @@ use Rattle.section_work.specs.declared.place.Place.{Place}
 use Rattle.section_work.specs.declared.place.Place.TheVariants.{Commit, Read}
 use Rattle.set_script.specs.declared.commands.Reply.{Reply}
 use Rattle.set_script.specs.declared.commands.Reply.TheVariants as reply
-use Rattle.set_catalog.specs.declared.answer.Attempt.{Attempt}
-use Rattle.set_catalog.specs.declared.answer.Attempt.TheVariants.{Done, Again}
+use Rattle.set_catalog.specs.declared.answer.CommandAttempt.{CommandAttempt}
+use Rattle.set_catalog.specs.declared.answer.CommandAttempt.TheVariants.{Done, Again}
 use Rattle.c_answers.specs.declared.replies.MvrluReply.{MvrluReply}
 use Rattle.c_answers.specs.declared.status.Status.{Status}
 use Rattle.c_answers.specs.declared.status.Status.TheVariants as status
@@ -78,6 +78,6 @@ abbrev pub given_up_by : Cause → MvrluReply
 given_up_by cause = record { value = culprit_of cause; time = 0; committed = 0; second = 0; status = code_of (status_of_cause cause) }
 
 -- the reply of an attempt
-abbrev pub reply_told : Attempt → MvrluReply
+abbrev pub reply_told : CommandAttempt → MvrluReply
 reply_told (Done r place) = told_at r place
 reply_told (Again cause) = given_up_by cause

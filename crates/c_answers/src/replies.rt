@@ -4,7 +4,7 @@ ghost use Rattle.c_answers.specs.SetReplies.{status_of_reply, status_of_cause, v
 
 use crate::status::Status;
 use section_work::{Cause, Place, Refusal};
-use set_catalog::Attempt;
+use set_catalog::CommandAttempt;
 use set_script::Reply;
 
 /// What a command of the sets came to.
@@ -43,12 +43,12 @@ pub(crate) fn done_at(reply: Reply, place: Place) -> MvrluReply
 }
 
 /// The reply of an attempt.
-pub fn tell_attempt(answer: Attempt) -> MvrluReply
+pub fn tell_attempt(answer: CommandAttempt) -> MvrluReply
     ensures { result ≡ reply_told answer }
 {
     match answer {
-        Attempt::Done { reply, place } => done_at(reply, place),
-        Attempt::Again(cause) => given_up(cause),
+        CommandAttempt::Done { reply, place } => done_at(reply, place),
+        CommandAttempt::Again(cause) => given_up(cause),
     }
 }
 

@@ -4,7 +4,8 @@ use Rattle.std.proofs.lemmas.Option.{slice_get_within}
 use Rattle.script_workers.proofs.Runs.{chain_ran, chain_lines}
 use Rattle.command_pool.proofs.Terms.{◌≡◌, ◌-◌, ◌<◌, ◌∷◌, ◌++◌, ◌∙◌, ◌+◌, ◌≤◌, flat_map, ℕ, zero, suc, List, [], length, map, All, Some, slice_get, refl, sym}
 use Rattle.command_pool.proofs.Terms.{ap, subst, arith, Vec, append_assoc, All-nil, All-cons, Serves, Seat, Command, Place, Reply, Causes, Line, command_at}
-use Rattle.command_pool.proofs.Terms.{Answer, Chain, answered, line_of, LinkedDone, hand, last_of, GaveTurn, HasEnded, AreTaken, view, IsSamePass, Hand, Turns}
+use Rattle.command_pool.proofs.Terms.{Answer, Chain, answered, line_of, LinkedDone, hand, last_of, GaveTurn, HasEnded, AreTaken, view, IsSamePass, Hand}
+use Rattle.command_pool.proofs.Terms.{PoolSource}
 use Rattle.command_pool.proofs.Terms.{All-head, All-tail, HaveNumbers, lines_from, Took, TookLinked, IsServedTo, EachServed, row_of, total, total_to, EachSeat}
 use Rattle.command_pool.proofs.Terms.{PoolRan, QueueOf, IsBegun, IsLent, taken_of}
 use Rattle.command_pool.proofs.Gathering.{last_push, number_of, Gathered, gathered_none, gathered_more, each_once, all_told}
@@ -27,7 +28,7 @@ command_there (c ∷ commands) zero lt = (c, refl)
 command_there (c ∷ commands) (suc place) lt = command_there commands place (omega (arith, lt))
 
 -- From one state of its turns to another a worker did these commands, each in a turn of its own, and then took a number that no command has.
-pub record TurnsDone (k : Causes) (seat : ℕ) (s : Seat) (a : Turns) (t : Seat) (b : Turns) (ds : List (Answer (Place × Reply))) : Type 0 where
+pub record TurnsDone (k : Causes) (seat : ℕ) (s : Seat) (a : PoolSource) (t : Seat) (b : PoolSource) (ds : List (Answer (Place × Reply))) : Type 0 where
   pub pass : IsSamePass a.pass b.pass
   pub mark : ℕ
   pub beyond : length a.commands.now < mark
@@ -38,7 +39,7 @@ pub record TurnsDone (k : Causes) (seat : ℕ) (s : Seat) (a : Turns) (t : Seat)
   pub chain : Chain (answered (LinkedDone k)) s t script ds
 
 module _ (k : Causes) (seat : ℕ) where
-  pub turns_done : (s : Seat) (a : Turns) (t : Seat) (last b : Turns) (ds : List (Answer (Place × Reply)))
+  pub turns_done : (s : Seat) (a : PoolSource) (t : Seat) (last b : PoolSource) (ds : List (Answer (Place × Reply)))
       → Serves (LinkedDone k) GaveTurn seat s a t last ds → HasEnded last b → TurnsDone k seat s a t b ds
   turns_done s a t last b [] h ended =
       let none : TurnsDone k seat s last t b [] = record {
@@ -50,9 +51,9 @@ module _ (k : Causes) (seat : ℕ) where
         rising = tt;
         by = All-nil (λ (line : Line). line.seat ≡ seat);
         chain = h.0;
-      } in subst (λ (c : Turns). TurnsDone k seat s c t b []) h.1 none
+      } in subst (λ (c : PoolSource). TurnsDone k seat s c t b []) h.1 none
   turns_done s a t last b (d ∷ ds) h ended =
-      let c : Turns = h.1 in
+      let c : PoolSource = h.1 in
       let gave = h.2.given in
       let took = gave.took in
       let number : ℕ = d.number in
@@ -133,7 +134,7 @@ taken_within commands before _ _ are = absurd are
 
 module _ (k : Causes) {Q A : Type 0} (queue : QueueOf Q A) (commands : List Command) where
   -- What one worker did in its turns, and what its pass took: the numbers of its lines, and an end mark.
-  record SeatDone (s t : Seat) (b : Turns) (taken : List Line) : Type 0 where
+  record SeatDone (s t : Seat) (b : PoolSource) (taken : List Line) : Type 0 where
     pub lent : IsLent queue b
     pub mark : ℕ
     pub beyond : length commands < mark
@@ -142,7 +143,7 @@ module _ (k : Causes) {Q A : Type 0} (queue : QueueOf Q A) (commands : List Comm
     pub took : Took commands s t taken
     pub linked : TookLinked k commands s t taken
 
-  seat_done : (s t : Seat) (a b : Turns) (ds : List (Answer (Place × Reply))) → IsBegun queue commands a
+  seat_done : (s t : Seat) (a b : PoolSource) (ds : List (Answer (Place × Reply))) → IsBegun queue commands a
       → IsServedTo (λ (u : Seat). u) (LinkedDone k) GaveTurn HasEnded s a t b ds → SeatDone s t b (map line_of ds)
   seat_done s t a b ds begun to =
       let served = to.served in
@@ -165,14 +166,14 @@ module _ (k : Causes) {Q A : Type 0} (queue : QueueOf Q A) (commands : List Comm
       }
 
   -- What all workers did, and what their passes took.
-  pub record PoolDone (olds news : List Seat) (after : List Turns) (lines : List Line) : Type 0 where
+  pub record PoolDone (olds news : List Seat) (after : List PoolSource) (lines : List Line) : Type 0 where
     pub lent : All (IsLent queue) after
     pub many : length after ≡ length olds
     pub gathered : Gathered (length commands) (flat_map taken_of after) (length olds) lines
     pub took : EachSeat (Took commands) olds news lines
     pub linked : EachSeat (TookLinked k commands) olds news lines
 
-  pub pool_done : (os : List Seat) (begun : List Turns) (ns : List Seat) (after : List Turns) (rows : List (Vec (Answer (Place × Reply)) Global))
+  pub pool_done : (os : List Seat) (begun : List PoolSource) (ns : List Seat) (after : List PoolSource) (rows : List (Vec (Answer (Place × Reply)) Global))
       → All (IsBegun queue commands) begun → EachServed (λ (u : Seat). u) (LinkedDone k) GaveTurn HasEnded os begun ns after rows
       → PoolDone os ns after (flat_map row_of rows)
   pool_done [] [] [] [] [] all h =
@@ -191,7 +192,7 @@ module _ (k : Causes) {Q A : Type 0} (queue : QueueOf Q A) (commands : List Comm
   pool_done _ _ _ _ _ all h = absurd h
 
   -- So the pool did each command once, where its passes took each number up to one.
-  pub pool_ran : (os ns : List Seat) (after : List Turns) (lines : List Line) → 1 ≤ length os → PoolDone os ns after lines
+  pub pool_ran : (os ns : List Seat) (after : List PoolSource) (lines : List Line) → 1 ≤ length os → PoolDone os ns after lines
       → (done : ℕ) → ((f : ℕ → ℕ) → total f (flat_map taken_of after) ≡ total_to f done) → PoolRan os ns commands lines
   pool_ran os ns after lines some h done once = record {
     once = each_once (length commands) (flat_map taken_of after) (length os) lines h.gathered some done once;

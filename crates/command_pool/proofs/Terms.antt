@@ -15,4 +15,4 @@ pub use Rattle.command_pool.specs.Queue.{total, total_to, last_of, hand, all_par
 pub use Rattle.command_pool.specs.Turns.{GaveTurn, HasEnded}
 pub use Rattle.command_pool.specs.Lending.{QueueOf, IsBegun, IsLent, taken_of}
 pub use Rattle.command_pool.specs.declared.queue.Hand.{Hand}
-pub use Rattle.command_pool.specs.declared.turns.Turns.{Turns}
+pub use Rattle.command_pool.specs.declared.turns.PoolSource.{PoolSource}

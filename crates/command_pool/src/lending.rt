@@ -5,8 +5,8 @@ ghost use Rattle.crossbeam_queue.specs.Passes.{view, IsPassOf};
 ghost use Rattle.command_pool.specs.Queue.{hand, all_parts};
 ghost use Rattle.command_pool.specs.Lending.{IsBegun, IsLent, taken_of};
 
-use crate::queue::{Hand, Part, Queue};
-use crate::turns::Turns;
+use crate::queue::{Hand, Queue, WorkerPart};
+use crate::turns::PoolSource;
 use crossbeam_queue::Pass;
 use item_workers::take_first;
 use set_script::Command;
@@ -17,7 +17,7 @@ pub(crate) fn share_out<'s>(
     pass: &mut Pass<u32, Hand>,
     commands: &'s [Command],
     seats: usize,
-    turns: &mut Vec<Turns<'s>>,
+    turns: &mut Vec<PoolSource<'s>>,
 )
     requires pass { IsPassOf queue.now pass.old }
     requires whole { ((view pass.old).parts ≡ all_parts) × (1 ≤ (view pass.old).put) × ((view pass.old).taken ≡ []) }
@@ -30,8 +30,8 @@ pub(crate) fn share_out<'s>(
     ensures count { length turns.new.items ≡ seats }
 {
     for _ in 0..seats {
-        let part = queue.another::<Part>(pass);
-        turns.push_reserved(Turns {
+        let part = queue.another::<WorkerPart>(pass);
+        turns.push_reserved(PoolSource {
             queue,
             pass: part,
             commands,
@@ -40,7 +40,7 @@ pub(crate) fn share_out<'s>(
 }
 
 // Takes the parts back.
-pub(crate) fn take_back(queue: &Queue, pass: &mut Pass<u32, Hand>, mut turns: Vec<Turns<'_>>)
+pub(crate) fn take_back(queue: &Queue, pass: &mut Pass<u32, Hand>, mut turns: Vec<PoolSource<'_>>)
     requires pass { IsPassOf queue.now pass.old × (1 ≤ (view pass.old).put) × ((view pass.old).taken ≡ []) }
     requires part { ((view pass.old).parts + length turns.items ≡ all_parts) × (1 ≤ (view pass.old).parts) }
     requires lent { All (IsLent queue.now) turns.items }
@@ -49,11 +49,11 @@ pub(crate) fn take_back(queue: &Queue, pass: &mut Pass<u32, Hand>, mut turns: Ve
     ensures taken { (view pass.new).taken ≡ flat_map taken_of turns.entry.items }
 {
     while !turns.is_empty() {
-        let Turns {
+        let PoolSource {
             queue: _,
             pass: part,
             commands: _,
         } = take_first(&mut turns);
-        queue.absorb::<Part>(pass, part);
+        queue.absorb::<WorkerPart>(pass, part);
     }
 }

@@ -30,9 +30,9 @@ impl Protocol<u32, Hand> for InOrder {
 }
 
 // A part for a worker, and what it took back with the rest.
-pub(crate) struct Part;
+pub(crate) struct WorkerPart;
 
-impl Split<Hand> for Part {
+impl Split<Hand> for WorkerPart {
     ghost use Rattle.std.specs.Prelude.{◌-◌, []};
     ghost use Rattle.command_pool.specs.Queue.{hand};
 
@@ -41,7 +41,7 @@ impl Split<Hand> for Part {
     ghost right = { λ v. hand 1 0 [] };
 }
 
-impl Join<Hand> for Part {
+impl Join<Hand> for WorkerPart {
     ghost use Rattle.std.specs.Prelude.{◌+◌, ◌++◌, []};
     ghost use Rattle.command_pool.specs.Queue.{hand};
 

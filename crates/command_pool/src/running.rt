@@ -8,7 +8,7 @@ ghost use Rattle.command_pool.specs.Queue.{hand, all_parts};
 
 use crate::lending::{share_out, take_back};
 use crate::queue::{All, Hand, Queue, fill};
-use crate::turns::Turns;
+use crate::turns::PoolSource;
 use crossbeam_queue::Pass;
 use item_workers::{Answer, run_sources};
 use mv_history::Store;
@@ -111,7 +111,7 @@ where
     };
     fill(rt, queue, &mut pass, (commands.len() + seats) as u32);
     share_out(queue, &mut pass, commands, seats, &mut turns);
-    match run_sources::<R, Hinted<S>, Turns<'_>, G>(rt, alloc, stores, turns, gate) {
+    match run_sources::<R, Hinted<S>, PoolSource<'_>, G>(rt, alloc, stores, turns, gate) {
         Ok((stores, turns, rows)) => {
             take_back(queue, &mut pass, turns);
             queue.learn_as::<All>(&mut pass);

@@ -9,13 +9,13 @@ use std::sync::Wait;
 
 // The queue, the worker's own pass of it, and the commands, which are the same for all workers.
 #[derive(Drop)]
-pub(crate) struct Turns<'s> {
+pub(crate) struct PoolSource<'s> {
     pub(crate) queue: &'s Queue,
     pub(crate) pass: Pass<u32, Hand>,
     pub(crate) commands: &'s [Command],
 }
 
-impl<'s, S: Store<Rules = SetRules>> Source<Hinted<S>> for Turns<'s> {
+impl<'s, S: Store<Rules = SetRules>> Source<Hinted<S>> for PoolSource<'s> {
     ghost use Rattle.std.specs.Prelude.{length, ◌-◌};
     ghost use Rattle.crossbeam_queue.specs.Passes.{view};
     ghost use Rattle.command_pool.specs.Turns.{MayTake, GaveTurn, HasEnded};

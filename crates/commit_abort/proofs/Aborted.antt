@@ -7,16 +7,16 @@ use Rattle.mv_history.specs.declared.StepKind.{StepKind}
 use Rattle.mv_history.specs.declared.StepKind.TheVariants.{UnlockHead, LoadDeath, ClearMark}
 use Rattle.mv_history.specs.declared.Entry.{Entry}
 use Rattle.mv_layout.specs.declared.Config.{Config}
-use Rattle.mv_layout.specs.declared.Place.TheVariants.{Clock, Mark}
+use Rattle.mv_layout.specs.declared.SharedWord.TheVariants.{Clock, Mark}
 use Rattle.mv_layout.specs.Places.{place_of}
 use Rattle.mv_layout.specs.Words.{clock_time_of}
-use Rattle.seat_log.specs.mv_core.declared.ring.Status.TheVariants.{Held, Aborted}
-use Rattle.seat_log.specs.mv_core.declared.view.View.{View}
+use Rattle.seat_log.specs.mv_core.declared.ring.WriteSetStatus.TheVariants.{Held, Aborted}
+use Rattle.seat_log.specs.mv_core.declared.view.Knowledge.{Knowledge}
 use Rattle.seat_log.specs.mv_core.declared.view.Phase.TheVariants.{Outside}
-use Rattle.seat_log.specs.mv_core.declared.view.Section.{Section}
+use Rattle.seat_log.specs.mv_core.declared.view.OwnSection.{OwnSection}
 use Rattle.seat_log.specs.mv_core.declared.view.Mode.{Mode}
 use Rattle.seat_log.specs.mv_core.declared.view.Mode.TheVariants.{Open, Aborting, Named}
-use Rattle.seat_log.specs.mv_core.declared.view.Walk.TheVariants.{Nowhere}
+use Rattle.seat_log.specs.mv_core.declared.view.WalkStage.TheVariants.{Nowhere}
 use Rattle.seat_log.specs.mv_core.Rings.{slot_at, HoldsNothing}
 use Rattle.seat_log.specs.mv_core.Views.{no_clocks, IsUnnamed}
 use Rattle.seat_log.specs.mv_core.HistoryFacts.{BeginsWith}
@@ -41,12 +41,12 @@ cost_some zero some = absurd (some refl)
 cost_some (suc n) some = refl
 
 -- the section of an unnamed mode is finished
-unnamed_finished : (v : View) (mode : Mode) → IsUnnamed mode → IsFinished v mode
+unnamed_finished : (v : Knowledge) (mode : Mode) → IsUnnamed mode → IsFinished v mode
 unnamed_finished v Open u = tt
 unnamed_finished v Aborting u = tt
 unnamed_finished v (Named n) u = absurd u
 
-module _ (c : Config) (v : View) (l : Noted) (inside : Section) (k : Stands c v l) (unbuilt : l.built ≡ None) (y : View)
+module _ (c : Config) (v : Knowledge) (l : Noted) (inside : OwnSection) (k : Stands c v l) (unbuilt : l.built ≡ None) (y : Knowledge)
     (u : Unlocks c v y l inside (length l.live)) where
   pub nothing : HoldsNothing y.ring
   nothing j x live =
@@ -70,7 +70,7 @@ module _ (c : Config) (v : View) (l : Noted) (inside : Section) (k : Stands c v 
       λ test none.
       All-weaker (λ s. test s.kind ≡ false) (λ s. (test s.kind && is_some s.stored) ≡ false) (λ s e. ap (λ b. b && is_some s.stored) e) u.trail.0
       (unpassed_all test none) in record {
-        number = ap (λ (q : View). q.number) u.kept;
+        number = ap (λ (q : Knowledge). q.number) u.kept;
         next = u.next;
         wide = u.wide;
         each = u.more;
@@ -99,14 +99,14 @@ module _ (c : Config) (v : View) (l : Noted) (inside : Section) (k : Stands c v 
       no_steps (s ∷ steps) is long = absurd (omega arith)
 
   past_same : y.past ≡ v.past
-  past_same = ap (λ (q : View). q.past) u.kept
+  past_same = ap (λ (q : Knowledge). q.past) u.kept
 
   -- with something held: the time was loaded, and the mark cleared
   module _ (word dead : ℕ) (h : List Entry) (whole : IsWhole c y word h) (dead_is : dead ≡ clock_time_of word + 1) where
-    abbrev x : View
+    abbrev x : Knowledge
     x = death_loaded c y word h
 
-    abbrev z : View
+    abbrev z : Knowledge
     z = mark_cleared c x
 
     abbrev load : Step
@@ -152,7 +152,7 @@ module _ (c : Config) (v : View) (l : Noted) (inside : Section) (k : Stands c v 
         all_steps IsAbortStep tt tt tt,
       );
       rest = ap
-          (λ (q : View).
+          (λ (q : Knowledge).
           record q { past = record q.past { seen = h }; phase = Outside; clocks = no_clocks; walk = Nowhere; back = None; ring = z.ring; trail = z.trail })
           u.kept;
     }
@@ -169,7 +169,7 @@ module _ (c : Config) (v : View) (l : Noted) (inside : Section) (k : Stands c v 
 
   -- with nothing held: only the mark was cleared
   module _ (none : l.held ≡ 0) where
-    abbrev z0 : View
+    abbrev z0 : Knowledge
     z0 = mark_cleared c y
 
     abbrev clear0 : Step
@@ -196,7 +196,7 @@ module _ (c : Config) (v : View) (l : Noted) (inside : Section) (k : Stands c v 
         all_steps0 IsAbortStep tt tt,
       );
       rest = ap
-          (λ (q : View).
+          (λ (q : Knowledge).
           record q {
             past = record q.past { seen = z0.past.seen };
             phase = Outside;
@@ -220,21 +220,22 @@ module _ (c : Config) (v : View) (l : Noted) (inside : Section) (k : Stands c v 
         stands_aborted c v z0 l dead k ended unbuilt (ap (λ p. p.mine) past_same) (ap (λ p. p.rests) past_same) told (ends_last y.trail clear0)
 
   -- the same, by what the code has of the views
-  pub clear_timed : (x : View) (word : ℕ) → (h : List Entry) × IsWhole c y word h × (x ≡ death_loaded c y word h) → MayClearMark x
+  pub clear_timed : (x : Knowledge) (word : ℕ) → (h : List Entry) × IsWhole c y word h × (x ≡ death_loaded c y word h) → MayClearMark x
   clear_timed x word t = subst MayClearMark (sym t.2) (may_end_timed word (clock_time_of word + 1) t.0 t.1 refl)
 
-  pub ended_timed : (x z : View) (m : Noted) (word dead : ℕ) → l.held ≢ 0 → (h : List Entry) × IsWhole c y word h × (x ≡ death_loaded c y word h)
+  pub ended_timed : (x z : Knowledge) (m : Noted) (word dead : ℕ) → l.held ≢ 0 → (h : List Entry) × IsWhole c y word h × (x ≡ death_loaded c y word h)
       → dead ≡ clock_time_of word + 1 → z ≡ mark_cleared c x → m ≡ aborted_noted l dead → Aborts v z (abort_cost l.held) × Stands c z m
   ended_timed x z m word dead some t dead_is is noted =
       let at : z ≡ mark_cleared c (death_loaded c y word t.0) = is ∙ ap (mark_cleared c) t.2 in (
-        subst (λ (q : View). Aborts v q (abort_cost l.held)) (sym at)
+        subst (λ (q : Knowledge). Aborts v q (abort_cost l.held)) (sym at)
             (subst (λ (n : ℕ). Aborts v (mark_cleared c (death_loaded c y word t.0)) n) (sym (cost_some l.held some)) (aborts_timed word dead t.0 t.1 dead_is)),
-        subst (Stands c z) (sym noted) (subst (λ (q : View). Stands c q (aborted_noted l dead)) (sym at) (stands_timed word dead t.0 t.1 dead_is some)),
+        subst (Stands c z) (sym noted) (subst (λ (q : Knowledge). Stands c q (aborted_noted l dead)) (sym at) (stands_timed word dead t.0 t.1 dead_is some)),
       )
 
-  pub ended_none : (z : View) (m : Noted) (dead : ℕ) → l.held ≡ 0 → z ≡ mark_cleared c y → m ≡ aborted_noted l dead
+  pub ended_none : (z : Knowledge) (m : Noted) (dead : ℕ) → l.held ≡ 0 → z ≡ mark_cleared c y → m ≡ aborted_noted l dead
       → Aborts v z (abort_cost l.held) × Stands c z m
   ended_none z m dead none is noted = (
-    subst (λ (q : View). Aborts v q (abort_cost l.held)) (sym is) (subst (λ (n : ℕ). Aborts v (mark_cleared c y) (abort_cost n)) (sym none) (aborts_none none)),
-    subst (Stands c z) (sym noted) (subst (λ (q : View). Stands c q (aborted_noted l dead)) (sym is) (stands_none none dead)),
+    subst (λ (q : Knowledge). Aborts v q (abort_cost l.held)) (sym is)
+        (subst (λ (n : ℕ). Aborts v (mark_cleared c y) (abort_cost n)) (sym none) (aborts_none none)),
+    subst (Stands c z) (sym noted) (subst (λ (q : Knowledge). Stands c q (aborted_noted l dead)) (sym is) (stands_none none dead)),
   )

@@ -2,7 +2,7 @@
 use Rattle.std.proofs.Common.{◌≡◌, ℕ, ◌+◌, ◌≤◌, Some, true, length, sym, ◌∙◌, subst, arith}
 use Rattle.mv_layout.specs.declared.Config.{Config}
 use Rattle.mv_layout.specs.Words.{clock_time_of}
-use Rattle.seat_log.specs.mv_core.declared.view.View.{View}
+use Rattle.seat_log.specs.mv_core.declared.view.Knowledge.{Knowledge}
 use Rattle.seat_log.specs.mv_core.declared.view.Phase.TheVariants.{Inside}
 use Rattle.seat_log.specs.mv_core.declared.view.Mode.TheVariants.{Named}
 use Rattle.seat_log.specs.mv_core.Rings.{set_first}
@@ -21,7 +21,7 @@ pub one_note : (l : Noted) (i : ℕ) (a n : Note) → IsNoteAt l i a → IsNoteA
 one_note l i a n here there = let one : Some a ≡ Some n = sym here ∙ there in cc
 
 -- the stamp was exchanged, and SUPER is stored nowhere yet
-pub finish_begins : (c : Config) (from v : View) (l : Noted) (won : WonNaming) (k : IsJustNamed c from l won) (time first : ℕ)
+pub finish_begins : (c : Config) (from v : Knowledge) (l : Noted) (won : WonNaming) (k : IsJustNamed c from l won) (time first : ℕ)
     → time ≡ clock_time_of won.word + 1 → first ≡ set_first won.before.ring → StampsIt from v first time (section_in from)
     → IsFinishing c from v l time 0
 finish_begins c from v l won k time first time_is first_is stamps =
@@ -37,7 +37,7 @@ finish_begins c from v l won k time first time_is first_is stamps =
       tells = subst (Tells c v v l) at (tells_first c v l time committed);
     }
 
-module _ (c : Config) (from v : View) (l : Noted) (time told : ℕ) (k : IsFinishing c from v l time told) where
+module _ (c : Config) (from v : Knowledge) (l : Noted) (time told : ℕ) (k : IsFinishing c from v l time told) where
   now_committed : (k.stamped.phase
       ≡ Inside (record (section_in k.stamped) { mode = Named (record { time = time; first = first_named k.stamped; stamped = true }) }))
       × AreCommitted c k.stamped l time
@@ -49,7 +49,7 @@ module _ (c : Config) (from v : View) (l : Noted) (time told : ℕ) (k : IsFinis
       (first_named k.stamped) now_committed.0
 
   -- and was
-  pub goes_on : (w : View) (n : Note) (before after : ℕ) → IsNoteAt l (held_from l + told) n
+  pub goes_on : (w : Knowledge) (n : Note) (before after : ℕ) → IsNoteAt l (held_from l + told) n
       → TellsOne c v w n time before after (above_held c v l told) → IsFinishing c from w l time (told + 1) × (after ≤ before + 1)
   goes_on w n before after at one =
       let more = tells_more c k.stamped l time now_committed.1 v (held_from l + told) n at (omega arith) k.tells w before after one in
@@ -68,14 +68,14 @@ module _ (c : Config) (from v : View) (l : Noted) (time told : ℕ) (k : IsFinis
       )
 
 -- SUPER was stored below all
-module _ (c : Config) (from v : View) (l : Noted) (time : ℕ) (k : IsFinishing c from v l time l.held) where
+module _ (c : Config) (from v : Knowledge) (l : Noted) (time : ℕ) (k : IsFinishing c from v l time l.held) where
   told_all : Tells c k.stamped v l (length l.live)
   told_all = let few = k.named.stands.log.held in let all : held_from l + l.held ≡ length l.live = omega arith in subst (Tells c k.stamped v l) all k.tells
 
   pub end_may : MayClearMark v
   end_may = may_end c from l k.won k.named time k.first k.time_is k.first_is k.stamped k.stamps v told_all
 
-  pub finish_ends : (w : View) (m : Noted) → w ≡ mark_cleared c v → m ≡ committed_noted l time → Finishes from w (l.held + 2) × Stands c w m
+  pub finish_ends : (w : Knowledge) (m : Noted) → w ≡ mark_cleared c v → m ≡ committed_noted l time → Finishes from w (l.held + 2) × Stands c w m
   finish_ends = ended c from l k.won k.named time k.first k.time_is k.first_is k.stamped k.stamps v told_all
 
 -- how many steps a finish has made, at its start, after one version more, and at its end

@@ -7,18 +7,18 @@ use Rattle.mv_history.specs.declared.Step.{Step}
 use Rattle.mv_history.specs.declared.StepKind.{StepKind}
 use Rattle.mv_history.specs.declared.StepKind.TheVariants.{SwapStamp, StoreSuper, ClearMark}
 use Rattle.mv_layout.specs.declared.Config.{Config}
-use Rattle.mv_layout.specs.declared.Place.TheVariants.{Mark}
+use Rattle.mv_layout.specs.declared.SharedWord.TheVariants.{Mark}
 use Rattle.mv_layout.specs.Places.{place_of}
 use Rattle.mv_layout.specs.Words.{clock_time_of}
 use Rattle.seat_log.specs.mv_core.declared.ring.Slot.{Slot}
 use Rattle.seat_log.specs.mv_core.declared.ring.Slot.TheVariants.{Live}
-use Rattle.seat_log.specs.mv_core.declared.ring.Status.TheVariants.{Held, Committed}
+use Rattle.seat_log.specs.mv_core.declared.ring.WriteSetStatus.TheVariants.{Held, Committed}
 use Rattle.seat_log.specs.mv_core.declared.ring.CommitNote.{CommitNote}
-use Rattle.seat_log.specs.mv_core.declared.view.View.{View}
+use Rattle.seat_log.specs.mv_core.declared.view.Knowledge.{Knowledge}
 use Rattle.seat_log.specs.mv_core.declared.view.Phase.TheVariants.{Outside, Inside}
-use Rattle.seat_log.specs.mv_core.declared.view.Section.{Section}
+use Rattle.seat_log.specs.mv_core.declared.view.OwnSection.{OwnSection}
 use Rattle.seat_log.specs.mv_core.declared.view.Mode.TheVariants.{Named}
-use Rattle.seat_log.specs.mv_core.declared.view.Walk.TheVariants.{Nowhere}
+use Rattle.seat_log.specs.mv_core.declared.view.WalkStage.TheVariants.{Nowhere}
 use Rattle.seat_log.specs.mv_core.Views.{no_clocks}
 use Rattle.seat_log.specs.mv_core.Rings.{slot_at, index_of, held_count, set_first}
 use Rattle.seat_log.specs.mv_core.NameSteps.{commit_of, committed_slot, commit_named}
@@ -39,8 +39,8 @@ use Rattle.seat_log.proofs.Commits.{commit_ends, ends_linked, stands_committed}
 use Rattle.commit_abort.specs.Finishes.{WonNaming, first_of_mode, first_named, IsJustNamed, HasNamed, StampsIt, AreCommitted, IsLinkedToo, Tells}
 use Rattle.commit_abort.specs.Finishes.{IsFinishStep, Finishes}
 
-module _ (c : Config) (w : View) (l : Noted) (won : WonNaming) (k : IsJustNamed c w l won) where
-  abbrev v : View
+module _ (c : Config) (w : Knowledge) (l : Noted) (won : WonNaming) (k : IsJustNamed c w l won) where
+  abbrev v : Knowledge
   v = won.before
 
   abbrev t : ℕ
@@ -59,11 +59,11 @@ module _ (c : Config) (w : View) (l : Noted) (won : WonNaming) (k : IsJustNamed 
       omega arith
 
   pub has_named : HasNamed w (set_first v.ring) t won.inside
-  has_named = subst (λ (u : View). HasNamed u (set_first v.ring) t won.inside) (sym k.named) refl
+  has_named = subst (λ (u : Knowledge). HasNamed u (set_first v.ring) t won.inside) (sym k.named) refl
 
   -- the slots as the exchange left them
   slot_now : (j : ℕ) → slot_at w.ring j ≡ committed_slot t (slot_at v.ring j)
-  slot_now j = ap (λ (u : View). slot_at u.ring j) k.named ∙ slot_mapped (committed_slot t) refl v.ring j
+  slot_now j = ap (λ (u : Knowledge). slot_at u.ring j) k.named ∙ slot_mapped (committed_slot t) refl v.ring j
 
   are_committed : AreCommitted c w l t
   are_committed = record {
@@ -84,27 +84,27 @@ module _ (c : Config) (w : View) (l : Noted) (won : WonNaming) (k : IsJustNamed 
         (r.index, held_last c v l k.stands j x r, r.within, r.slot_is))
         was.2;
     round = (let room = k.stands.log.room in let slots = k.stands.slots in omega arith);
-    wide = ap (λ (u : View). length u.ring.slots) k.named ∙ length-map v.ring.slots (committed_slot t) ∙ k.stands.wide;
+    wide = ap (λ (u : Knowledge). length u.ring.slots) k.named ∙ length-map v.ring.slots (committed_slot t) ∙ k.stands.wide;
     nothing = λ j x live.
         let was = committed_was t (slot_at v.ring j) x Held (sym (slot_now j) ∙ live) in
         ⊎_elim (λ old. old.1 refl) (λ new. let other : Held ≡ Committed (new_note t x) = new.1 in cc) was.2;
   }
 
-  module _ (x : View) (st : StampsIt w x (set_first v.ring) t won.inside) where
+  module _ (x : Knowledge) (st : StampsIt w x (set_first v.ring) t won.inside) where
     same_ring : x.ring ≡ w.ring
-    same_ring = ap (λ (u : View). u.ring) st.rest
+    same_ring = ap (λ (u : Knowledge). u.ring) st.rest
 
     pub committed_still : AreCommitted c x l t
     committed_still =
         subst (λ r. AreCommitted c (record x { ring = r }) l t) (sym same_ring)
         (let a = are_committed in record { each = a.each; only = a.only; round = a.round; wide = a.wide; nothing = a.nothing })
 
-    module _ (y : View) (tells : Tells c x y l (length l.live)) where
+    module _ (y : Knowledge) (tells : Tells c x y l (length l.live)) where
       -- the section may end: nothing is held, the stamp was exchanged, and SUPER was stored below all
       pub may_clear : MayClearMark y
       may_clear = record {
         inside = record won.inside { mode = Named (record { time = t; first = set_first v.ring; stamped = true }) };
-        phase = ap (λ (u : View). u.phase) tells.kept ∙ st.phase;
+        phase = ap (λ (u : Knowledge). u.phase) tells.kept ∙ st.phase;
         nothing = λ j z live.
             ⊎_elim
             (λ same. committed_still.nothing j z (sym same ∙ live))
@@ -128,7 +128,7 @@ module _ (c : Config) (w : View) (l : Noted) (won : WonNaming) (k : IsJustNamed 
         );
       }
 
-      abbrev z : View
+      abbrev z : Knowledge
       z = mark_cleared c y
 
       -- what the finish appended to the trail
@@ -164,11 +164,11 @@ module _ (c : Config) (w : View) (l : Noted) (won : WonNaming) (k : IsJustNamed 
         where
           rest_is : z ≡ record w { phase = Outside; clocks = no_clocks; walk = Nowhere; back = None; ring = z.ring; trail = z.trail }
           rest_is =
-              ap (λ (u : View). record u { phase = Outside; clocks = no_clocks; walk = Nowhere; back = None; ring = z.ring; trail = z.trail })
-              (tells.kept ∙ ap (λ (u : View). record u { ring = y.ring; trail = y.trail }) st.rest)
+              ap (λ (u : Knowledge). record u { phase = Outside; clocks = no_clocks; walk = Nowhere; back = None; ring = z.ring; trail = z.trail })
+              (tells.kept ∙ ap (λ (u : Knowledge). record u { ring = y.ring; trail = y.trail }) st.rest)
 
       same_number : z.number ≡ w.number
-      same_number = ap (λ (u : View). u.number) tells.kept ∙ ap (λ (u : View). u.number) st.rest
+      same_number = ap (λ (u : Knowledge). u.number) tells.kept ∙ ap (λ (u : Knowledge). u.number) st.rest
 
       are_plain : ArePlain steps
       are_plain = all_plain steps (all_steps LeavesLog (refl, refl) (refl, refl) (refl, refl))
@@ -177,7 +177,7 @@ module _ (c : Config) (w : View) (l : Noted) (won : WonNaming) (k : IsJustNamed 
       has_ended =
           let leaves = are_plain in
           ends_linked v w z (λ n. record n { time = t })
-          (subst (λ (u : View). HasEnded v u (λ n. record n { time = t })) (sym k.named) (commit_ends c v won.inside won.tag won.word won.history))
+          (subst (λ (u : Knowledge). HasEnded v u (λ n. record n { time = t })) (sym k.named) (commit_ends c v won.inside won.tag won.word won.history))
           same_number
           (tells.next ∙ ap (λ r. r.next) same_ring)
           (tells.wide ∙ ap (λ r. length r.slots) same_ring)
@@ -188,11 +188,11 @@ module _ (c : Config) (w : View) (l : Noted) (won : WonNaming) (k : IsJustNamed 
 
       pub stands_after : Stands c z (committed_noted l t)
       stands_after =
-          let past : z.past ≡ w.past = ap (λ (u : View). u.past) tells.kept ∙ ap (λ (u : View). u.past) st.rest in
-          let named : w.past ≡ (commit_named c v won.inside won.tag won.word won.history).past = ap (λ (u : View). u.past) k.named in
+          let past : z.past ≡ w.past = ap (λ (u : Knowledge). u.past) tells.kept ∙ ap (λ (u : Knowledge). u.past) st.rest in
+          let named : w.past ≡ (commit_named c v won.inside won.tag won.word won.history).past = ap (λ (u : Knowledge). u.past) k.named in
           let one : KeepsLocks v.trail (commit_named c v won.inside won.tag won.word won.history).trail = keeps_one v.trail _ refl refl in
           let keeps : KeepsLocks v.trail z.trail =
-          keeps_then v.trail w.trail z.trail (subst (λ (u : View). KeepsLocks v.trail u.trail) (sym k.named) one)
+          keeps_then v.trail w.trail z.trail (subst (λ (u : Knowledge). KeepsLocks v.trail u.trail) (sym k.named) one)
           (locks_left w.trail z.trail steps trail_is are_plain) in
           stands_committed c v z l t k.stands has_ended some_held k.unbuilt
           (commit_of c v won.inside won.tag)
@@ -213,7 +213,7 @@ module _ (c : Config) (w : View) (l : Noted) (won : WonNaming) (k : IsJustNamed 
     pub may_stamp : HasNamed w first time (section_in w)
     may_stamp = named_phase ∙ (λ i. Inside (record (sym now_in i) { mode = Named (record { time = sym time_is i; first = sym at i; stamped = false }) }))
 
-    module _ (x : View) (stamps : StampsIt w x first time (section_in w)) where
+    module _ (x : Knowledge) (stamps : StampsIt w x first time (section_in w)) where
       now_stamps : StampsIt w x (set_first v.ring) t won.inside
       now_stamps = record {
         phase = stamps.phase ∙ (λ i. Inside (record (now_in i) { mode = Named (record { time = time_is i; first = at i; stamped = true }) }));
@@ -226,18 +226,18 @@ module _ (c : Config) (w : View) (l : Noted) (won : WonNaming) (k : IsJustNamed 
       may_tell_below =
           let inside : section_in x ≡ record won.inside { mode = Named (record { time = t; first = set_first v.ring; stamped = true }) } =
           ap inside_of now_stamps.phase in
-          let from : first_named x ≡ set_first v.ring = ap (λ (s : Section). first_of_mode s.mode) inside in (
+          let from : first_named x ≡ set_first v.ring = ap (λ (s : OwnSection). first_of_mode s.mode) inside in (
             now_stamps.phase ∙ (λ i. Inside (record (sym inside i) { mode = Named (record { time = sym time_is i; first = sym from i; stamped = true }) })),
             subst (AreCommitted c x l) (sym time_is) (committed_still x now_stamps),
           )
 
-      module _ (y : View) (tells : Tells c x y l (length l.live)) where
+      module _ (y : Knowledge) (tells : Tells c x y l (length l.live)) where
         pub may_end : MayClearMark y
         may_end = may_clear x now_stamps y tells
 
-        pub ended : (z : View) (m : Noted) → z ≡ mark_cleared c y → m ≡ committed_noted l time → Finishes w z (l.held + 2) × Stands c z m
+        pub ended : (z : Knowledge) (m : Noted) → z ≡ mark_cleared c y → m ≡ committed_noted l time → Finishes w z (l.held + 2) × Stands c z m
         ended z m is noted = (
-          subst (λ (u : View). Finishes w u (l.held + 2)) (sym is) (finishes x now_stamps y tells),
+          subst (λ (u : Knowledge). Finishes w u (l.held + 2)) (sym is) (finishes x now_stamps y tells),
           subst (Stands c z) (sym (noted ∙ ap (committed_noted l) time_is))
-              (subst (λ (u : View). Stands c u (committed_noted l t)) (sym is) (stands_after x now_stamps y tells)),
+              (subst (λ (u : Knowledge). Stands c u (committed_noted l t)) (sym is) (stands_after x now_stamps y tells)),
         )

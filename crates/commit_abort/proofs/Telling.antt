@@ -8,15 +8,15 @@ use native.Mathlib.Decide.{ℕ_discrete}
 use Rattle.mv_history.specs.declared.Step.{Step}
 use Rattle.mv_history.specs.declared.StepKind.TheVariants.{StoreSuper}
 use Rattle.mv_layout.specs.declared.Config.{Config}
-use Rattle.mv_layout.specs.declared.Place.TheVariants.{Super}
+use Rattle.mv_layout.specs.declared.SharedWord.TheVariants.{Super}
 use Rattle.mv_layout.specs.Places.{place_of}
 use Rattle.mv_layout.specs.Words.{link_seat_of}
 use Rattle.seat_log.specs.mv_core.declared.ring.Slot.TheVariants.{Live}
-use Rattle.seat_log.specs.mv_core.declared.ring.Status.TheVariants.{Committed}
+use Rattle.seat_log.specs.mv_core.declared.ring.WriteSetStatus.TheVariants.{Committed}
 use Rattle.seat_log.specs.mv_core.declared.ring.CommitNote.{CommitNote}
-use Rattle.seat_log.specs.mv_core.declared.view.View.{View}
+use Rattle.seat_log.specs.mv_core.declared.view.Knowledge.{Knowledge}
 use Rattle.seat_log.specs.mv_core.declared.view.Phase.TheVariants.{Inside}
-use Rattle.seat_log.specs.mv_core.declared.view.Section.{Section}
+use Rattle.seat_log.specs.mv_core.declared.view.OwnSection.{OwnSection}
 use Rattle.seat_log.specs.mv_core.declared.view.Mode.TheVariants.{Named}
 use Rattle.seat_log.specs.mv_core.Rings.{slot_at, index_of}
 use Rattle.seat_log.specs.mv_core.WalkSteps.{IsLinkOf, slot_named}
@@ -31,7 +31,7 @@ use Rattle.seat_log.proofs.Places.{get_within}
 use Rattle.seat_log.proofs.NotedSlots.{places_apart}
 use Rattle.commit_abort.specs.Finishes.{CommittedSlot, AreCommitted, IsLinkedToo, above_at, MayTell, TellsOne, Tells}
 
-module _ (c : Config) (v : View) (l : Noted) (time : ℕ) (k : AreCommitted c v l time) where
+module _ (c : Config) (v : Knowledge) (l : Noted) (time : ℕ) (k : AreCommitted c v l time) where
   -- the slot of a place in the log
   abbrev slot_of : ℕ → ℕ
   slot_of i = index_of c (l.freed + i)
@@ -51,7 +51,7 @@ module _ (c : Config) (v : View) (l : Noted) (time : ℕ) (k : AreCommitted c v 
     trail = ([], sym (append-nil v.trail), omega arith, All-nil (λ s. s.kind ≡ StoreSuper));
   }
 
-  module _ (w : View) (i : ℕ) (n : Note) (at : IsNoteAt l i n) (from : held_from l ≤ i) (t : Tells c v w l i) where
+  module _ (w : Knowledge) (i : ℕ) (n : Note) (at : IsNoteAt l i n) (from : held_from l ≤ i) (t : Tells c v w l i) where
     within : i < length l.live
     within = get_within l.live i n at
 
@@ -63,7 +63,7 @@ module _ (c : Config) (v : View) (l : Noted) (time : ℕ) (k : AreCommitted c v 
     above_is : above_at w (slot_of i) ≡ record { slot = slot_of i; version = version_of n; note = here.0 }
     above_is = λ j. record { slot = slot_of i; version = version_in (here.1 j); note = note_in (here.1 j) }
 
-    pub may_tell : (inside : Section) (first : ℕ)
+    pub may_tell : (inside : OwnSection) (first : ℕ)
         → v.phase ≡ Inside (record inside { mode = Named (record { time = time; first = first; stamped = true }) })
         → MayTell c w n time (above_at w (slot_of i))
     may_tell inside first phase some = (
@@ -71,7 +71,7 @@ module _ (c : Config) (v : View) (l : Noted) (time : ℕ) (k : AreCommitted c v 
       subst (λ (a : CommittedSlot). MayStoreSuper w n.previous time a.slot a.version a.note) (sym above_is) (record {
         inside = record inside { mode = Named (record { time = time; first = first; stamped = true }) };
         naming = record { time = time; first = first; stamped = true };
-        phase = ap (λ (u : View). u.phase) t.kept ∙ phase;
+        phase = ap (λ (u : Knowledge). u.phase) t.kept ∙ phase;
         mode = refl;
         time_is = refl;
         stamped = refl;
@@ -101,7 +101,7 @@ module _ (c : Config) (v : View) (l : Noted) (time : ℕ) (k : AreCommitted c v 
       trail = (let a = t.trail in let few = a.2 in (a.0, a.1, omega arith, a.3));
     }
 
-    abbrev next_view : View
+    abbrev next_view : Knowledge
     next_view = super_stored c w n.previous time (slot_of i) (version_of n) here.0
 
     slot_same : slot_at next_view.ring (slot_of i) ≡ Live (version_of n) (Committed (record here.0 { linked = true }))
@@ -114,7 +114,7 @@ module _ (c : Config) (v : View) (l : Noted) (time : ℕ) (k : AreCommitted c v 
 
     tells_next : Tells c v next_view l (i + 1)
     tells_next = record {
-      kept = (let kept = t.kept in ap (λ (u : View). record u { ring = next_view.ring; trail = next_view.trail }) kept);
+      kept = (let kept = t.kept in ap (λ (u : Knowledge). record u { ring = next_view.ring; trail = next_view.trail }) kept);
       wide = length-set w.ring.slots (slot_of i) (Live (version_of n) (Committed (record here.0 { linked = true }))) ∙ t.wide;
       next = t.next;
       more = λ j.
@@ -150,12 +150,13 @@ module _ (c : Config) (v : View) (l : Noted) (time : ℕ) (k : AreCommitted c v 
         step_of = record { kind = StoreSuper; word = place_of c (Super (link_seat_of n.previous) (slot_named c n.previous)); found = None; stored = Some time }
 
     -- and afterwards
-    pub tells_more : (x : View) (before after : ℕ) → TellsOne c w x n time before after (above_at w (slot_of i)) → Tells c v x l (i + 1) × (after ≤ before + 1)
+    pub tells_more : (x : Knowledge) (before after : ℕ) → TellsOne c w x n time before after (above_at w (slot_of i)) → Tells c v x l (i + 1)
+        × (after ≤ before + 1)
     tells_more x before after one =
         dite (ℕ_discrete n.previous 0)
-        (λ none. let a = one.none none in let same = a.1 in (subst (λ (u : View). Tells c v u l (i + 1)) (sym a.0) (tells_none none), omega arith))
+        (λ none. let a = one.none none in let same = a.1 in (subst (λ (u : Knowledge). Tells c v u l (i + 1)) (sym a.0) (tells_none none), omega arith))
         (λ some.
         let a = one.one some in
         let same = a.1 in
         let is : x ≡ next_view = a.0 ∙ ap (λ (a : CommittedSlot). super_stored c w n.previous time a.slot a.version a.note) above_is in
-        (subst (λ (u : View). Tells c v u l (i + 1)) (sym is) tells_next, omega arith))
+        (subst (λ (u : Knowledge). Tells c v u l (i + 1)) (sym is) tells_next, omega arith))

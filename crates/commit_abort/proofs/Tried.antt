@@ -14,14 +14,14 @@ use Rattle.mv_history.specs.State.{State, Writes, state_after, state_at}
 use Rattle.mv_history.specs.Drift.{IsFit}
 use Rattle.mv_history.specs.Trail.{is_commit_exchange, commit_exchanges}
 use Rattle.mv_layout.specs.declared.Config.{Config}
-use Rattle.mv_layout.specs.declared.Place.TheVariants.{Clock}
+use Rattle.mv_layout.specs.declared.SharedWord.TheVariants.{Clock}
 use Rattle.mv_layout.specs.Places.{place_of}
 use Rattle.mv_layout.specs.Words.{clock_time_of}
 use Rattle.seat_log.specs.mv_core.declared.ring.Ring.{Ring}
-use Rattle.seat_log.specs.mv_core.declared.view.View.{View}
+use Rattle.seat_log.specs.mv_core.declared.view.Knowledge.{Knowledge}
 use Rattle.seat_log.specs.mv_core.declared.view.Past.{Past}
 use Rattle.seat_log.specs.mv_core.declared.view.Phase.TheVariants.{Inside}
-use Rattle.seat_log.specs.mv_core.declared.view.Section.{Section}
+use Rattle.seat_log.specs.mv_core.declared.view.OwnSection.{OwnSection}
 use Rattle.seat_log.specs.mv_core.declared.view.Mode.TheVariants.{Open}
 use Rattle.seat_log.specs.mv_core.Rings.{held_count, own_of}
 use Rattle.seat_log.specs.mv_core.Views.{time_in}
@@ -48,21 +48,21 @@ no_exchange (s ∷ steps) all =
     ∙ no_exchange steps (All-tail (λ s. is_commit_exchange s.kind ≡ false) s steps all)
 
 -- a section may load the clock
-pub may_load : (v : View) (inside : Section) → v.phase ≡ Inside inside → MayLoadCheck v.phase
+pub may_load : (v : Knowledge) (inside : OwnSection) → v.phase ≡ Inside inside → MayLoadCheck v.phase
 may_load v inside phase = subst MayLoadCheck (sym phase) tt
 
 -- one step is within the bound
 pub end_cost : (a b held : ℕ) → b ≡ a + 1 → b ≤ a + held + 8
 end_cost a b held one = omega arith
 
-module _ (c : Config) (v x : View) (word : ℕ) (h0 : List Entry) (whole : IsWhole c v word h0) (is : x ≡ check_loaded c v word h0) (inside : Section)
+module _ (c : Config) (v x : Knowledge) (word : ℕ) (h0 : List Entry) (whole : IsWhole c v word h0) (is : x ≡ check_loaded c v word h0) (inside : OwnSection)
     (phase : v.phase ≡ Inside inside) (past_help : IsPastHelp v.clocks inside) where
   abbrev pub load : Step
   load = record { kind = LoadCheck; word = place_of c Clock; found = Some word; stored = None }
 
   pub loads_first : LoadsClock c v x word 1 (load ∷ [])
   loads_first = record {
-    trail = ap (λ (u : View). u.trail) is;
+    trail = ap (λ (u : Knowledge). u.trail) is;
     few = omega arith;
     loaded = refl;
     old = (let le = begins_long h0 v.past.seen whole.0 in let long = whole.1 in omega arith);
@@ -70,7 +70,7 @@ module _ (c : Config) (v x : View) (word : ℕ) (h0 : List Entry) (whole : IsWho
 
   pub kept_first : IsKept v x inside
   kept_first =
-      subst (λ (u : View). IsKept v u inside) (sym is)
+      subst (λ (u : Knowledge). IsKept v u inside) (sym is)
       (record {
         seen = whole.0;
         past_help = Contains-append_left v.clocks.helped (if_none word ++ checked_helped v.clocks.found word) inside.word past_help;
@@ -85,30 +85,30 @@ module _ (c : Config) (v x : View) (word : ℕ) (h0 : List Entry) (whole : IsWho
     loads = loads_first;
     none = refl;
     last = last;
-    all_seen = ap (λ (u : View). c.base + length u.past.seen) is ∙ sym whole.1 ∙ last;
+    all_seen = ap (λ (u : Knowledge). c.base + length u.past.seen) is ∙ sym whole.1 ∙ last;
   }
 
   pub stands_first : (l : Noted) → Stands c v l → Stands c x l
   stands_first l k =
-      stands_left c v x l k (ap (λ (u : View). u.number) is) (ap (λ (u : View). u.ring) is) (ap (λ (u : View). u.past.mine) is)
-      (ap (λ (u : View). u.past.rests) is) (load ∷ []) (ap (λ (u : View). u.trail) is) (one_leaves load (refl, refl))
+      stands_left c v x l k (ap (λ (u : Knowledge). u.number) is) (ap (λ (u : Knowledge). u.ring) is) (ap (λ (u : Knowledge). u.past.mine) is)
+      (ap (λ (u : Knowledge). u.past.rests) is) (load ∷ []) (ap (λ (u : Knowledge). u.trail) is) (one_leaves load (refl, refl))
 
-  module _ (y : View) (helps : Helps c x y word) (open_is : inside.mode ≡ Open) where
+  module _ (y : Knowledge) (helps : Helps c x y word) (open_is : inside.mode ≡ Open) where
     pub phase_next : y.phase ≡ Inside inside
-    phase_next = still_open c x y word inside (ap (λ (u : View). u.phase) is ∙ phase) open_is helps
+    phase_next = still_open c x y word inside (ap (λ (u : Knowledge). u.phase) is ∙ phase) open_is helps
 
     pub ring_next : y.ring ≡ v.ring
-    ring_next = ap (λ (u : View). u.ring) helps.rest ∙ ap (λ (u : View). u.ring) is
+    ring_next = ap (λ (u : Knowledge). u.ring) helps.rest ∙ ap (λ (u : Knowledge). u.ring) is
 
     pub number_next : y.number ≡ v.number
-    number_next = ap (λ (u : View). u.number) helps.rest ∙ ap (λ (u : View). u.number) is
+    number_next = ap (λ (u : Knowledge). u.number) helps.rest ∙ ap (λ (u : Knowledge). u.number) is
 
     pub past_next : y.past ≡ record v.past { seen = helps.past.0 }
-    past_next = helps.past.2 ∙ ap (λ (u : View). record u.past { seen = helps.past.0 }) is
+    past_next = helps.past.2 ∙ ap (λ (u : Knowledge). record u.past { seen = helps.past.0 }) is
 
     -- it begins with all that was seen, and with the history that the load found
     pub begins_found : BeginsWith helps.past.0 h0
-    begins_found = subst (BeginsWith helps.past.0) (ap (λ (u : View). u.past.seen) is) helps.past.1
+    begins_found = subst (BeginsWith helps.past.0) (ap (λ (u : Knowledge). u.past.seen) is) helps.past.1
 
     pub begins_next : BeginsWith helps.past.0 v.past.seen
     begins_next = begins_by helps.past.0 h0 v.past.seen begins_found whole.0
@@ -116,14 +116,14 @@ module _ (c : Config) (v x : View) (word : ℕ) (h0 : List Entry) (whole : IsWho
     pub helped_next : IsPastHelp y.clocks inside
     helped_next =
         helps.still_helped inside.word
-        (subst (λ (u : View). Contains u.clocks.helped inside.word) (sym is)
+        (subst (λ (u : Knowledge). Contains u.clocks.helped inside.word) (sym is)
         (Contains-append_left v.clocks.helped (if_none word ++ checked_helped v.clocks.found word) inside.word past_help))
 
     abbrev pub steps_next : List Step
     steps_next = load ∷ helps.trail.0
 
     pub trail_next : y.trail ≡ v.trail ++ steps_next
-    trail_next = helps.trail.1 ∙ ap (λ (u : View). u.trail ++ helps.trail.0) is ∙ append_assoc v.trail (load ∷ []) helps.trail.0
+    trail_next = helps.trail.1 ∙ ap (λ (u : Knowledge). u.trail ++ helps.trail.0) is ∙ append_assoc v.trail (load ∷ []) helps.trail.0
 
     -- what holds of each kind of step of it holds of all
     pub kinds_next : (P : StepKind → Type 0) → P LoadNamed → P LoadCheck → P SwapStamp → All (λ s. P s.kind) steps_next
@@ -145,7 +145,7 @@ module _ (c : Config) (v x : View) (word : ℕ) (h0 : List Entry) (whole : IsWho
         let from = begins_next in
         let same : take n y.past.seen ≡ take n v.past.seen =
         ap (λ (p : Past). take n p.seen) past_next ∙ ap (take n) from.1 ∙ take-append-le n v.past.seen from.0 (omega arith) in
-        let start : y.start ≡ v.start = ap (λ (u : View). u.start) helps.rest ∙ ap (λ (u : View). u.start) is in
+        let start : y.start ≡ v.start = ap (λ (u : Knowledge). u.start) helps.rest ∙ ap (λ (u : Knowledge). u.start) is in
         record {
           phase = phase_next;
           open_is = open_is;
@@ -165,7 +165,7 @@ module _ (c : Config) (v x : View) (word : ℕ) (h0 : List Entry) (whole : IsWho
         record { seat = number_next i; number = length (past_next i).mine + 1; snapshot = time_in inside - c.base; tag = tag; writes = own_of c (ring_next i) }
 
     -- the exchange was won: the pass has just named the commit
-    pub just_named : (l : Noted) (tag : List ℕ) (z : View) (time : ℕ) → Stands c v l → l.built ≡ None → 0 < held_count v.ring → LogTold c y word
+    pub just_named : (l : Noted) (tag : List ℕ) (z : Knowledge) (time : ℕ) → Stands c v l → l.built ≡ None → 0 < held_count v.ring → LogTold c y word
         → (time ≡ clock_time_of word + 1) × ((h : List Entry) × IsWhole c y word h × (z ≡ commit_named c y inside tag word h))
         → (won : WonNaming) × IsJustNamed c z l won × (time ≡ clock_time_of won.word + 1)
     just_named l tag z time stands unbuilt some log named = (

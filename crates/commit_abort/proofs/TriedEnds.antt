@@ -12,15 +12,15 @@ use Rattle.mv_history.specs.declared.answers.Rival.{Rival}
 use Rattle.mv_history.specs.State.{State, Writes, maker_of}
 use Rattle.mv_history.specs.Trail.{is_commit_exchange, commit_exchanges}
 use Rattle.mv_layout.specs.declared.Config.{Config}
-use Rattle.mv_layout.specs.declared.Place.TheVariants.{Clock}
+use Rattle.mv_layout.specs.declared.SharedWord.TheVariants.{Clock}
 use Rattle.mv_layout.specs.Places.{place_of}
 use Rattle.mv_layout.specs.Words.{clock_time_of, clock_seat_of}
-use Rattle.seat_log.specs.mv_core.declared.view.View.{View}
+use Rattle.seat_log.specs.mv_core.declared.view.Knowledge.{Knowledge}
 use Rattle.seat_log.specs.mv_core.declared.view.Past.{Past}
 use Rattle.seat_log.specs.mv_core.declared.view.Phase.TheVariants.{Outside, Inside}
-use Rattle.seat_log.specs.mv_core.declared.view.Section.{Section}
+use Rattle.seat_log.specs.mv_core.declared.view.OwnSection.{OwnSection}
 use Rattle.seat_log.specs.mv_core.declared.view.Mode.TheVariants.{Open}
-use Rattle.seat_log.specs.mv_core.declared.view.Walk.TheVariants.{Nowhere}
+use Rattle.seat_log.specs.mv_core.declared.view.WalkStage.TheVariants.{Nowhere}
 use Rattle.seat_log.specs.mv_core.Rings.{held_count}
 use Rattle.seat_log.specs.mv_core.Times.{IsEntry}
 use Rattle.seat_log.specs.mv_core.Views.{no_clocks}
@@ -57,9 +57,9 @@ exchanges_one (x ∷ a) b s is none_a none_b =
     (All-head (λ s. is_commit_exchange s.kind ≡ false) x a none_a)
     ∙ exchanges_one a b s is (All-tail (λ s. is_commit_exchange s.kind ≡ false) x a none_a) none_b
 
-module _ (c : Config) (v x : View) (word : ℕ) (h0 : List Entry) (whole : IsWhole c v word h0) (is : x ≡ check_loaded c v word h0) (inside : Section)
+module _ (c : Config) (v x : Knowledge) (word : ℕ) (h0 : List Entry) (whole : IsWhole c v word h0) (is : x ≡ check_loaded c v word h0) (inside : OwnSection)
     (phase : v.phase ≡ Inside inside) (past_help : IsPastHelp v.clocks inside)
-    (y : View) (helps : Helps c x y word) (open_is : inside.mode ≡ Open) where
+    (y : Knowledge) (helps : Helps c x y word) (open_is : inside.mode ≡ Open) where
   abbrev steps : List Step
   steps = steps_next c v x word h0 whole is inside phase past_help y helps open_is
 
@@ -79,7 +79,8 @@ module _ (c : Config) (v x : View) (word : ℕ) (h0 : List Entry) (whole : IsWho
   none_tried = kinds_next c v x word h0 whole is inside phase past_help y helps open_is (λ q. is_commit_exchange q ≡ false) refl refl refl
 
   -- the steps of the call, with these after those
-  loads : (w : View) (more : List Step) (most : ℕ) → w.trail ≡ v.trail ++ (steps ++ more) → length more + 4 ≤ most → LoadsClock c v w word most (steps ++ more)
+  loads : (w : Knowledge) (more : List Step) (most : ℕ) → w.trail ≡ v.trail ++ (steps ++ more) → length more + 4 ≤ most
+      → LoadsClock c v w word most (steps ++ more)
   loads w more most at few =
       let long = length-append steps more in
       let help = helps.trail.2 in
@@ -90,15 +91,15 @@ module _ (c : Config) (v x : View) (word : ℕ) (h0 : List Entry) (whole : IsWho
         old = (let le = begins_long h0 v.past.seen whole.0 in let all = whole.1 in omega arith);
       }
 
-  module _ (tag : List ℕ) (z w : View) (time held : ℕ) (h : List Entry) (time_is : time ≡ clock_time_of word + 1) (now : IsWhole c y word h)
+  module _ (tag : List ℕ) (z w : Knowledge) (time held : ℕ) (h : List Entry) (time_is : time ≡ clock_time_of word + 1) (now : IsWhole c y word h)
       (named : z ≡ commit_named c y inside tag word h) (fin : Finishes z w (held + 2)) (held_is : held_count v.ring ≡ held) where
     abbrev won : Step
     won = record { kind = NameCommit; word = place_of c Clock; found = Some word; stored = Some (commit_word c y word) }
 
     same_past : w.past ≡ z.past
-    same_past = ap (λ (u : View). u.past) fin.rest
+    same_past = ap (λ (u : Knowledge). u.past) fin.rest
 
-    abbrev ended_of : View → View
+    abbrev ended_of : Knowledge → Knowledge
     ended_of u = record u { past = w.past; phase = Outside; clocks = no_clocks; walk = Nowhere; back = None; ring = w.ring; trail = w.trail }
 
     pub committed : Commits c v w inside tag time
@@ -109,11 +110,11 @@ module _ (c : Config) (v x : View) (word : ℕ) (h0 : List Entry) (whole : IsWho
           time_is = time_is;
           history = h;
           whole = (begins_by h y.past.seen v.past.seen now.0 seen_all, now.1, now.2);
-          past = same_past ∙ ap (λ (u : View). u.past) named
+          past = same_past ∙ ap (λ (u : Knowledge). u.past) named
               ∙ (λ i. record (past i) { seen = h ++ Change (commit i) ∷ []; mine = (past i).mine ++ commit i ∷ [] });
           steps = steps ++ won ∷ fin.trail.0;
           loads = loads w (won ∷ fin.trail.0) (held_count v.ring + 8)
-              (fin.trail.1 ∙ ap (λ (u : View). u.trail ++ fin.trail.0) named ∙ ap (λ l. (l ++ won ∷ []) ++ fin.trail.0) trail
+              (fin.trail.1 ∙ ap (λ (u : Knowledge). u.trail ++ fin.trail.0) named ∙ ap (λ l. (l ++ won ∷ []) ++ fin.trail.0) trail
               ∙ append_assoc (v.trail ++ steps) (won ∷ []) fin.trail.0 ∙ append_assoc v.trail steps (won ∷ fin.trail.0))
               (let few = fin.trail.2 in omega arith);
           one_won = record {
@@ -129,29 +130,29 @@ module _ (c : Config) (v x : View) (word : ℕ) (h0 : List Entry) (whole : IsWho
               ∙ ap ended_of named ∙ ap ended_of helps.rest ∙ ap ended_of is;
         }
 
-  module _ (w : View) (found : ℕ) (h : List Entry) (rival : Rival) (lost : IsLost c y word found rival h) (at : w ≡ commit_lost c y found h) where
+  module _ (w : Knowledge) (found : ℕ) (h : List Entry) (rival : Rival) (lost : IsLost c y word found rival h) (at : w ≡ commit_lost c y found h) where
     abbrev tried : Step
     tried = record { kind = NameCommit; word = place_of c Clock; found = Some found; stored = None }
 
     same_seen : w.past.seen ≡ h
-    same_seen = ap (λ (u : View). u.past.seen) at
+    same_seen = ap (λ (u : Knowledge). u.past.seen) at
 
     past_is : w.past ≡ record v.past { seen = w.past.seen }
-    past_is = ap (λ (u : View). u.past) at ∙ (λ i. record (past i) { seen = sym same_seen i })
+    past_is = ap (λ (u : Knowledge). u.past) at ∙ (λ i. record (past i) { seen = sym same_seen i })
 
     same_phase : w.phase ≡ Inside inside
-    same_phase = ap (λ (u : View). u.phase) at ∙ phase_next c v x word h0 whole is inside phase past_help y helps open_is
+    same_phase = ap (λ (u : Knowledge). u.phase) at ∙ phase_next c v x word h0 whole is inside phase past_help y helps open_is
 
     begins : BeginsWith h v.past.seen
     begins = begins_by h y.past.seen v.past.seen lost.whole.0 seen_all
 
-    abbrev kept_of : View → View
+    abbrev kept_of : Knowledge → Knowledge
     kept_of u = record u { past = record v.past { seen = w.past.seen }; phase = Inside inside; clocks = w.clocks; trail = w.trail }
 
     kept : IsKept v w inside
     kept = record {
       seen = subst (λ l. BeginsWith l v.past.seen) (sym same_seen) begins;
-      past_help = subst (λ (u : View). IsPastHelp u.clocks inside) (sym at)
+      past_help = subst (λ (u : Knowledge). IsPastHelp u.clocks inside) (sym at)
           (Contains-append_left y.clocks.helped (if_none found) inside.word (helped_next c v x word h0 whole is inside phase past_help y helps open_is));
       rest = (λ i. record w { past = past_is i; phase = same_phase i }) ∙ ap kept_of at ∙ ap kept_of helps.rest ∙ ap kept_of is
           ∙ (λ i. record v { past = record v.past { seen = w.past.seen }; phase = sym phase i; clocks = w.clocks; trail = w.trail });
@@ -159,9 +160,9 @@ module _ (c : Config) (v x : View) (word : ℕ) (h0 : List Entry) (whole : IsWho
 
     pub stands_lost : (l : Noted) → Stands c v l → Stands c w l
     stands_lost l k =
-        stands_left c y w l (stands_next c v x word h0 whole is inside phase past_help y helps open_is l k) (ap (λ (u : View). u.number) at)
-        (ap (λ (u : View). u.ring) at) (ap (λ (u : View). u.past.mine) at) (ap (λ (u : View). u.past.rests) at) (tried ∷ [])
-        (ap (λ (u : View). u.trail) at) (one_leaves tried (refl, refl))
+        stands_left c y w l (stands_next c v x word h0 whole is inside phase past_help y helps open_is l k) (ap (λ (u : Knowledge). u.number) at)
+        (ap (λ (u : Knowledge). u.ring) at) (ap (λ (u : Knowledge). u.past.mine) at) (ap (λ (u : Knowledge). u.past.rests) at) (tried ∷ [])
+        (ap (λ (u : Knowledge). u.trail) at) (one_leaves tried (refl, refl))
 
     module _ (starts : State → Type 0) (allows : List ℕ → State → Writes → Type 0) (known_x : ∥ Known starts allows x ∥₁)
         (known_w : ∥ Known starts allows w ∥₁) where
@@ -171,11 +172,12 @@ module _ (c : Config) (v x : View) (word : ℕ) (h0 : List Entry) (whole : IsWho
       other_seat : rival.seat ≢ v.number
       other_seat own =
           let same : clock_seat_of found ≡ v.number = ap (λ (r : Rival). r.seat) (sym lost.rival_is) ∙ own in
-          let number_x : x.number ≡ v.number = ap (λ (u : View). u.number) is in
-          let number_w : w.number ≡ v.number = ap (λ (u : View). u.number) at ∙ number_next c v x word h0 whole is inside phase past_help y helps open_is in
-          let mine : w.past.mine ≡ x.past.mine = ap (λ (p : Past). p.mine) past_is ∙ ap (λ (u : View). u.past.mine) (sym is) in
-          let rests : w.past.rests ≡ x.past.rests = ap (λ (p : Past). p.rests) past_is ∙ ap (λ (u : View). u.past.rests) (sym is) in
-          let seen_x : x.past.seen ≡ h0 = ap (λ (u : View). u.past.seen) is in
+          let number_x : x.number ≡ v.number = ap (λ (u : Knowledge). u.number) is in
+          let number_w : w.number ≡ v.number = ap (λ (u : Knowledge). u.number) at
+          ∙ number_next c v x word h0 whole is inside phase past_help y helps open_is in
+          let mine : w.past.mine ≡ x.past.mine = ap (λ (p : Past). p.mine) past_is ∙ ap (λ (u : Knowledge). u.past.mine) (sym is) in
+          let rests : w.past.rests ≡ x.past.rests = ap (λ (p : Past). p.rests) past_is ∙ ap (λ (u : Knowledge). u.past.rests) (sym is) in
+          let seen_x : x.past.seen ≡ h0 = ap (λ (u : Knowledge). u.past.seen) is in
           let more : BeginsWith h h0 =
           begins_by h y.past.seen h0 lost.whole.0
           (subst (λ l. BeginsWith l h0) (sym seen) (begins_found c v x word h0 whole is inside phase past_help y helps open_is)) in
@@ -192,7 +194,7 @@ module _ (c : Config) (v x : View) (word : ℕ) (h0 : List Entry) (whole : IsWho
             kept = kept;
             word = word;
             steps = steps ++ tried ∷ [];
-            loads = loads w (tried ∷ []) 5 (ap (λ (u : View). u.trail) at ∙ ap (λ l. l ++ tried ∷ []) trail ∙ append_assoc v.trail steps (tried ∷ []))
+            loads = loads w (tried ∷ []) 5 (ap (λ (u : Knowledge). u.trail) at ∙ ap (λ l. l ++ tried ∷ []) trail ∙ append_assoc v.trail steps (tried ∷ []))
                 (omega arith);
             found = found;
             one_lost = exchanges_one steps [] tried refl none_tried (All-nil (λ s. is_commit_exchange s.kind ≡ false));

@@ -11,12 +11,12 @@ use Rattle.mv_history.specs.State.{State, Writes}
 use Rattle.mv_history.specs.declared.Step.{Step}
 use Rattle.mv_history.specs.declared.StepKind.TheVariants.{UnlockHead}
 use Rattle.mv_layout.specs.declared.Config.{Config}
-use Rattle.mv_layout.specs.declared.Place.TheVariants.{Head}
+use Rattle.mv_layout.specs.declared.SharedWord.TheVariants.{Head}
 use Rattle.mv_layout.specs.Places.{place_of}
 use Rattle.seat_log.specs.mv_core.declared.ring.Slot.TheVariants.{Live}
-use Rattle.seat_log.specs.mv_core.declared.ring.Status.TheVariants.{Held, Aborted}
-use Rattle.seat_log.specs.mv_core.declared.view.View.{View}
-use Rattle.seat_log.specs.mv_core.declared.view.Section.{Section}
+use Rattle.seat_log.specs.mv_core.declared.ring.WriteSetStatus.TheVariants.{Held, Aborted}
+use Rattle.seat_log.specs.mv_core.declared.view.Knowledge.{Knowledge}
+use Rattle.seat_log.specs.mv_core.declared.view.OwnSection.{OwnSection}
 use Rattle.seat_log.specs.mv_core.declared.view.Mode.TheVariants.{Aborting}
 use Rattle.seat_log.specs.mv_core.Rings.{slot_at, index_of}
 use Rattle.seat_log.specs.mv_core.Views.{IsUnnamed}
@@ -32,7 +32,7 @@ use Rattle.seat_log.proofs.Places.{get_within}
 use Rattle.seat_log.proofs.NotedSlots.{apart, held_at}
 use Rattle.commit_abort.specs.Aborts.{IsOpen, HeldSlot, IsAbortedToo, Unlocks, held_in, MayGiveBack, GivesBack}
 
-module _ (c : Config) (v : View) (l : Noted) (inside : Section) (k : Stands c v l) (open_is : IsOpen v inside) where
+module _ (c : Config) (v : Knowledge) (l : Noted) (inside : OwnSection) (k : Stands c v l) (open_is : IsOpen v inside) where
   abbrev slot_of : ℕ → ℕ
   slot_of i = index_of c (l.freed + i)
 
@@ -53,7 +53,7 @@ module _ (c : Config) (v : View) (l : Noted) (inside : Section) (k : Stands c v 
     trail = ([], sym (append-nil v.trail), omega arith, All-nil (λ s. s.kind ≡ UnlockHead));
   }
 
-  module _ (w : View) (i : ℕ) (n : Note) (at : IsNoteAt l i n) (from : held_from l ≤ i) (t : Unlocks c v w l inside i) where
+  module _ (w : Knowledge) (i : ℕ) (n : Note) (at : IsNoteAt l i n) (from : held_from l ≤ i) (t : Unlocks c v w l inside i) where
     within : i < length l.live
     within = get_within l.live i n at
 
@@ -76,7 +76,7 @@ module _ (c : Config) (v : View) (l : Noted) (inside : Section) (k : Stands c v 
               (record { phase = t.phase; unnamed = t.unnamed; held = here; object_is = refl; previous_is = refl }),
         )
 
-    abbrev next_view : View
+    abbrev next_view : Knowledge
     next_view = head_unlocked c w n.object n.previous (slot_of i) (version_of n) t.inside_now
 
     abbrev step : Step
@@ -93,7 +93,7 @@ module _ (c : Config) (v : View) (l : Noted) (inside : Section) (k : Stands c v 
       inside_now = record t.inside_now { mode = Aborting };
       phase = refl;
       unnamed = tt;
-      kept = ap (λ (u : View). record u { phase = next_view.phase; ring = next_view.ring; trail = next_view.trail }) t.kept;
+      kept = ap (λ (u : Knowledge). record u { phase = next_view.phase; ring = next_view.ring; trail = next_view.trail }) t.kept;
       wide = length-set w.ring.slots (slot_of i) (Live (version_of n) (Aborted None)) ∙ t.wide;
       next = t.next;
       more = λ j.
@@ -118,7 +118,7 @@ module _ (c : Config) (v : View) (l : Noted) (inside : Section) (k : Stands c v 
           ));
     }
 
-    pub unlocks_more : (x : View) → GivesBack c w x n (held_in w (slot_of i)) → Unlocks c v x l inside (i + 1)
+    pub unlocks_more : (x : Knowledge) → GivesBack c w x n (held_in w (slot_of i)) → Unlocks c v x l inside (i + 1)
     unlocks_more x gives =
-        subst (λ (u : View). Unlocks c v u l inside (i + 1))
+        subst (λ (u : Knowledge). Unlocks c v u l inside (i + 1))
         (sym (gives ∙ ap (λ (a : HeldSlot). head_unlocked c w n.object n.previous a.slot a.version a.inside) held_is)) unlocks_next

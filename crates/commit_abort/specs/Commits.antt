@@ -10,11 +10,11 @@ use Rattle.mv_history.specs.Drift.{IsFit}
 use Rattle.mv_history.specs.Trail.{commit_exchanges, IsOneWon}
 use Rattle.mv_layout.specs.declared.Config.{Config}
 use Rattle.mv_layout.specs.Words.{clock_time_of, clock_seat_of}
-use Rattle.seat_log.specs.mv_core.declared.view.View.{View}
+use Rattle.seat_log.specs.mv_core.declared.view.Knowledge.{Knowledge}
 use Rattle.seat_log.specs.mv_core.declared.view.Phase.TheVariants.{Outside, Inside}
-use Rattle.seat_log.specs.mv_core.declared.view.Section.{Section}
+use Rattle.seat_log.specs.mv_core.declared.view.OwnSection.{OwnSection}
 use Rattle.seat_log.specs.mv_core.declared.view.Mode.TheVariants.{Open}
-use Rattle.seat_log.specs.mv_core.declared.view.Walk.TheVariants.{Nowhere}
+use Rattle.seat_log.specs.mv_core.declared.view.WalkStage.TheVariants.{Nowhere}
 use Rattle.seat_log.specs.mv_core.Rings.{held_count, own_of}
 use Rattle.seat_log.specs.mv_core.Times.{IsEntry}
 use Rattle.seat_log.specs.mv_core.Views.{no_clocks, time_in}
@@ -27,7 +27,7 @@ use Rattle.commit_abort.specs.declared.committing.Ended.{Ended}
 use Rattle.commit_abort.specs.declared.committing.Ended.TheVariants.{Done, Again, End}
 
 -- an open section past its help holds something, and the drift condition holds of the tag
-pub record MayCommit (allows : List ℕ → State → Writes → Type 0) (c : Config) (v : View) (tag : List ℕ) (inside : Section) : Type 0 where
+pub record MayCommit (allows : List ℕ → State → Writes → Type 0) (c : Config) (v : Knowledge) (tag : List ℕ) (inside : OwnSection) : Type 0 where
   pub phase : v.phase ≡ Inside inside
   pub open_is : inside.mode ≡ Open
   pub past_help : IsPastHelp v.clocks inside
@@ -35,7 +35,7 @@ pub record MayCommit (allows : List ℕ → State → Writes → Type 0) (c : Co
   pub fit : IsFit allows (state_at v.start v.past.seen (time_in inside - c.base)) tag (own_of c v.ring)
 
 -- the first step of this call loaded this word of CLOCK, with all that had been seen before it in its history; the trail has at most so many steps more
-pub record LoadsClock (c : Config) (v w : View) (word most : ℕ) (steps : List Step) : Type 0 where
+pub record LoadsClock (c : Config) (v w : Knowledge) (word most : ℕ) (steps : List Step) : Type 0 where
   pub trail : w.trail ≡ v.trail ++ steps
   pub few : length steps ≤ most
   pub loaded : slice_get steps 0 ≡ Some (record { kind = LoadCheck; word = 0; found = Some word; stored = None })
@@ -43,7 +43,7 @@ pub record LoadsClock (c : Config) (v w : View) (word most : ℕ) (steps : List 
 
 -- The section's commit, of exactly what it held, is the entry of this time, which is the next after that of the word loaded; it
 -- is the last of the seat's commits, and the one commit exchange of this call was won. The section has ended.
-pub record Commits (c : Config) (v w : View) (inside : Section) (tag : List ℕ) (time : ℕ) : Type 0 where
+pub record Commits (c : Config) (v w : Knowledge) (inside : OwnSection) (tag : List ℕ) (time : ℕ) : Type 0 where
   pub word : ℕ
   pub time_is : time ≡ clock_time_of word + 1
   pub history : List Entry
@@ -56,7 +56,7 @@ pub record Commits (c : Config) (v w : View) (inside : Section) (tag : List ℕ)
   pub rest : w ≡ record v { past = w.past; phase = Outside; clocks = no_clocks; walk = Nowhere; back = None; ring = w.ring; trail = w.trail }
 
 -- the section is as before, but that more was seen, more clock words were loaded and helped, and the trail is longer
-pub record IsKept (v w : View) (inside : Section) : Type 0 where
+pub record IsKept (v w : Knowledge) (inside : OwnSection) : Type 0 where
   pub seen : BeginsWith w.past.seen v.past.seen
   pub past_help : IsPastHelp w.clocks inside
   pub rest : w ≡ record v { past = record v.past { seen = w.past.seen }; clocks = w.clocks; trail = w.trail }
@@ -67,7 +67,7 @@ lost_exchange found = record { kind = NameCommit; word = 0; found = Some found; 
 
 -- The one commit exchange of this call was lost, to the word that names the rival: another seat made the entry of the rival's time after
 -- this call had loaded the clock.
-pub record IsOvertakenBy (c : Config) (v w : View) (inside : Section) (rival : Rival) : Type 0 where
+pub record IsOvertakenBy (c : Config) (v w : Knowledge) (inside : OwnSection) (rival : Rival) : Type 0 where
   pub kept : IsKept v w inside
   pub word : ℕ
   pub steps : List Step
@@ -80,7 +80,7 @@ pub record IsOvertakenBy (c : Config) (v w : View) (inside : Section) (rival : R
   pub entry : (e : Entry) × IsEntry c.base w.past.seen rival.time e × (maker_of e ≡ rival.seat)
 
 -- no time is left: the word that this call loaded has the last one
-pub record IsAtEnd (c : Config) (v w : View) (inside : Section) : Type 0 where
+pub record IsAtEnd (c : Config) (v w : Knowledge) (inside : OwnSection) : Type 0 where
   pub kept : IsKept v w inside
   pub word : ℕ
   pub steps : List Step
@@ -90,7 +90,7 @@ pub record IsAtEnd (c : Config) (v w : View) (inside : Section) : Type 0 where
   pub all_seen : c.base + length w.past.seen ≡ 35184372088831
 
 -- what the answer says
-abbrev pub EndsSo : Config → View → View → Section → List ℕ → Ended → Type 0
+abbrev pub EndsSo : Config → Knowledge → Knowledge → OwnSection → List ℕ → Ended → Type 0
 EndsSo c v w inside tag (Done time) = Commits c v w inside tag time
 EndsSo c v w inside tag (Again rival) = IsOvertakenBy c v w inside rival
 EndsSo c v w inside tag End = IsAtEnd c v w inside

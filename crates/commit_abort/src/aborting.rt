@@ -1,7 +1,7 @@
 // Giving up what a section holds.
 ghost use Rattle.std.specs.Prelude.{◌≡◌, ℕ, ◌+◌, ◌≤◌, ◌<◌, length, None};
-ghost use Rattle.seat_log.specs.mv_core.declared.view.View.{View};
-ghost use Rattle.seat_log.specs.mv_core.declared.view.Section.{Section};
+ghost use Rattle.seat_log.specs.mv_core.declared.view.Knowledge.{Knowledge};
+ghost use Rattle.seat_log.specs.mv_core.declared.view.OwnSection.{OwnSection};
 ghost use Rattle.seat_log.specs.mv_core.EnterSteps.{mark_cleared};
 ghost use Rattle.seat_log.specs.mv_core.Passes.{view, IsOf, IsSame, config_of};
 ghost use Rattle.seat_log.specs.declared.version.Note.{Note};
@@ -46,12 +46,12 @@ pub fn abort_step<P: Protocol, L: Ledger>(
     steps: &mut Steps<L>,
 )
     requires of { IsOf shared.now pass.old }
-    requires aborting { (from : View) × IsAborting (config_of shared.now) from (view pass.old) log.now which }
+    requires aborting { (from : Knowledge) × IsAborting (config_of shared.now) from (view pass.old) log.now which }
     requires range { which < log.now.held }
     ensures same { IsSame pass.old pass.new }
     ensures gives { (n : Note) → IsNoteAt log.now (held_from log.now + which) n
         → GivesBack (config_of shared.now) (view pass.old) (view pass.new) n (held_number (config_of shared.now) (view pass.old) log.now which) }
-    ensures aborting { (from : View) → IsAborting (config_of shared.now) from (view pass.old) log.now which
+    ensures aborting { (from : Knowledge) → IsAborting (config_of shared.now) from (view pass.old) log.now which
         → IsAborting (config_of shared.now) from (view pass.new) log.now (which + 1) }
     ensures step { steps.new ≡ steps.old + 1 }
 {
@@ -69,7 +69,7 @@ pub fn abort_death<P: Protocol, L: Ledger>(
     steps: &mut Steps<L>,
 ) -> u64
     requires of { IsOf shared.now pass.old }
-    requires aborting { (from : View) × IsAborting (config_of shared.now) from (view pass.old) log.now log.now.held }
+    requires aborting { (from : Knowledge) × IsAborting (config_of shared.now) from (view pass.old) log.now log.now.held }
     ensures same { IsSame pass.old pass.new }
     ensures death { LoadsDeath (config_of shared.now) (view pass.old) (view pass.new) log.now.held result steps.old steps.new }
 {
@@ -90,10 +90,10 @@ pub fn abort_end<P: Protocol, L: Ledger>(
     steps: &mut Steps<L>,
 )
     requires of { IsOf shared.now pass.old }
-    requires given_up { (from : View) × HasGivenUp (config_of shared.now) from (view pass.old) log.old dead }
+    requires given_up { (from : Knowledge) × HasGivenUp (config_of shared.now) from (view pass.old) log.old dead }
     ensures same { IsSame pass.old pass.new }
     ensures view { view pass.new ≡ mark_cleared (config_of shared.now) (view pass.old) }
-    ensures aborts { (from : View) → HasGivenUp (config_of shared.now) from (view pass.old) log.old dead
+    ensures aborts { (from : Knowledge) → HasGivenUp (config_of shared.now) from (view pass.old) log.old dead
         → Aborts from (view pass.new) (abort_cost log.old.held) }
     ensures log { log.new ≡ aborted_noted log.old dead }
     ensures stands { Stands (config_of shared.now) (view pass.new) log.new }
@@ -116,7 +116,7 @@ pub fn abort<P: Protocol, L: Ledger>(
     log: &mut Log,
     steps: &mut Steps<L>,
 )
-    ghost inside: { Section }
+    ghost inside: { OwnSection }
     requires of { IsOf shared.now pass.old }
     requires open { IsOpen (view pass.old) inside }
     requires stands { Stands (config_of shared.now) (view pass.old) log.old }

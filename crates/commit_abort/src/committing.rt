@@ -1,6 +1,6 @@
 // Committing what a section holds.
 ghost use Rattle.std.specs.Prelude.{◌≡◌, ◌+◌, ◌≤◌, None};
-ghost use Rattle.seat_log.specs.mv_core.declared.view.Section.{Section};
+ghost use Rattle.seat_log.specs.mv_core.declared.view.OwnSection.{OwnSection};
 ghost use Rattle.seat_log.specs.mv_core.Passes.{view, IsOf, IsSame, config_of};
 ghost use Rattle.seat_log.specs.Stands.{Stands};
 ghost use Rattle.commit_abort.specs.Commits.{MayCommit, EndsSo, LogEndsSo};
@@ -42,7 +42,7 @@ pub fn commit<P: Protocol, L: Ledger>(
     tag: Tag,
     steps: &mut Steps<L>,
 ) -> Ended
-    ghost inside: { Section }
+    ghost inside: { OwnSection }
     requires of { IsOf shared.now pass.old }
     requires may { MayCommit P.allowed (config_of shared.now) (view pass.old) tag inside }
     requires stands { Stands (config_of shared.now) (view pass.old) log.old }

@@ -1,8 +1,8 @@
 // Finishing a commit that was named.
 ghost use Rattle.std.specs.Prelude.{◌≡◌, ◌+◌, ◌≤◌, ◌<◌, length};
 ghost use Rattle.mv_layout.specs.Words.{clock_time_of};
-ghost use Rattle.seat_log.specs.mv_core.declared.view.View.{View};
-ghost use Rattle.seat_log.specs.mv_core.declared.view.Section.{Section};
+ghost use Rattle.seat_log.specs.mv_core.declared.view.Knowledge.{Knowledge};
+ghost use Rattle.seat_log.specs.mv_core.declared.view.OwnSection.{OwnSection};
 ghost use Rattle.seat_log.specs.mv_core.EnterSteps.{mark_cleared};
 ghost use Rattle.seat_log.specs.mv_core.Passes.{view, IsOf, IsSame, config_of};
 ghost use Rattle.seat_log.specs.declared.version.Note.{Note};
@@ -24,7 +24,7 @@ fn stamp_own<P: Protocol, L: Ledger>(
     time: u64,
     steps: &mut Steps<L>,
 )
-    ghost inside: { Section }
+    ghost inside: { OwnSection }
     requires of { IsOf shared.now pass.old }
     requires named { HasNamed (view pass.old) first time inside }
     ensures same { IsSame pass.old pass.new }
@@ -90,13 +90,13 @@ pub fn finish_step<P: Protocol, L: Ledger>(
     steps: &mut Steps<L>,
 )
     requires of { IsOf shared.now pass.old }
-    requires finishing { (from : View) × IsFinishing (config_of shared.now) from (view pass.old) log.now time which }
+    requires finishing { (from : Knowledge) × IsFinishing (config_of shared.now) from (view pass.old) log.now time which }
     requires range { which < log.now.held }
     ensures same { IsSame pass.old pass.new }
     ensures tells { (n : Note) → IsNoteAt log.now (held_from log.now + which) n
         → TellsOne (config_of shared.now) (view pass.old) (view pass.new) n time steps.old steps.new
         (above_held (config_of shared.now) (view pass.old) log.now which) }
-    ensures finishing { (from : View) → IsFinishing (config_of shared.now) from (view pass.old) log.now time which
+    ensures finishing { (from : Knowledge) → IsFinishing (config_of shared.now) from (view pass.old) log.now time which
         → IsFinishing (config_of shared.now) from (view pass.new) log.now time (which + 1) }
     ensures cost { steps.new ≤ steps.old + 1 }
 {
@@ -115,10 +115,10 @@ pub fn finish_end<P: Protocol, L: Ledger>(
     steps: &mut Steps<L>,
 )
     requires of { IsOf shared.now pass.old }
-    requires finishing { (from : View) × IsFinishing (config_of shared.now) from (view pass.old) log.old time log.old.held }
+    requires finishing { (from : Knowledge) × IsFinishing (config_of shared.now) from (view pass.old) log.old time log.old.held }
     ensures same { IsSame pass.old pass.new }
     ensures view { view pass.new ≡ mark_cleared (config_of shared.now) (view pass.old) }
-    ensures finishes { (from : View) → IsFinishing (config_of shared.now) from (view pass.old) log.old time log.old.held
+    ensures finishes { (from : Knowledge) → IsFinishing (config_of shared.now) from (view pass.old) log.old time log.old.held
         → Finishes from (view pass.new) (log.old.held + 2) }
     ensures log { log.new ≡ committed_noted log.old time }
     ensures stands { Stands (config_of shared.now) (view pass.new) log.new }

@@ -7,7 +7,7 @@ use mathlib.Core.Logic.{dite}
 use native.Mathlib.Decide.{ℕ_discrete}
 use Rattle.mv_history.specs.State.{State, Writes}
 use Rattle.mv_layout.specs.Words.{clock_slot_of}
-use Rattle.mv_core.specs.declared.view.View.{View}
+use Rattle.mv_core.specs.declared.view.Knowledge.{Knowledge}
 use Rattle.mv_core.specs.Known.{Known}
 
 -- a list of numbers has a number, or hasn't
@@ -24,7 +24,7 @@ decides (y ∷ ys) x =
     single : Contains (y ∷ []) x → y ≡ x
     single a = grind arith
 
-pub none_is_helped : (starts : State → Type 0) (allows : List ℕ → State → Writes → Type 0) (v : View) (word : ℕ) → ∥ Known starts allows v ∥₁
+pub none_is_helped : (starts : State → Type 0) (allows : List ℕ → State → Writes → Type 0) (v : Knowledge) (word : ℕ) → ∥ Known starts allows v ∥₁
     → Contains v.clocks.loaded word → clock_slot_of word ≡ 8191 → Contains v.clocks.helped word
 none_is_helped starts allows v word known loaded none =
     ⊎_elim (λ a. a) (λ un. absurd (∥∥₁_elim known (λ a b. absurd a) (λ k. un (k.none word loaded none)))) (decides v.clocks.helped word)

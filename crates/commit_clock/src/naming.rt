@@ -1,6 +1,6 @@
 // Naming the next entry of the history.
 ghost use Rattle.std.specs.Prelude.{◌≡◌, ◌+◌, ◌<◌};
-ghost use Rattle.mv_core.specs.declared.view.Section.{Section};
+ghost use Rattle.mv_core.specs.declared.view.OwnSection.{OwnSection};
 ghost use Rattle.mv_layout.specs.Words.{clock_time_of};
 ghost use Rattle.mv_core.specs.Passes.{view, IsOf, IsSame, config_of};
 ghost use Rattle.mv_core.specs.NameSteps.{MayNameCommit, MayNameRest};
@@ -37,7 +37,7 @@ pub fn name<P: Protocol, L: Ledger>(
     tag: Tag,
     steps: &mut Steps<L>,
 ) -> Named
-    ghost inside: { Section }
+    ghost inside: { OwnSection }
     requires of { IsOf shared.now pass.old }
     requires may { MayNameCommit P.allowed (config_of shared.now) (view pass.old) word tag inside }
     ensures same { IsSame pass.old pass.new }

@@ -10,8 +10,8 @@ use Rattle.section_work.proofs.Entering.{reads_snapshot}
 use Rattle.mv_client.proofs.Invariants.{keeps_in}
 use Rattle.mv_client.proofs.Fits.{fit_by_held}
 use Rattle.mv_client.proofs.Keeping.{three_distinct}
-use Rattle.directory.specs.declared.moving.Found.TheVariants.{Away}
-use Rattle.directory.specs.declared.layout.Node.{Node}
+use Rattle.directory.specs.declared.moving.Whereabouts.TheVariants.{Away}
+use Rattle.directory.specs.declared.layout.DirectoryNode.{DirectoryNode}
 use Rattle.directory.specs.Layout.{link_of, words_of, with_link}
 use Rattle.directory.specs.Ring.{node_at, IsDirectory, IsBefore}
 use Rattle.directory.specs.Moves.{IsOpening, before_in, user_in, shelf_in, IsMove, IsMoving, move_meaning, tag_of_plan}
@@ -44,7 +44,7 @@ move_fit tag from ws m = fit_by_held IsMove from tag ws (λ s long held.
 three_within : (a b c n : ℕ) (x y z : List ℕ) → a < n → b < n → c < n → AreWithin ((a, x) ∷ (b, y) ∷ (c, z) ∷ []) n
 three_within a b c n x y z la lb lc o t = grind (arith, nat_tests)
 
-pub planned : (s : State) (before user shelf : ℕ) (source node target : Node) (first second third : List ℕ) → IsDirectory s → IsMoving user shelf
+pub planned : (s : State) (before user shelf : ℕ) (source node target : DirectoryNode) (first second third : List ℕ) → IsDirectory s → IsMoving user shelf
     → IsBefore s (1 - shelf) before user → source ≡ node_at s before → node ≡ node_at s user → target ≡ node_at s shelf
     → first ≡ words_of (with_link source node.next) → second ≡ words_of (with_link node target.next) → third ≡ words_of (with_link target user)
     → IsPlanned IsMove (move_meaning user shelf) s (tag_of_plan user shelf ((before, first) ∷ (user, second) ∷ (shelf, third) ∷ []))

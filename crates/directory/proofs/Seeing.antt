@@ -7,7 +7,7 @@ use Rattle.mv_history.proofs.Steps.{Continues-Continues, length-seen, state_at-l
 use Rattle.section_work.proofs.Entering.{reads_snapshot}
 use Rattle.mv_client.proofs.Invariants.{keeps_at}
 use Rattle.directory.specs.declared.rules.TheConstants.{OBJECTS}
-use Rattle.directory.specs.declared.layout.Node.{Node}
+use Rattle.directory.specs.declared.layout.DirectoryNode.{DirectoryNode}
 use Rattle.directory.specs.declared.reading.Seen.{Seen}
 use Rattle.mv_client.proofs.Linked.{next_below}
 use Rattle.directory.specs.Layout.{details_of}
@@ -33,8 +33,8 @@ readable {o = o} d same below =
     (omega (arith, below, d.0, ap length same), omega (arith, ap (λ (v : State). next_of v o) same, next_below d.2 o below))
 
 -- the link of a node that was read
-pub link_read : {s u : State} {n : Node} (o : ℕ) → n ≡ node_at u o → u ≡ s → n.next ≡ next_of s o
-link_read o read same = ap (λ (n : Node). n.next) read ∙ ap (λ (v : State). next_of v o) same
+pub link_read : {s u : State} {n : DirectoryNode} (o : ℕ) → n ≡ node_at u o → u ≡ s → n.next ≡ next_of s o
+link_read o read same = ap (λ (n : DirectoryNode). n.next) read ∙ ap (λ (v : State). next_of v o) same
 
 -- what a section showed which then left
 pub seen_by : (took : Seat → InSection → Type 0) (old new : Seat) (s t : InSection) (u : State) (user : ℕ) (seen : Seen) → Enters old s → took old s

@@ -1,8 +1,8 @@
 -- Which states a directory opens with, and which commits move a user.
 use Rattle.std.specs.Prelude.{◌≡◌, ◌≢◌, ℕ, ◌-◌, ◌<◌, true, Bool, List, [], ◌∷◌, length, map, slice_index}
 use Rattle.directory.specs.declared.rules.TheConstants.{OBJECTS, SHELVES}
-use Rattle.directory.specs.declared.moving.Found.{Found}
-use Rattle.directory.specs.declared.moving.Found.TheVariants.{Away, There, Late}
+use Rattle.directory.specs.declared.moving.Whereabouts.{Whereabouts}
+use Rattle.directory.specs.declared.moving.Whereabouts.TheVariants.{Away, There, Late}
 use Rattle.mv_history.specs.State.{State, Writes}
 use Rattle.mv_history.specs.Meaning.{words_at}
 use Rattle.section_work.specs.Works.{Meaning}
@@ -56,13 +56,13 @@ pub record PlansMove (user shelf : ℕ) (s : State) (tag : List ℕ) (ws : Write
   pub moves : IsMove tag s ws
 
 -- why none is made: the user is there already, or it is on the other shelf, but no time is left
-abbrev pub SettlesMove : ℕ → ℕ → State → Bool → Found → Type 0
+abbrev pub SettlesMove : ℕ → ℕ → State → Bool → Whereabouts → Type 0
 SettlesMove user shelf s last Away = ⊥
 SettlesMove user shelf s last There = IsOn s shelf user
 SettlesMove user shelf s last Late = IsOn s (1 - shelf) user × (last ≡ true)
 
 -- A move of a user to a shelf, as a work. It changes something where the user is on the other shelf, and puts the user in front.
-abbrev pub move_meaning : ℕ → ℕ → Meaning Found
+abbrev pub move_meaning : ℕ → ℕ → Meaning Whereabouts
 move_meaning user shelf = record {
   most = 3;
   changes = λ s. IsOn s (1 - shelf) user;

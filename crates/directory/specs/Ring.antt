@@ -1,7 +1,7 @@
 -- What a directory is: its links form one ring.
 use Rattle.std.specs.Prelude.{◌≡◌, ℕ, ◌≤◌, ◌⊎◌, length}
 use Rattle.directory.specs.declared.rules.TheConstants.{OBJECTS, SHELVES}
-use Rattle.directory.specs.declared.layout.Node.{Node}
+use Rattle.directory.specs.declared.layout.DirectoryNode.{DirectoryNode}
 use Rattle.directory.specs.Layout.{node_in}
 use Rattle.mv_history.specs.State.{State}
 use Rattle.mv_history.specs.Meaning.{words_at}
@@ -9,7 +9,7 @@ use Rattle.mv_client.specs.Linked as links
 use Rattle.mv_client.specs.Linked.{IsRing}
 
 -- what an object says in a state
-abbrev pub node_at : State → ℕ → Node
+abbrev pub node_at : State → ℕ → DirectoryNode
 node_at s o = node_in (words_at s o)
 
 -- the object to which an object's link leads

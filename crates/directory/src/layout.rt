@@ -4,7 +4,7 @@ use mv_history::Words;
 
 /// A shelf or a user, as its object's words say it. Of a shelf only the link is looked at.
 #[derive(Clone, Copy, Debug, PartialEq, Eq)]
-pub struct Node {
+pub struct DirectoryNode {
     /// The link: the object behind this one.
     pub next: u32,
     /// The user's id.
@@ -24,7 +24,7 @@ const HASH: usize = 2;
 
 const REST: usize = 3;
 
-impl Record for Node {
+impl Record for DirectoryNode {
     ghost use Rattle.std.specs.Prelude.{◌^◌, ◌<◌, refl};
     ghost use Rattle.directory.specs.Layout.{words_of as node_words, node_in, link_of};
 
@@ -47,8 +47,8 @@ impl Record for Node {
         words
     }
 
-    fn from_words(words: Words) -> Node {
-        Node {
+    fn from_words(words: Words) -> DirectoryNode {
+        DirectoryNode {
             next: words[NEXT] as u32,
             id: words[ID],
             hash: words[HASH],

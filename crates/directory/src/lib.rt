@@ -2,7 +2,7 @@
 //!
 //! # The model
 //!
-//! Objects 0 and 1 are the shelves, of the archived users and of the active ones; objects 2 to 9 are users. Each says a [`Node`]: a
+//! Objects 0 and 1 are the shelves, of the archived users and of the active ones; objects 2 to 9 are users. Each says a [`DirectoryNode`]: a
 //! link, and beside it the details, as a user's id. The links form one ring: shelf 0, the users on it, shelf 1, the users on it, and
 //! back to shelf 0. So each shelf is a linked list that ends at a shelf.
 //!
@@ -21,7 +21,7 @@
 //!
 //! # How it is made
 //!
-//! 1. *Rules.* A [`Node`] is a `Record` of `mv_client` (`specs/Layout.antt`): code reads and writes it by the names of its fields.
+//! 1. *Rules.* A [`DirectoryNode`] is a `Record` of `mv_client` (`specs/Layout.antt`): code reads and writes it by the names of its fields.
 //!    `Directory` allows moves alone (`specs/Moves.antt`), which change links. They speak of the three objects that a move writes,
 //!    and so a move is fit: `fit_by_held` of `mv_client`.
 //! 2. *What the rules keep.* Each object has a place of its own in one ring, and leads to the next (`IsRing` of `mv_client`). A move
@@ -43,8 +43,8 @@ mod repeating;
 mod rules;
 mod searching;
 
-pub use layout::Node;
-pub use moving::{Found, move_user};
+pub use layout::DirectoryNode;
+pub use moving::{Whereabouts, move_user};
 pub use reading::{Seen, keeps_directory, look_up, shelf_of};
 pub use repeating::make_moves;
 pub use rules::{Directory, ENTRIES, OBJECTS, SHELVES, opening};

@@ -7,7 +7,7 @@ ghost use Rattle.section_work.specs.Attempts.{Attempted};
 ghost use Rattle.directory.specs.Layout.{words_of, with_link};
 ghost use Rattle.directory.specs.Moves.{move_meaning};
 
-use crate::layout::Node;
+use crate::layout::DirectoryNode;
 use crate::rules::Directory;
 use crate::searching::find_before;
 use mv_client::{Record, read_record};
@@ -16,7 +16,7 @@ use section_work::{Attempt, Decision, Work, attempt_work};
 
 /// What a move comes to in a state.
 #[derive(Clone, Copy, Debug, Drop, PartialEq, Eq)]
-pub enum Found {
+pub enum Whereabouts {
     /// The user is on the other shelf.
     Away,
     /// The user is on the shelf already.
@@ -33,10 +33,10 @@ pub(crate) struct Move {
 }
 
 // The words of this node, with this link.
-fn linked(node: Node, next: u32) -> Words
+fn linked(node: DirectoryNode, next: u32) -> Words
     ensures { result ≡ words_of (with_link node next) }
 {
-    Node { next, ..node }.to_words()
+    DirectoryNode { next, ..node }.to_words()
 }
 
 impl Work for Move {
@@ -46,7 +46,7 @@ impl Work for Move {
 
     type Rules = Directory;
 
-    type Reply = Found;
+    type Reply = Whereabouts;
 
     type Plan = [(u32, Words); 3];
 
@@ -69,20 +69,20 @@ impl Work for Move {
         _memo: &mut (),
         view: V,
         _time: u64,
-    ) -> (V, Decision<Found, [(u32, Words); 3]>) {
+    ) -> (V, Decision<Whereabouts, [(u32, Words); 3]>) {
         let mut view = view;
         let Some(before) = find_before(&mut view, 1 - self.shelf, self.user) else {
-            return (view, Decision::Settled(Found::There));
+            return (view, Decision::Settled(Whereabouts::There));
         };
-        let source: Node = read_record(&mut view, before);
-        let node: Node = read_record(&mut view, self.user);
-        let target: Node = read_record(&mut view, self.shelf);
+        let source: DirectoryNode = read_record(&mut view, before);
+        let node: DirectoryNode = read_record(&mut view, self.user);
+        let target: DirectoryNode = read_record(&mut view, self.shelf);
         let plan = [
             (before, linked(source, node.next)),
             (self.user, linked(node, target.next)),
             (self.shelf, linked(target, self.user)),
         ];
-        let reply = Found::Away;
+        let reply = Whereabouts::Away;
         (view, Decision::Change { plan, reply })
     }
 
@@ -95,8 +95,8 @@ impl Work for Move {
         [plan[0].0 as u64, self.user as u64, self.shelf as u64, 0]
     }
 
-    fn at_last(&self, _reply: Found) -> Found {
-        Found::Late
+    fn at_last(&self, _reply: Whereabouts) -> Whereabouts {
+        Whereabouts::Late
     }
 
     ghost knows_on = { λ memo s t on known. tt };
@@ -115,7 +115,7 @@ pub fn move_user<S: Store<Rules = Directory>>(
     store: S,
     user: u32,
     shelf: u32,
-) -> (S, Attempt<Found>)
+) -> (S, Attempt<Whereabouts>)
     requires user { shelves ≤ user }
     requires below { user < objects }
     requires shelf { shelf < shelves }

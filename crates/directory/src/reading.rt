@@ -8,7 +8,7 @@ ghost use Rattle.directory.specs.Layout.{details_of};
 ghost use Rattle.directory.specs.Ring.{IsDirectory, IsOn, IsPlaced};
 ghost use Rattle.directory.specs.Reads.{IsSeen};
 
-use crate::layout::Node;
+use crate::layout::DirectoryNode;
 use crate::rules::Directory;
 use crate::searching::find_before;
 use mv_client::{begin, read_record};
@@ -51,7 +51,7 @@ pub fn look_up<S: Store<Rules = Directory>>(store: S, user: u32) -> (S, Seen)
     let mut section = begin(store);
     let time = section.at();
     let shelf = shelf_of(&mut section, user);
-    let node: Node = read_record(&mut section, user);
+    let node: DirectoryNode = read_record(&mut section, user);
     let id = node.id;
     (section.leave(), Seen { time, shelf, id })
 }

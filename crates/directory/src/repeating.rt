@@ -3,7 +3,7 @@ ghost use Rattle.std.specs.Prelude.{◌≡◌, ◌<◌, ◌≤◌};
 ghost use Rattle.directory.specs.declared.rules.TheConstants.{OBJECTS as objects, SHELVES as shelves};
 ghost use Rattle.mv_client.specs.Updates.{Repeated};
 
-use crate::moving::{Found, move_user};
+use crate::moving::{Whereabouts, move_user};
 use crate::rules::Directory;
 use mv_history::Store;
 use section_work::{Attempt, Place};
@@ -42,9 +42,9 @@ pub fn make_moves<R: Wait, S: Store<Rules = Directory>>(
                     shelf = 1 - shelf;
                 }
                 Place::Read(_) => match reply {
-                    Found::Late => return (store, made),
+                    Whereabouts::Late => return (store, made),
                     // The user is there already.
-                    Found::There | Found::Away => shelf = 1 - shelf,
+                    Whereabouts::There | Whereabouts::Away => shelf = 1 - shelf,
                 },
             },
             Attempt::Again(_) => thread::yield_now(),

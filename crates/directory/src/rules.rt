@@ -3,7 +3,7 @@ ghost use Rattle.std.specs.Prelude.{◌≡◌};
 ghost use Rattle.directory.specs.Layout.{link_of};
 ghost use Rattle.directory.specs.Moves.{IsOpening};
 
-use crate::layout::Node;
+use crate::layout::DirectoryNode;
 use mv_client::Record;
 use mv_history::{Protocol, Words};
 
@@ -55,7 +55,7 @@ fn node_words(next: u32, id: u64, hash: u64) -> Words
     ensures { link_of result ≡ next }
 {
     let rest = [0; 3];
-    let node = Node {
+    let node = DirectoryNode {
         next,
         id,
         hash,

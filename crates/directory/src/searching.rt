@@ -3,7 +3,7 @@ ghost use Rattle.std.specs.Prelude.{◌≡◌, ◌≢◌, ℕ, ◌<◌, ◌≤�
 ghost use Rattle.directory.specs.declared.rules.TheConstants.{OBJECTS as objects, SHELVES as shelves};
 ghost use Rattle.directory.specs.Ring.{IsDirectory, IsOn, IsBefore, next_of};
 
-use crate::layout::Node;
+use crate::layout::DirectoryNode;
 use crate::rules::{OBJECTS, SHELVES};
 use mv_client::read_record;
 use mv_history::View;
@@ -19,7 +19,7 @@ pub fn find_before<V: View>(view: &mut V, shelf: u32, user: u32) -> Option<u32>
 {
     let mut at = shelf;
     for _nth in 0..OBJECTS {
-        let node: Node = read_record(view, at);
+        let node: DirectoryNode = read_record(view, at);
         let next = node.next;
         if next == user {
             return Some(at);

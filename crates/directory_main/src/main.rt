@@ -5,21 +5,21 @@
 #![tactic(auto)]
 
 use directory::shelf_of;
-use directory_run::{Asked, idle_clerk, run_in_domain};
+use directory_run::{ClerkOrder, idle_clerk, run_in_domain};
 use std::io;
 use std::process::ExitCode;
 
 fn main(rt: HostRuntime) -> io::Result<ExitCode> {
     let clerks = vec![in rt.alloc();
-        idle_clerk(Asked {
+        idle_clerk(ClerkOrder {
             user: 2,
             moves: 300
         }),
-        idle_clerk(Asked {
+        idle_clerk(ClerkOrder {
             user: 2,
             moves: 300
         }),
-        idle_clerk(Asked {
+        idle_clerk(ClerkOrder {
             user: 7,
             moves: 300
         }),

@@ -9,7 +9,7 @@ use std::sync::Wait;
 
 /// What one thread is to do over the directory: move this user to and fro so often, and then look it up.
 #[derive(Clone, Copy, Debug, PartialEq, Eq)]
-pub struct Asked {
+pub struct ClerkOrder {
     /// The user, 2 to 9.
     pub user: u32,
     pub moves: u32,
@@ -19,7 +19,7 @@ pub struct Asked {
 #[derive(Drop)]
 pub struct Clerk {
     /// What it is asked for.
-    pub asked: Asked,
+    pub asked: ClerkOrder,
     /// The moves that it made.
     pub moved: u32,
     /// Where it saw the user then.
@@ -27,7 +27,7 @@ pub struct Clerk {
 }
 
 /// A clerk that has done nothing.
-pub fn idle_clerk(asked: Asked) -> Clerk
+pub fn idle_clerk(asked: ClerkOrder) -> Clerk
     ensures { result.asked ≡ asked }
 {
     let seen = Seen {

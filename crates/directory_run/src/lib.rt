@@ -25,5 +25,5 @@
 mod clerk;
 mod running;
 
-pub use clerk::{Asked, Clerk, idle_clerk};
+pub use clerk::{Clerk, ClerkOrder, idle_clerk};
 pub use running::run_in_domain;

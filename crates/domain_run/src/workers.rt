@@ -12,7 +12,7 @@ use std::thread;
 use std::thread::Threads;
 
 // A task with its store.
-pub(crate) struct Worker<S, T> {
+pub(crate) struct StoreTask<S, T> {
     pub(crate) store: S,
     pub(crate) task: T,
 }
@@ -23,7 +23,12 @@ pub(crate) fn run_each<
     P: Protocol + Send + Sync,
     S: Store<Rules = P> + Send,
     T: Task<P> + Send,
->(rt: &R, mut stores: Vec<S>, mut tasks: Vec<T>, mut workers: Vec<Worker<S, T>>) -> (Vec<S>, Vec<T>)
+>(
+    rt: &R,
+    mut stores: Vec<S>,
+    mut tasks: Vec<T>,
+    mut workers: Vec<StoreTask<S, T>>,
+) -> (Vec<S>, Vec<T>)
 where
     S::Open: Send,
     requires empty { workers.items ≡ [] }
@@ -39,7 +44,7 @@ where
 }
 
 // Each task with the store of its place. There is room for the workers.
-fn pair_up<S, T>(stores: &mut Vec<S>, tasks: &mut Vec<T>, workers: &mut Vec<Worker<S, T>>)
+fn pair_up<S, T>(stores: &mut Vec<S>, tasks: &mut Vec<T>, workers: &mut Vec<StoreTask<S, T>>)
     requires as_many { length tasks.old.items ≡ length stores.old.items }
     requires empty { workers.old.items ≡ [] }
     requires room { length stores.old.items ≤ vec_capacity workers.old }
@@ -49,7 +54,7 @@ fn pair_up<S, T>(stores: &mut Vec<S>, tasks: &mut Vec<T>, workers: &mut Vec<Work
     ensures capacities { (vec_capacity stores.new ≡ vec_capacity stores.old) × (vec_capacity tasks.new ≡ vec_capacity tasks.old) }
 {
     while !stores.is_empty() {
-        workers.push_reserved(Worker {
+        workers.push_reserved(StoreTask {
             store: stores.remove(0),
             task: tasks.remove(0),
         });
@@ -57,7 +62,7 @@ fn pair_up<S, T>(stores: &mut Vec<S>, tasks: &mut Vec<T>, workers: &mut Vec<Work
 }
 
 // The stores and the tasks of the workers, in order. There is room for them.
-fn part<S, T>(mut workers: Vec<Worker<S, T>>, stores: &mut Vec<S>, tasks: &mut Vec<T>)
+fn part<S, T>(mut workers: Vec<StoreTask<S, T>>, stores: &mut Vec<S>, tasks: &mut Vec<T>)
     requires empty { (stores.old.items ≡ []) × (tasks.old.items ≡ []) }
     requires stores { length workers.items ≤ vec_capacity stores.old }
     requires tasks { length workers.items ≤ vec_capacity tasks.old }
@@ -65,7 +70,7 @@ fn part<S, T>(mut workers: Vec<Worker<S, T>>, stores: &mut Vec<S>, tasks: &mut V
     ensures tasks { tasks.new.items ≡ map (λ w. w.task) workers.items }
 {
     while !workers.is_empty() {
-        let Worker { store, task } = workers.remove(0);
+        let StoreTask { store, task } = workers.remove(0);
         stores.push_reserved(store);
         tasks.push_reserved(task);
     }
@@ -78,7 +83,7 @@ fn run_all<
     P: Protocol + Send + Sync,
     S: Store<Rules = P> + Send,
     T: Task<P> + Send,
->(rt: &R, workers: &mut [Worker<S, T>])
+>(rt: &R, workers: &mut [StoreTask<S, T>])
 where
     S::Open: Send,
     requires { All (λ w. T.ready (S.seat_of w.store) w.task) workers.old }
@@ -89,7 +94,7 @@ where
         rt,
         workers,
         threads,
-        &|_, worker: &mut Worker<S, T>|
+        &|_, worker: &mut StoreTask<S, T>|
             requires { T.ready (S.seat_of worker.old.store) worker.old.task }
             ensures { HasRun (T.did S.took) (S.seat_of worker.old.store) (S.seat_of worker.new.store) worker.old.task worker.new.task }
         { run_in_place(rt, worker) },
@@ -99,7 +104,7 @@ where
 // A store can't be copied or left out, so the worker is taken out of its place and put back.
 fn run_in_place<R: Wait, P: Protocol, S: Store<Rules = P>, T: Task<P>>(
     rt: &R,
-    worker: &mut Worker<S, T>,
+    worker: &mut StoreTask<S, T>,
 )
     requires { T.ready (S.seat_of worker.old.store) worker.old.task }
     ensures { HasRun (T.did S.took) (S.seat_of worker.old.store) (S.seat_of worker.new.store) worker.old.task worker.new.task }
@@ -117,12 +122,12 @@ fn run_in_place<R: Wait, P: Protocol, S: Store<Rules = P>, T: Task<P>>(
 // Runs the task with its store.
 fn ran<R: Wait, P: Protocol, S: Store<Rules = P>, T: Task<P>>(
     rt: &R,
-    worker: Worker<S, T>,
-) -> Worker<S, T>
+    worker: StoreTask<S, T>,
+) -> StoreTask<S, T>
     requires { T.ready (S.seat_of worker.store) worker.task }
     ensures { HasRun (T.did S.took) (S.seat_of worker.store) (S.seat_of result.store) worker.task result.task }
 {
-    let Worker { store, task } = worker;
+    let StoreTask { store, task } = worker;
     let (task, store) = task.run(rt, store);
-    Worker { store, task }
+    StoreTask { store, task }
 }

@@ -4,7 +4,7 @@ ghost use Rattle.plain_store.specs.Meaning.{seat_of};
 
 use crate::comparing::assert_same;
 use accounts::{
-    Accounts, Attempt, Moved, SumAt, make_transfers, opening, read_sums, sum, transfer,
+    Accounts, Moved, SumAt, TransferAttempt, make_transfers, opening, read_sums, sum, transfer,
 };
 use mv_history::Words;
 use plain_store::PlainStore;
@@ -27,7 +27,7 @@ fn attempt(
     from: u32,
     to: u32,
     amount: u64,
-) -> (PlainStore<Accounts>, Attempt)
+) -> (PlainStore<Accounts>, TransferAttempt)
     requires from { from < 8 }
     requires to { to < 8 }
     requires other { from ≢ to }
@@ -42,7 +42,7 @@ fn attempt(
 
 // The answers of four transfers: one is done, one is short, one takes all that an account has, and one
 // comes after the last time.
-fn four_attempts(store: PlainStore<Accounts>) -> (PlainStore<Accounts>, [Attempt; 4])
+fn four_attempts(store: PlainStore<Accounts>) -> (PlainStore<Accounts>, [TransferAttempt; 4])
     requires objects { length (seat_of store).start ≡ 8 }
     requires write_max { (seat_of store).write_max ≡ 16 }
     ensures objects { length (seat_of result.0).start ≡ 8 }
@@ -72,7 +72,7 @@ fn of_all(time: u64) -> SumAt {
 }
 
 // What four transfers are answered, some of the accounts after them, and the sum of all.
-fn attempts_alone(alloc: Global) -> Result<([Attempt; 4], [Words; 4], SumAt), AllocError> {
+fn attempts_alone(alloc: Global) -> Result<([TransferAttempt; 4], [Words; 4], SumAt), AllocError> {
     let (store, attempts) = four_attempts(open(alloc, 2)?);
     let accounts = some_accounts(&store);
     let (_store, sum) = sum(store);
@@ -84,10 +84,10 @@ fn each_answer_of_an_attempt(rt: HostRuntime) -> Result<(), Fail> {
     let (attempts, accounts, sum) = attempts_alone(rt.alloc())?;
     let (time, balance) = (41, 70);
     let wanted = [
-        Attempt::Done { time },
-        Attempt::Short { time, balance },
-        Attempt::Done { time: 42 },
-        Attempt::End,
+        TransferAttempt::Done { time },
+        TransferAttempt::Short { time, balance },
+        TransferAttempt::Done { time: 42 },
+        TransferAttempt::End,
     ];
     assert_same(&rt, &attempts, &wanted, "attempts");
     let balances = [

@@ -4,9 +4,9 @@ use mv_layout::ConfigFault;
 use section_work::Place;
 use section_work::Place::{Commit, Read};
 use set_blocks::{Block, BlockAttempt};
-use set_catalog::Attempt;
+use set_catalog::CommandAttempt;
 use set_script::{Command, Name, Reply};
-use set_seats::{Entry, OpenSets, SetSeat, SetsFault, Walked, open_set_seats};
+use set_seats::{KeyValue, OpenSets, SetSeat, SetsFault, Walked, open_set_seats};
 use std::alloc::{AllocError, Global};
 use std::process::Abort;
 use std::test::Fail;
@@ -43,7 +43,7 @@ fn expect(
     place: Place,
 ) -> SetSeat {
     let (seat, answer) = seat.attempt(command);
-    let Attempt::Done {
+    let CommandAttempt::Done {
         reply: said,
         place: at,
     } = answer
@@ -182,8 +182,8 @@ fn a_block_is_one_entry_or_one_read(rt: HostRuntime) -> Result<(), Fail> {
     Ok(())
 }
 
-const fn entry(key: u32, value: u64) -> Entry {
-    Entry { key, value }
+const fn entry(key: u32, value: u64) -> KeyValue {
+    KeyValue { key, value }
 }
 
 // Looks that a walk with this room finds this, and leaves the room so.
@@ -192,8 +192,8 @@ fn expect_walk(
     seat: SetSeat,
     name: Name,
     from: u32,
-    room: &mut [Entry],
-    wanted: (Walked, &[Entry]),
+    room: &mut [KeyValue],
+    wanted: (Walked, &[KeyValue]),
 ) -> SetSeat {
     let (seat, walked) = seat.walk(name, from, room);
     assert_same(rt, &walked, &wanted.0, "a walk");

@@ -45,7 +45,7 @@ pub use Rattle.grow_hash.specs.GrowRules.{makes, growing_of, KeepsGrown, Grows, 
 pub use Rattle.grow_hash.specs.GrowPlans.{head_of, GrowPlan, IsGrowing, IsFree, IsOfGrown}
 pub use Rattle.grow_hash.specs.Splits.{is_splitting, count_splits}
 pub use Rattle.grow_hash.specs.GrowFindings.{IsGrowFound, reply_at_last, IsGrowPlanned}
-pub use Rattle.grow_hash.specs.declared.deciding.Finding.TheVariants.{Settled, Open}
+pub use Rattle.grow_hash.specs.declared.deciding.GrowFinding.TheVariants.{Settled, Open}
 pub use Rattle.grow_hash.specs.BucketReads.{IsRead, IsMoved, ArePartedWrites}
 pub use Rattle.grow_hash.specs.SplitPlans.{SplitPlan, IsPath, new_bucket, split_bucket, first_to, parted_nodes, split_writes}
 pub use Rattle.grow_hash.specs.SplitSteps.{IsPlannedSplit, IsClosed}

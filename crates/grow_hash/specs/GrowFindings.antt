@@ -7,8 +7,8 @@ use Rattle.grow_hash.specs.Terms.{Bool, true, false, length, State, Writes, tag_
 use Rattle.grow_hash.specs.GrowRules.{IsGrowCommit}
 use Rattle.grow_hash.specs.GrowPlans.{GrowPlan, grow_locks}
 use Rattle.grow_hash.specs.GrowReplies.{reply_grown, changes_grown}
-use Rattle.grow_hash.specs.declared.deciding.Finding.{Finding}
-use Rattle.grow_hash.specs.declared.deciding.Finding.TheVariants.{Settled, Open}
+use Rattle.grow_hash.specs.declared.deciding.GrowFinding.{GrowFinding}
+use Rattle.grow_hash.specs.declared.deciding.GrowFinding.TheVariants.{Settled, Open}
 
 -- These are exactly the objects that the command locks in this state, with what it writes: different ones, fit to be committed.
 pub record IsGrowPlanned (levels : ℕ) (command : Command) (s : State) (ws : Writes) : Type 0 where
@@ -19,11 +19,11 @@ pub record IsGrowPlanned (levels : ℕ) (command : Command) (s : State) (ws : Wr
   pub fit : IsFit (IsGrowCommit levels) s (tag_of command) ws
 
 -- It changes nothing and this is its reply, at the last time too; or, where a time is left, it changes something and this is planned.
-abbrev pub IsGrowFound : ℕ → Command → State → Finding → Type 0
+abbrev pub IsGrowFound : ℕ → Command → State → GrowFinding → Type 0
 IsGrowFound levels command s (Settled answer) = ((last : Bool) → answer ≡ reply_grown levels command s last) × (changes_grown levels command s false ≡ false)
 IsGrowFound levels command s (Open writes) = (changes_grown levels command s false ≡ true) × IsGrowPlanned levels command s writes
 
 -- the reply at the last time of what was found: a change comes too late
-abbrev pub reply_at_last : Finding → Reply
+abbrev pub reply_at_last : GrowFinding → Reply
 reply_at_last (Settled answer) = answer
 reply_at_last (Open writes) = Worn

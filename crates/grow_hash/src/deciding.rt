@@ -12,28 +12,28 @@ use set_script::{Command, Reply};
 
 /// What a command comes to.
 #[derive(Drop)]
-pub enum Finding {
+pub enum GrowFinding {
     /// It changes nothing, and this is its reply.
     Settled(Reply),
     /// It changes something by these writes.
     Open([(u32, Words); 2]),
 }
 
-impl Finding {
+impl GrowFinding {
     /// The reply at the last time, where a change comes too late.
     pub fn at_last(self) -> Reply
         ensures { result ≡ reply_at_last self }
     {
         match self {
-            Finding::Settled(reply) => reply,
-            Finding::Open(_) => Reply::Worn,
+            GrowFinding::Settled(reply) => reply,
+            GrowFinding::Open(_) => Reply::Worn,
         }
     }
 }
 
 /// Finds what the command comes to in the view's state, where a time is left. It walks along the bucket of
 /// its key once; a `size` reads each object of each bucket once.
-pub fn find_change<const LEVELS: u32, V: View>(view: &mut V, command: &Command) -> Finding
+pub fn find_change<const LEVELS: u32, V: View>(view: &mut V, command: &Command) -> GrowFinding
     requires lawful { IsGrown LEVELS (V.state view.old) }
     requires command { IsOfGrown command.now }
     ensures found { IsGrowFound LEVELS command.now (V.state view.old) result }
@@ -42,13 +42,13 @@ pub fn find_change<const LEVELS: u32, V: View>(view: &mut V, command: &Command) 
     match *command {
         Command::Add { key, .. } => find_add::<LEVELS, V>(view, key),
         Command::Del { key, .. } => find_del::<LEVELS, V>(view, key),
-        Command::Has { key, .. } => Finding::Settled(yes_or_no(
+        Command::Has { key, .. } => GrowFinding::Settled(yes_or_no(
             find::<LEVELS, V>(view, key).spot.has(key),
         )),
-        Command::Size { .. } => Finding::Settled(Reply::Count {
+        Command::Size { .. } => GrowFinding::Settled(Reply::Count {
             count: size::<LEVELS, V>(view),
         }),
-        Command::Next { key, .. } => Finding::Settled(match next::<LEVELS, V>(view, key) {
+        Command::Next { key, .. } => GrowFinding::Settled(match next::<LEVELS, V>(view, key) {
             Some(key) => Reply::Key { key },
             None => Reply::NoKey,
         }),
@@ -62,30 +62,30 @@ fn yes_or_no(holds: bool) -> Reply
     if holds { Reply::Yes } else { Reply::No }
 }
 
-fn find_add<const LEVELS: u32, V: View>(view: &mut V, key: u32) -> Finding
+fn find_add<const LEVELS: u32, V: View>(view: &mut V, key: u32) -> GrowFinding
     requires lawful { IsGrown LEVELS (V.state view.old) }
     ensures found { IsGrowFound LEVELS (Add grown_name key) (V.state view.old) result }
     ensures as_before { V.as_before view.old view.new }
 {
     let search = find::<LEVELS, V>(view, key);
     if search.spot.has(key) {
-        return Finding::Settled(Reply::No);
+        return GrowFinding::Settled(Reply::No);
     }
     match vacant::<LEVELS, V>(view, key) {
-        None => Finding::Settled(Reply::Full),
-        Some(node) => Finding::Open(search.spot.add_writes(search.head, key, 0, node)),
+        None => GrowFinding::Settled(Reply::Full),
+        Some(node) => GrowFinding::Open(search.spot.add_writes(search.head, key, 0, node)),
     }
 }
 
-fn find_del<const LEVELS: u32, V: View>(view: &mut V, key: u32) -> Finding
+fn find_del<const LEVELS: u32, V: View>(view: &mut V, key: u32) -> GrowFinding
     requires lawful { IsGrown LEVELS (V.state view.old) }
     ensures found { IsGrowFound LEVELS (Del grown_name key) (V.state view.old) result }
     ensures as_before { V.as_before view.old view.new }
 {
     let search = find::<LEVELS, V>(view, key);
     if search.spot.has(key) {
-        Finding::Open(search.spot.del_writes())
+        GrowFinding::Open(search.spot.del_writes())
     } else {
-        Finding::Settled(Reply::No)
+        GrowFinding::Settled(Reply::No)
     }
 }

@@ -3,7 +3,7 @@ ghost use Rattle.std.specs.Prelude.{◌≡◌};
 ghost use Rattle.set_script.specs.Tags.{tag_of as command_tag};
 ghost use Rattle.grow_hash.specs.GrowPlans.{IsOfGrown};
 
-use crate::deciding::{Finding, find_change};
+use crate::deciding::{GrowFinding, find_change};
 use crate::rules::GrowingRules;
 use crate::search::NAME;
 use mv_history::{Tag, View, Words};
@@ -55,8 +55,8 @@ impl<const LEVELS: u32, R: GrowingRules<LEVELS>> Work for GrowWork<LEVELS, R> {
     ) -> (V, Decision<Reply, [(u32, Words); 2]>) {
         let mut view = view;
         match find_change::<LEVELS, V>(&mut view, &self.command) {
-            Finding::Settled(reply) => (view, Decision::Settled(reply)),
-            Finding::Open(plan) => {
+            GrowFinding::Settled(reply) => (view, Decision::Settled(reply)),
+            GrowFinding::Open(plan) => {
                 let reply = Reply::Yes;
                 (view, Decision::Change { plan, reply })
             }

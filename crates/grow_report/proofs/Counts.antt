@@ -26,17 +26,17 @@ use Rattle.run_report.proofs.history.Counts.{one_if, lines_cons, lines_append, c
 use Rattle.grow_hash.specs.Tables.{split_place}
 use Rattle.grow_hash.specs.GrowRules.{growing_of}
 use Rattle.grow_hash.specs.Splits.{is_splitting, count_splits}
-use Rattle.grow_report.specs.Turns.{GrowPlaceOf, SplitIf, Turn, TurnsOf, first_place, line_of, is_added, odd_with}
+use Rattle.grow_report.specs.Turns.{GrowPlaceOf, SplitIf, LineAndSplit, TurnsOf, first_place, line_of, is_added, odd_with}
 use Rattle.grow_report.specs.Whole.{AllTurns, flat_turns, has_split, turn_splits}
 use Rattle.grow_report.proofs.Steps.{line_step, split_steps, turn_steps}
 use Rattle.grow_report.proofs.Tags.{command_no_split, split_is_one}
 
 -- the splits of a turn as steps
-abbrev pub splits_of : Turn → List Line
+abbrev pub splits_of : LineAndSplit → List Line
 splits_of turn = split_steps turn.line turn.split
 
 -- the steps of turns are their lines and their splits
-pub steps_count : (time : ℕ) (turns : List Turn)
+pub steps_count : (time : ℕ) (turns : List LineAndSplit)
     → commit_lines time (flat_map turn_steps turns) ≡ commit_lines time (map line_of turns) + commit_lines time (flat_map splits_of turns)
 steps_count time [] = refl
 steps_count time (turn ∷ turns) =
@@ -74,7 +74,7 @@ module _ (p : Past) (i : ℕ) (c : Commit) (there : slice_get p.entries i ≡ So
         absurd (cc)
   ]
 
-  lines_none : is_splitting (growing_of c.tag) ≡ true → (seat number before : ℕ) (odd : Bool) (script : List Command) (turns : List Turn)
+  lines_none : is_splitting (growing_of c.tag) ≡ true → (seat number before : ℕ) (odd : Bool) (script : List Command) (turns : List LineAndSplit)
       (commits : List Commit) → TurnsOf p seat number before odd script turns commits → commit_lines (p.base + suc i) (map line_of turns) ≡ 0
   lines_none split seat number before odd [] [] commits h = refl
   lines_none split seat number before odd [] (turn ∷ turns) commits h = absurd h
@@ -88,7 +88,7 @@ module _ (p : Past) (i : ℕ) (c : Commit) (there : slice_get p.entries i ≡ So
       )
 
   -- a split is none of a command
-  split_none : is_splitting (growing_of c.tag) ≡ false → (seat : ℕ) (due : Bool) (line : Line) (split : Option ℕ) (turns : List Turn)
+  split_none : is_splitting (growing_of c.tag) ≡ false → (seat : ℕ) (due : Bool) (line : Line) (split : Option ℕ) (turns : List LineAndSplit)
       (made : List Commit) → SplitIf due p seat (time_of line.place) (first_place turns) split made
       → commit_lines (p.base + suc i) (split_steps line split) ≡ 0
   split_none other seat true line None turns made h = refl
@@ -108,7 +108,7 @@ module _ (p : Past) (i : ℕ) (c : Commit) (there : slice_get p.entries i ≡ So
             absurd (cc)
       ]
 
-  splits_none : is_splitting (growing_of c.tag) ≡ false → (seat number before : ℕ) (odd : Bool) (script : List Command) (turns : List Turn)
+  splits_none : is_splitting (growing_of c.tag) ≡ false → (seat number before : ℕ) (odd : Bool) (script : List Command) (turns : List LineAndSplit)
       (commits : List Commit) → TurnsOf p seat number before odd script turns commits → commit_lines (p.base + suc i) (flat_map splits_of turns) ≡ 0
   splits_none other seat number before odd [] [] commits h = refl
   splits_none other seat number before odd [] (turn ∷ turns) commits h = absurd h
@@ -122,7 +122,7 @@ module _ (p : Past) (i : ℕ) (c : Commit) (there : slice_get p.entries i ≡ So
       )
 
   -- so for the turns of all seats
-  all_lines_none : is_splitting (growing_of c.tag) ≡ true → (seat : ℕ) (scripts : List (List Command)) (groups : List (List Turn))
+  all_lines_none : is_splitting (growing_of c.tag) ≡ true → (seat : ℕ) (scripts : List (List Command)) (groups : List (List LineAndSplit))
       → AllTurns p seat scripts groups → commit_lines (p.base + suc i) (map line_of (flat_turns groups)) ≡ 0
   all_lines_none split seat [] [] h = refl
   all_lines_none split seat [] (turns ∷ groups) h = absurd h
@@ -136,7 +136,7 @@ module _ (p : Past) (i : ℕ) (c : Commit) (there : slice_get p.entries i ≡ So
         all_lines_none split (suc seat) scripts groups h.1,
       )
 
-  all_splits_none : is_splitting (growing_of c.tag) ≡ false → (seat : ℕ) (scripts : List (List Command)) (groups : List (List Turn))
+  all_splits_none : is_splitting (growing_of c.tag) ≡ false → (seat : ℕ) (scripts : List (List Command)) (groups : List (List LineAndSplit))
       → AllTurns p seat scripts groups → commit_lines (p.base + suc i) (flat_map splits_of (flat_turns groups)) ≡ 0
   all_splits_none other seat [] [] h = refl
   all_splits_none other seat [] (turns ∷ groups) h = absurd h
@@ -151,7 +151,7 @@ module _ (p : Past) (i : ℕ) (c : Commit) (there : slice_get p.entries i ≡ So
       )
 
   -- a commit with one step has one line, or none where it is a split
-  pub one_or_split : (scripts : List (List Command)) (groups : List (List Turn)) → AllTurns p 0 scripts groups
+  pub one_or_split : (scripts : List (List Command)) (groups : List (List LineAndSplit)) → AllTurns p 0 scripts groups
       → commit_lines (p.base + suc i) (flat_map turn_steps (flat_turns groups)) ≡ 1
       → commit_lines (p.base + suc i) (map line_of (flat_turns groups)) ≡ cond (is_splitting (growing_of c.tag)) 0 1
   one_or_split scripts groups h one = by (is_splitting (growing_of c.tag)) refl
@@ -197,7 +197,7 @@ unfolding count_in
 none_in = refl
 
 -- as many commits of turns are splits as the turns have
-turns_count : (p : Past) (seat number before : ℕ) (odd : Bool) (script : List Command) (turns : List Turn) (commits : List Commit)
+turns_count : (p : Past) (seat number before : ℕ) (odd : Bool) (script : List Command) (turns : List LineAndSplit) (commits : List Commit)
     → TurnsOf p seat number before odd script turns commits → count_in commits ≡ turn_splits turns
 turns_count p seat number before odd [] [] commits h = ap count_in h ∙ none_in
 turns_count p seat number before odd [] (turn ∷ turns) commits h = absurd h
@@ -211,7 +211,7 @@ turns_count p seat number before odd (command ∷ script) (turn ∷ turns) commi
       own_none p seat command turn.line.place turn.line.reply h.0 h.4.place,
       split_one p seat (time_of turn.line.place) _ (first_place turns) turn.split h.1 h.5,
       turns_count p seat (suc number) (time_of turn.line.place) (odd_with odd (is_added command turn.line.reply)) script turns h.2 h.6,
-      sum_by-cons (λ (t : Turn). cond (has_split t.split) 1 0) turn turns,
+      sum_by-cons (λ (t : LineAndSplit). cond (has_split t.split) 1 0) turn turns,
     )
 
 -- how many splits so many seats from this one on made
@@ -266,7 +266,7 @@ sum_all n (Change c ∷ es) all =
     let rest = sum_all n es (All-tail (λ e. maker_of e < n) (Change c) es all) in
     omega (arith, sum_change n 0 c es (omega arith) (omega (arith, few)), rest)
 
-turns_sum : (p : Past) (seat : ℕ) (scripts : List (List Command)) (groups : List (List Turn)) → AllTurns p seat scripts groups
+turns_sum : (p : Past) (seat : ℕ) (scripts : List (List Command)) (groups : List (List LineAndSplit)) → AllTurns p seat scripts groups
     → turn_splits (flat_turns groups) ≡ sum_seats (length scripts) seat p.entries
 unfolding sum_seats
 turns_sum p seat [] [] h = refl
@@ -275,12 +275,12 @@ turns_sum p seat (script ∷ scripts) [] h = absurd h
 turns_sum p seat (script ∷ scripts) (turns ∷ groups) h =
     omega (
       arith,
-      sum_by-append (λ (t : Turn). cond (has_split t.split) 1 0) turns (flat_turns groups),
+      sum_by-append (λ (t : LineAndSplit). cond (has_split t.split) 1 0) turns (flat_turns groups),
       turns_count p seat 1 p.base false script turns (commits_of seat p.entries) h.0,
       turns_sum p (suc seat) scripts groups h.1,
     )
 
 -- Turns have as many splits as the history.
-pub splits_all : (p : Past) (scripts : List (List Command)) (groups : List (List Turn)) → AllTurns p 0 scripts groups
+pub splits_all : (p : Past) (scripts : List (List Command)) (groups : List (List LineAndSplit)) → AllTurns p 0 scripts groups
     → All (λ e. maker_of e < length scripts) p.entries → turn_splits (flat_turns groups) ≡ count_splits p.entries
 splits_all p scripts groups h makers = turns_sum p 0 scripts groups h ∙ sum_all (length scripts) p.entries makers

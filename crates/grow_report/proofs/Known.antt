@@ -22,7 +22,7 @@ use Rattle.grow_hash.specs.Tables.{grow_levels, level, split_place}
 use Rattle.grow_hash.specs.Grown.{grown_catalogue, grown_capacity}
 use Rattle.grow_hash.specs.GrowRules.{split_tag}
 use Rattle.grow_hash.specs.SplitCalls.{keys_at_place, most_split}
-use Rattle.grow_report.specs.Turns.{GrowPlaceOf, IsSplitOf, CannotSplit, SplitIf, Turn, TurnsOf, RanGrow, AllRanGrow, line_of, first_place, is_added}
+use Rattle.grow_report.specs.Turns.{GrowPlaceOf, IsSplitOf, CannotSplit, SplitIf, LineAndSplit, TurnsOf, RanGrow, AllRanGrow, line_of, first_place, is_added}
 use Rattle.grow_report.specs.Turns.{odd_with}
 use Rattle.grow_report.specs.Whole.{AllTurns, flat_turns}
 
@@ -87,7 +87,7 @@ module _ (p : Past) (more : List Entry) where
   due_longer true seat from next None commits h =
       (h.0, h.1, h.2, omega (arith, h.3, length-append p.entries more), h.4, cannot_longer h.1 h.3 h.5)
 
-  turns_longer : (seat number before : ℕ) (odd : Bool) (script : List Command) (turns : List Turn) (commits : List Commit)
+  turns_longer : (seat number before : ℕ) (odd : Bool) (script : List Command) (turns : List LineAndSplit) (commits : List Commit)
       → TurnsOf p seat number before odd script turns commits → TurnsOf (longer p more) seat number before odd script turns commits
   turns_longer seat number before odd [] [] commits h = h
   turns_longer seat number before odd [] (turn ∷ turns) commits h = absurd h
@@ -119,7 +119,7 @@ seat_turns p number o n script lines opening known ran =
 -- each seat's turns are of its script, and the lines are theirs
 pub all_turns : (p : Past) (number : ℕ) (olds news : List Seat) (scripts : List (List Command)) (lines : List Line) → AreKnown p number olds news
     → AllRanGrow olds news scripts lines
-    → (groups : List (List Turn)) × (lines ≡ map line_of (flat_turns groups)) × AllTurns p number scripts groups
+    → (groups : List (List LineAndSplit)) × (lines ≡ map line_of (flat_turns groups)) × AllTurns p number scripts groups
 all_turns p number [] [] [] lines known ran = ([], ran, tt)
 all_turns p number [] [] (script ∷ scripts) lines known ran = absurd ran
 all_turns p number [] (n ∷ news) [] lines known ran = absurd ran

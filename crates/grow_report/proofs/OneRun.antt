@@ -24,7 +24,7 @@ use Rattle.grow_hash.specs.Grown.{IsGrownOpening, grown_catalogue, grown_capacit
 use Rattle.grow_hash.specs.GrowRules.{IsGrowCommit}
 use Rattle.grow_hash.specs.Splits.{count_splits}
 use Rattle.grow_hash.proofs.Splitting.{grown_after, buckets_after}
-use Rattle.grow_report.specs.Turns.{Turn, line_of}
+use Rattle.grow_report.specs.Turns.{LineAndSplit, line_of}
 use Rattle.grow_report.specs.Whole.{AllTurns, EachHasOneLineOrSplits, GrowRunOf, GrowStandsIn, flat_turns}
 use Rattle.grow_report.proofs.Counts.{one_or_split, splits_all}
 use Rattle.grow_report.proofs.Found.{lines_alone, lines_follow, lines_in_time}
@@ -60,7 +60,7 @@ run_permuted p scripts lines others end splits tables same run =
     }
 
 -- What holds of a history that the seats of the scripts made from an opening state on, and of the turns of all of them.
-pub record IsGrowWorked (p : Past) (scripts : List (List Command)) (groups : List (List Turn)) : Type 0 where
+pub record IsGrowWorked (p : Past) (scripts : List (List Command)) (groups : List (List LineAndSplit)) : Type 0 where
   pub opening : IsGrownOpening grow_levels p.start
   pub legal : IsLegal (length p.start) p.entries
   pub allowed : IsAllowed (IsGrowCommit grow_levels) p.start p.entries
@@ -68,9 +68,9 @@ pub record IsGrowWorked (p : Past) (scripts : List (List Command)) (groups : Lis
   pub makers : All (λ e. maker_of e < length scripts) p.entries
   pub each : AllTurns p 0 scripts groups
 
-module _ (p : Past) (scripts : List (List Command)) (groups : List (List Turn)) (h : IsGrowWorked p scripts groups) where
+module _ (p : Past) (scripts : List (List Command)) (groups : List (List LineAndSplit)) (h : IsGrowWorked p scripts groups) where
   -- all turns, their steps and their lines
-  abbrev turns : List Turn
+  abbrev turns : List LineAndSplit
   turns = flat_turns groups
 
   abbrev steps : List Line

@@ -14,13 +14,13 @@ use Rattle.run_report.specs.Order.{time_of}
 use Rattle.run_report.specs.Legal.{id_of, ids_from, ids_of, command_of}
 use Rattle.run_report.specs.Worked.{Past}
 use Rattle.run_report.proofs.history.Groups.{AllSteps, flat}
-use Rattle.grow_report.specs.Turns.{Turn, TurnsOf, line_of, is_added, odd_with}
+use Rattle.grow_report.specs.Turns.{LineAndSplit, TurnsOf, line_of, is_added, odd_with}
 use Rattle.grow_report.specs.Whole.{GrowStandsIn, AllTurns, flat_turns}
 use Rattle.grow_report.proofs.Steps.{turn_steps, seat_steps}
 
 module _ (p : Past) where
   -- the lines are numbered as the commands are
-  seat_ids : (seat number before : ℕ) (odd : _) (script : List Command) (turns : List Turn) (commits : List Commit)
+  seat_ids : (seat number before : ℕ) (odd : _) (script : List Command) (turns : List LineAndSplit) (commits : List Commit)
       → TurnsOf p seat number before odd script turns commits → map id_of (map line_of turns) ≡ ids_from seat number script
   seat_ids seat number before odd [] [] commits h = refl
   seat_ids seat number before odd [] (turn ∷ turns) commits h = absurd h
@@ -34,7 +34,7 @@ module _ (p : Past) where
   command_there (first ∷ done) script command = command_there done script command
 
   -- each line stands in the history, where the commands left are those of the seat's script after these
-  seat_stands : (scripts : List (List Command)) (seat before : ℕ) (odd : _) (done script : List Command) (turns : List Turn) (commits : List Commit)
+  seat_stands : (scripts : List (List Command)) (seat before : ℕ) (odd : _) (done script : List Command) (turns : List LineAndSplit) (commits : List Commit)
       → slice_index_or scripts seat [] ≡ done ++ script → TurnsOf p seat (suc (length done)) before odd script turns commits
       → All (GrowStandsIn p scripts) (map line_of turns)
   seat_stands scripts seat before odd done [] [] commits full h = All-nil _
@@ -51,7 +51,7 @@ module _ (p : Past) where
       (full ∙ sym (append_assoc done (command ∷ []) script)) (rw long at h.6))
 
   -- the lines of all are numbered as all commands are
-  pub all_ids : (seat : ℕ) (scripts : List (List Command)) (groups : List (List Turn)) → AllTurns p seat scripts groups
+  pub all_ids : (seat : ℕ) (scripts : List (List Command)) (groups : List (List LineAndSplit)) → AllTurns p seat scripts groups
       → map id_of (map line_of (flat_turns groups)) ≡ ids_of seat scripts
   all_ids seat [] [] h = refl
   all_ids seat [] (turns ∷ groups) h = absurd h
@@ -64,7 +64,7 @@ module _ (p : Past) where
       ∙ (λ i. own i ++ rest i)
 
   -- each line of all stands in the history, where these scripts are the last of all
-  stand_from : (scripts front back : List (List Command)) (groups : List (List Turn)) → scripts ≡ front ++ back → AllTurns p (length front) back groups
+  stand_from : (scripts front back : List (List Command)) (groups : List (List LineAndSplit)) → scripts ≡ front ++ back → AllTurns p (length front) back groups
       → All (GrowStandsIn p scripts) (map line_of (flat_turns groups))
   stand_from scripts front [] [] full h = All-nil _
   stand_from scripts front [] (turns ∷ groups) full h = absurd h
@@ -78,12 +78,12 @@ module _ (p : Past) where
       (seat_stands scripts (length front) p.base _ [] script turns (commits_of (length front) p.entries) is h.0)
       (stand_from scripts (front ++ script ∷ []) back groups (full ∙ sym (append_assoc front (script ∷ []) back)) (rw long at h.1)))
 
-  pub all_stand : (scripts : List (List Command)) (groups : List (List Turn)) → AllTurns p 0 scripts groups
+  pub all_stand : (scripts : List (List Command)) (groups : List (List LineAndSplit)) → AllTurns p 0 scripts groups
       → All (GrowStandsIn p scripts) (map line_of (flat_turns groups))
   all_stand scripts groups h = stand_from scripts [] scripts groups refl h
 
   -- the turns of all are steps
-  pub all_steps : (seat : ℕ) (scripts : List (List Command)) (groups : List (List Turn)) → AllTurns p seat scripts groups
+  pub all_steps : (seat : ℕ) (scripts : List (List Command)) (groups : List (List LineAndSplit)) → AllTurns p seat scripts groups
       → AllSteps p seat (map (λ turns. flat_map turn_steps turns) groups)
   all_steps seat [] [] h = tt
   all_steps seat [] (turns ∷ groups) h = absurd h
@@ -91,7 +91,7 @@ module _ (p : Past) where
   all_steps seat (script ∷ scripts) (turns ∷ groups) h =
       (seat_steps p seat _ script turns (commits_of seat p.entries) h.0, all_steps (suc seat) scripts groups h.1)
 
-  pub groups_count : (seat : ℕ) (scripts : List (List Command)) (groups : List (List Turn)) → AllTurns p seat scripts groups
+  pub groups_count : (seat : ℕ) (scripts : List (List Command)) (groups : List (List LineAndSplit)) → AllTurns p seat scripts groups
       → length (map (λ turns. flat_map turn_steps turns) groups) ≡ length scripts
   groups_count seat [] [] h = refl
   groups_count seat [] (turns ∷ groups) h = absurd h
@@ -99,6 +99,6 @@ module _ (p : Past) where
   groups_count seat (script ∷ scripts) (turns ∷ groups) h = ap (λ n. suc n) (groups_count (suc seat) scripts groups h.1)
 
 -- and the steps of all are those of all turns
-pub steps_flat : (groups : List (List Turn)) → flat (map (λ turns. flat_map turn_steps turns) groups) ≡ flat_map turn_steps (flat_turns groups)
+pub steps_flat : (groups : List (List LineAndSplit)) → flat (map (λ turns. flat_map turn_steps turns) groups) ≡ flat_map turn_steps (flat_turns groups)
 steps_flat [] = refl
 steps_flat (turns ∷ groups) = ap (λ ls. flat_map turn_steps turns ++ ls) (steps_flat groups) ∙ sym (flat_map-append turn_steps turns (flat_turns groups))

@@ -12,7 +12,7 @@ use Rattle.run_report.specs.declared.line.Line.{Line}
 use Rattle.run_report.specs.Order.{time_of}
 use Rattle.run_report.specs.Worked.{Past}
 use Rattle.run_report.proofs.history.Steps.{IsPlaced, StepsOf}
-use Rattle.grow_report.specs.Turns.{GrowPlaceOf, IsAhead, SplitIf, Turn, TurnsOf, first_place, is_added, odd_with}
+use Rattle.grow_report.specs.Turns.{GrowPlaceOf, IsAhead, SplitIf, LineAndSplit, TurnsOf, first_place, is_added, odd_with}
 
 -- a line as a step; its number leaves one for the split behind it
 abbrev pub line_step : Line → Line
@@ -24,7 +24,7 @@ split_steps line None = []
 split_steps line (Some time) = record { seat = line.seat; number = suc (2 * line.number); place = AtCommit time; reply = Yes } ∷ []
 
 -- the steps of a turn
-abbrev pub turn_steps : Turn → List Line
+abbrev pub turn_steps : LineAndSplit → List Line
 turn_steps turn = line_step turn.line ∷ split_steps turn.line turn.split
 
 module _ (p : Past) (seat : ℕ) where
@@ -46,7 +46,7 @@ module _ (p : Past) (seat : ℕ) where
   )
 
   -- they follow a split that is ahead of the first of them
-  steps_behind : (number before time : ℕ) (turns : List Turn) (commits : List Commit) → IsAhead (first_place turns) time
+  steps_behind : (number before time : ℕ) (turns : List LineAndSplit) (commits : List Commit) → IsAhead (first_place turns) time
       → StepsOf p seat number before (flat_map turn_steps turns) commits → StepsOf p seat number time (flat_map turn_steps turns) commits
   steps_behind number before time [] commits ahead h = h
   steps_behind number before time (turn ∷ turns) commits ahead h = (
@@ -58,7 +58,7 @@ module _ (p : Past) (seat : ℕ) where
   )
 
   -- the steps behind a line: its split, if there is one, and those of the other turns
-  behind_line : (due : Bool) (line : Line) (split : Option ℕ) (turns : List Turn) (made others : List Commit) → line.seat ≡ seat
+  behind_line : (due : Bool) (line : Line) (split : Option ℕ) (turns : List LineAndSplit) (made others : List Commit) → line.seat ≡ seat
       → SplitIf due p seat (time_of line.place) (first_place turns) split made
       → StepsOf p seat (2 * suc line.number) (time_of line.place) (flat_map turn_steps turns) others
       → StepsOf p seat (suc (2 * line.number)) (time_of line.place) (split_steps line split ++ flat_map turn_steps turns) (made ++ others)
@@ -81,7 +81,7 @@ module _ (p : Past) (seat : ℕ) where
   )
   behind_line false line (Some time) turns made others by h rest = absurd (let none = h.0 in cc)
 
-  pub turns_steps : (number before : ℕ) (odd : Bool) (script : List Command) (turns : List Turn) (commits : List Commit)
+  pub turns_steps : (number before : ℕ) (odd : Bool) (script : List Command) (turns : List LineAndSplit) (commits : List Commit)
       → TurnsOf p seat number before odd script turns commits → StepsOf p seat (2 * number) before (flat_map turn_steps turns) commits
   turns_steps number before odd [] [] commits h = h
   turns_steps number before odd [] (turn ∷ turns) commits h = absurd h
@@ -103,7 +103,7 @@ module _ (p : Past) (seat : ℕ) where
         behind_line (odd && is_added command line.reply) line turn.split turns h.1 h.2 here.by h.5 (rw same rest),
       )
 
-  pub seat_steps : (odd : Bool) (script : List Command) (turns : List Turn) (commits : List Commit)
+  pub seat_steps : (odd : Bool) (script : List Command) (turns : List LineAndSplit) (commits : List Commit)
       → TurnsOf p seat 1 p.base odd script turns commits → StepsOf p seat 1 p.base (flat_map turn_steps turns) commits
   seat_steps odd script turns commits h =
       steps_sooner 1 2 p.base (flat_map turn_steps turns) commits (omega arith) (turns_steps 1 p.base odd script turns commits h)

@@ -103,12 +103,12 @@ SplitIf true p seat from next split commits = SplitDue p seat from next split co
 SplitIf false p seat from next split commits = (split ≡ None) × (commits ≡ [])
 
 -- What a seat did for one command: its line, and the printed time of the split that it made behind it, if it made one.
-pub record Turn : Type 0 where
+pub record LineAndSplit : Type 0 where
   pub line : Line
   pub split : Option ℕ
 
 -- the line of a turn
-abbrev pub line_of : Turn → Line
+abbrev pub line_of : LineAndSplit → Line
 line_of turn = turn.line
 
 -- whether a command is an add
@@ -132,7 +132,7 @@ abbrev pub odd_with : Bool → Bool → Bool
 odd_with odd added = if added then not odd else odd
 
 -- the place of the first turn's line
-abbrev pub first_place : List Turn → Option Place
+abbrev pub first_place : List LineAndSplit → Option Place
 first_place [] = None
 first_place (turn ∷ turns) = Some turn.line.place
 
@@ -145,7 +145,7 @@ pub record GrowLineOf (p : Past) (seat number before : ℕ) (command : Command) 
 
 -- The turns of a seat's commands in order, the first of this number and following this time, and the commits of them: each line is at its
 -- place, and a split is due behind each second add that replied yes, of which an odd number is before them or not.
-abbrev pub TurnsOf : Past → ℕ → ℕ → ℕ → Bool → List Command → List Turn → List Commit → Type 0
+abbrev pub TurnsOf : Past → ℕ → ℕ → ℕ → Bool → List Command → List LineAndSplit → List Commit → Type 0
 TurnsOf p seat number before odd [] [] commits = commits ≡ []
 TurnsOf p seat number before odd [] (turn ∷ turns) commits = ⊥
 TurnsOf p seat number before odd (command ∷ commands) [] commits = ⊥
@@ -159,7 +159,7 @@ pub record RanGrow (old new : Seat) (script : List Command) (lines : List Line) 
   pub continues : Continues old new
   pub commits : List Commit
   pub mine : new.mine ≡ old.mine ++ commits
-  pub turns : List Turn
+  pub turns : List LineAndSplit
   pub lines_are : lines ≡ map line_of turns
   pub each : TurnsOf (past_of new) new.number 1 (old.base + length old.seen) false script turns commits
 

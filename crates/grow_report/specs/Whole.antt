@@ -19,7 +19,7 @@ use Rattle.grow_hash.specs.Tables.{grow_levels, buckets}
 use Rattle.grow_hash.specs.Grown.{IsGrown, IsGrownOpening, grown_catalogue, grown_capacity}
 use Rattle.grow_hash.specs.GrowRules.{IsGrowCommit, growing_of}
 use Rattle.grow_hash.specs.Splits.{is_splitting, count_splits}
-use Rattle.grow_report.specs.Turns.{GrowPlaceOf, Turn, TurnsOf, line_of}
+use Rattle.grow_report.specs.Turns.{GrowPlaceOf, LineAndSplit, TurnsOf, line_of}
 
 -- The line's command has the line's place and reply in the history: a commit is the entry of its time, by the line's seat and with the
 -- command's tag, and replies and changes what the command does in the state just before it; a read has its reply in the state of its
@@ -39,12 +39,12 @@ has_split None = false
 has_split (Some time) = true
 
 -- how many splits turns made
-abbrev pub turn_splits : List Turn → ℕ
-turn_splits turns = count_by (λ (turn : Turn). has_split turn.split) turns
+abbrev pub turn_splits : List LineAndSplit → ℕ
+turn_splits turns = count_by (λ (turn : LineAndSplit). has_split turn.split) turns
 
 -- Each seat's turns, the first of them those of this seat, are of its script, from the opening state on, and their commits are all that
 -- the seat has in the history.
-abbrev pub AllTurns : Past → ℕ → List (List Command) → List (List Turn) → Type 0
+abbrev pub AllTurns : Past → ℕ → List (List Command) → List (List LineAndSplit) → Type 0
 AllTurns p seat [] [] = ⊤
 AllTurns p seat [] (turns ∷ groups) = ⊥
 AllTurns p seat (script ∷ scripts) [] = ⊥
@@ -52,7 +52,7 @@ AllTurns p seat (script ∷ scripts) (turns ∷ groups) =
     TurnsOf p seat 1 p.base false script turns (commits_of seat p.entries) × AllTurns p (suc seat) scripts groups
 
 -- the turns of all seats
-abbrev pub flat_turns : List (List Turn) → List Turn
+abbrev pub flat_turns : List (List LineAndSplit) → List LineAndSplit
 flat_turns groups = flat_map (λ turns. turns) groups
 
 -- The lines and the tables are those of a run of the scripts, one for each seat, whose commits make this one history and leave these maps,
@@ -66,7 +66,7 @@ pub record GrowRunOf (p : Past) (scripts : List (List Command)) (lines : List Li
   pub stand : All (GrowStandsIn p scripts) lines
   pub one_line : EachHasOneLineOrSplits p lines
   -- the lines are those of the turns of each seat, between which its splits stand where they are due
-  pub turns : List (List Turn)
+  pub turns : List (List LineAndSplit)
   pub lines_are : IsPermutation lines (map line_of (flat_turns turns))
   pub each : AllTurns p 0 scripts turns
   -- so many splits have the turns, and the history, which leaves one bucket more than the first 16 for each

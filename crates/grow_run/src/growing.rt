@@ -15,7 +15,7 @@ use grow_domain::run_grow_domain;
 use grow_hash::{GROW_LEVELS, GrowRules, read_grown, table_of};
 use grow_report::{order_grown, render_grown};
 use mv_history::View;
-use run_kinds::{FromRun, Told, USUAL, open_run, ran_or_met};
+use run_kinds::{FromRun, RunAnswer, USUAL, open_run, ran_or_met};
 use run_outside::{Files, Gate};
 use run_words::Options;
 use script_files::{Grammar, Stop, read_scripts};
@@ -53,7 +53,7 @@ pub fn make_grown<R: Threads + Wait + Sync, F: Files, G: Gate>(
     ensures steady { IfErr result (λ stop. NoneFails stop (F.steady files.old) (F.texts files.old) (map string_bytes names.now)) }
 {
     let scripts = read_scripts(rt, alloc, files, names, Grammar::Growing)?;
-    let Told {
+    let RunAnswer {
         closing,
         lines,
         end,
@@ -70,7 +70,7 @@ fn run_grown_set<R: Threads + Wait + Sync, G: Gate>(
     options: Options,
     scripts: &[Vec<Command>],
     gate: &G,
-) -> Result<Told<GrowRules<GROW_LEVELS>, GrownEnd>, AllocError>
+) -> Result<RunAnswer<GrowRules<GROW_LEVELS>, GrownEnd>, AllocError>
     requires fit { FitOptions options }
     requires objects { 1026 ≤ options.objects }
     requires slots { options.slots ≡ 1024 }
@@ -89,7 +89,7 @@ fn run_grown_set<R: Threads + Wait + Sync, G: Gate>(
     order_grown(&mut lines);
     let splits = count_splits(&mut closing);
     let set = read_grown::<GROW_LEVELS, _>(alloc, &mut closing)?;
-    Ok(Told {
+    Ok(RunAnswer {
         closing,
         lines,
         end: GrownEnd { set, splits },

@@ -10,7 +10,7 @@ pub use Rattle.grow_hash.specs.Grown.{IsGrownOpening, grown_catalogue, grown_cap
 pub use Rattle.grow_hash.specs.GrowRules.{IsGrowCommit}
 pub use Rattle.grow_hash.specs.GrowAttempts.{GrowAttempted}
 pub use Rattle.grow_hash.specs.declared.attempt.GrowStep.TheVariants.{Done}
-pub use Rattle.grow_report.specs.Turns.{is_added, odd_with, RanGrow, AllRanGrow, GrowPlaceOf, SplitIf, CannotSplit, Turn, TurnsOf, IsAhead, first_place}
+pub use Rattle.grow_report.specs.Turns.{is_added, odd_with, RanGrow, AllRanGrow, GrowPlaceOf, SplitIf, CannotSplit, LineAndSplit, TurnsOf, IsAhead, first_place}
 pub use Rattle.item_workers.proofs.Links.{each_seat, chain_told, all_may}
 pub use Rattle.script_workers.specs.Lines.{line_of, row_of}
 pub use Rattle.script_workers.proofs.Runs.{by_seat, few_numbers, line_counts}

@@ -2,7 +2,8 @@
 use Rattle.std.proofs.lemmas.Option.{slice_get_within}
 use Rattle.grow_report.proofs.Known.{place_longer, due_longer}
 use Rattle.grow_workers.proofs.Terms.{◌≡◌, ◌+◌, ◌-◌, ◌≤◌, ◌&&◌, ◌∷◌, ◌++◌, ◌∙◌, ℕ, suc, Bool, true, false, List, [], Option, Some, None, length, map, refl, sym}
-use Rattle.grow_workers.proofs.Terms.{ap, subst, arith, append_assoc, append-nil, Continues-Continues, seen_grows, GrowPlaceOf, SplitIf, Turn, TurnsOf, RanGrow}
+use Rattle.grow_workers.proofs.Terms.{ap, subst, arith, append_assoc, append-nil, Continues-Continues, seen_grows, GrowPlaceOf, SplitIf, LineAndSplit, TurnsOf}
+use Rattle.grow_workers.proofs.Terms.{RanGrow}
 use Rattle.grow_workers.proofs.Terms.{IsAhead, first_place, is_added, odd_with, Commit, Change, Seat, Continues, Continues-itself, Command, Place, Causes}
 use Rattle.grow_workers.proofs.Terms.{Reply, Line, time_of, Past, past_of, Answer, Chain, HaveNumbers, answered, line_of, placed_later, follows_earlier}
 use Rattle.grow_workers.proofs.Terms.{GrowKept, kept, LinkedDone, entered_fresh, Read, IsEnteredBetween, LinkedTurn, Vec, flat_map, each_seat, chain_told}
@@ -26,7 +27,7 @@ record RanFrom (s u : GrowKept) (number before : ℕ) (commands : List Command) 
   pub continues : Continues s.seat u.seat
   pub commits : List Commit
   pub mine : u.seat.mine ≡ s.seat.mine ++ commits
-  pub turns : List Turn
+  pub turns : List LineAndSplit
   pub lines_are : lines ≡ map reported.line_of turns
   pub ahead : (time : ℕ) → time ≤ s.seat.base + length s.seat.seen → IsAhead (first_place turns) time
   pub each : TurnsOf (past_of u.seat) u.seat.number number before s.odd commands turns commits

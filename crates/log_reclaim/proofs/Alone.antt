@@ -4,15 +4,15 @@ use Rattle.std.proofs.lemmas.Bool.{cases_lt}
 use Rattle.mv_history.specs.State.{State, Writes}
 use Rattle.mv_history.specs.declared.Step.{Step}
 use Rattle.mv_layout.specs.declared.Config.{Config}
-use Rattle.seat_log.specs.mv_core.declared.view.View.{View}
+use Rattle.seat_log.specs.mv_core.declared.view.Knowledge.{Knowledge}
 use Rattle.seat_log.specs.mv_core.Known.{Known}
 use Rattle.seat_log.proofs.mv_core_lemmas.history.OwnEntries.{own_seen}
 use Rattle.seat_log.specs.reader_marks.declared.scanning.Watermark.{Watermark}
 use Rattle.seat_log.specs.declared.version.Note.{Note}
 use Rattle.seat_log.specs.Notes.{Noted, IsNoteAt}
 use Rattle.seat_log.specs.Stands.{Stands}
-use Rattle.log_reclaim.specs.declared.settling.Found.{Found}
-use Rattle.log_reclaim.specs.declared.rounds.Scanned.{Scanned}
+use Rattle.log_reclaim.specs.declared.settling.HeadHolders.{HeadHolders}
+use Rattle.log_reclaim.specs.declared.rounds.RoundScan.{RoundScan}
 use Rattle.log_reclaim.specs.Parts.{HasScanned}
 use Rattle.log_reclaim.specs.Untimed.{TriedSo}
 use Rattle.log_reclaim.specs.Sweeps.{Sweeps, found_at}
@@ -33,13 +33,13 @@ module _ (c : Config) (one : c.seats ≡ 1) where
       (cases_lt mark.low clock)
 
   -- no write-back is left untried, nor finds another seat's version
-  none_left : (w : View) → w.number < c.seats → (made : List Step) (mark : Watermark) (clock : ℕ) (n : Note) → clock ≤ mark.low → (above : Option ℕ)
+  none_left : (w : Knowledge) → w.number < c.seats → (made : List Step) (mark : Watermark) (clock : ℕ) (n : Note) → clock ≤ mark.low → (above : Option ℕ)
       → TriedSo c w made mark clock n above → ⊥
   none_left w mine made mark clock n low None t = let lt = t.0 in omega arith
   none_left w mine made mark clock n low (Some seat) a = let in_range = a.in_range in a.not_own (let e : seat ≡ w.number = omega arith in e)
 
-  module _ (starts : State → Type 0) (allows : List ℕ → State → Writes → Type 0) (v u x w : View) (k l m o : Noted) (made rested later : List Step)
-      (first last : Scanned) (found unused : Found) (freed more : ℕ)
+  module _ (starts : State → Type 0) (allows : List ℕ → State → Writes → Type 0) (v u x w : Knowledge) (k l m o : Noted) (made rested later : List Step)
+      (first last : RoundScan) (found unused : HeadHolders) (freed more : ℕ)
       (sweep : Sweeps c v u k l made true first found freed) (rest : RestsSo c u x l m rested first.latest)
       (again : Sweeps c x w m o later false last unused more)
       (stands : Stands c v k) (known : ∥ Known starts allows v ∥₁) (mine : v.number < c.seats) (early : v.base + length v.past.seen < 35184372088831) where

@@ -4,12 +4,12 @@ use Rattle.std.proofs.Common.{append-nil, append_assoc, length-drop, Option, Som
 use Rattle.std.proofs.lemmas.List.Elements.{All-nil, All-cons, All-append}
 use Rattle.mv_history.specs.declared.Step.{Step}
 use Rattle.mv_layout.specs.declared.Config.{Config}
-use Rattle.seat_log.specs.mv_core.declared.view.View.{View}
+use Rattle.seat_log.specs.mv_core.declared.view.Knowledge.{Knowledge}
 use Rattle.seat_log.specs.declared.version.Note.{Note}
 use Rattle.seat_log.specs.Notes.{Noted, IsNoteAt}
 use Rattle.seat_log.specs.Frees.{OldestIsDead, freed_noted}
-use Rattle.log_reclaim.specs.declared.settling.Found.{Found}
-use Rattle.log_reclaim.specs.declared.rounds.Scanned.{Scanned}
+use Rattle.log_reclaim.specs.declared.settling.HeadHolders.{HeadHolders}
+use Rattle.log_reclaim.specs.declared.rounds.RoundScan.{RoundScan}
 use Rattle.log_reclaim.specs.Parts.{LeavesClock, IsPlainKind, DiesFrom, Shrinks, HasScanned, grace_load}
 use Rattle.log_reclaim.specs.Untimed.{DatedSo}
 use Rattle.log_reclaim.specs.Tries.{Makes}
@@ -23,7 +23,7 @@ use Rattle.log_reclaim.proofs.MoreSteps.{scanned_then}
 use Rattle.log_reclaim.proofs.rests.Exchanges.{leaves_clock}
 use Rattle.log_reclaim.proofs.Sweeping.{left_at}
 
-module _ (v w : View) (l m : Noted) (made : List Step) (t freed : ℕ) (k : FreesAll v w l m made t freed) where
+module _ (v w : Knowledge) (l m : Noted) (made : List Step) (t freed : ℕ) (k : FreesAll v w l m made t freed) where
   frees_long : length m.live + freed ≡ length l.live
   frees_long = let e : length m.live ≡ length (drop freed l.live) = ap (λ (y : Noted). length y.live) k.log in let d = length-drop freed l.live in let few =
       k.few in omega arith
@@ -46,7 +46,7 @@ module _ (v w : View) (l m : Noted) (made : List Step) (t freed : ℕ) (k : Free
   }
 
 -- a round that began with them
-module _ (c : Config) (v w : View) (l m : Noted) (made : List Step) (t freed : ℕ) (k : FreesAll v w l m made t freed) where
+module _ (c : Config) (v w : Knowledge) (l m : Noted) (made : List Step) (t freed : ℕ) (k : FreesAll v w l m made t freed) where
   pub frees_first : (tidies : Bool) (rest : List Step) → (length m.live ≡ 0 → EndsBy c tidies rest)
       → FreesFirst c l ((grace_load c t ∷ []) ++ made ++ rest) tidies
   frees_first tidies rest none =
@@ -73,7 +73,7 @@ module _ (c : Config) (v w : View) (l m : Noted) (made : List Step) (t freed : �
   frees_again again = frees_first true (grace_load c again ∷ []) (λ e. (again, refl))
 
   -- or scanned what they left
-  pub frees_then : (rest : List Step) (scanned : Scanned) → 0 < length m.live
+  pub frees_then : (rest : List Step) (scanned : RoundScan) → 0 < length m.live
       → FreesBeforeScan c l ((grace_load c t ∷ []) ++ made ++ rest) (Some scanned)
   unfolding frees_first
   frees_then rest scanned some =
@@ -96,7 +96,7 @@ frees_longer c l made more tidies f some = record {
 }
 
 -- whatever a round scanned, it freed first
-pub freed_first : (c : Config) (l : Noted) (made : List Step) (scanned : Option Scanned) → FreesBeforeScan c l made scanned → FreesFirst c l made false
+pub freed_first : (c : Config) (l : Noted) (made : List Step) (scanned : Option RoundScan) → FreesBeforeScan c l made scanned → FreesFirst c l made false
 freed_first c l made None f = f
 freed_first c l made (Some scanned) f = f.0
 
@@ -105,7 +105,7 @@ pub grace_plain : (c : Config) (time : ℕ) → All (λ s. IsPlainKind s.kind) (
 grace_plain c time = All-cons (λ (s : Step). IsPlainKind s.kind) (grace_load c time) [] tt (All-nil (λ (s : Step). IsPlainKind s.kind))
 
 -- the frees left nothing
-pub sweeps_all : (c : Config) (v g w : View) (l m : Noted) (one made : List Step) (t freed : ℕ) → Makes v g one
+pub sweeps_all : (c : Config) (v g w : Knowledge) (l m : Noted) (one made : List Step) (t freed : ℕ) → Makes v g one
     → All (λ s. IsPlainKind s.kind) one → FreesAll g w l m made t freed → length m.live ≡ 0 → SweepsAll c v w l m (one ++ made) freed
 sweeps_all c v g w l m one made t freed load plain k empty =
     let all = makes_on v g w one made load k.makes in
@@ -119,7 +119,7 @@ sweeps_all c v g w l m one made t freed load plain k empty =
     }
 
 -- they left nothing, and what followed did nothing either
-pub sweeps_on : (c : Config) (v x w : View) (l m : Noted) (made more : List Step) (freed : ℕ) → SweepsAll c v x l m made freed → Makes x w more
+pub sweeps_on : (c : Config) (v x w : Knowledge) (l m : Noted) (made more : List Step) (freed : ℕ) → SweepsAll c v x l m made freed → Makes x w more
     → All (λ s. IsPlainKind s.kind) more → SweepsAll c v w l m (made ++ more) freed
 sweeps_on c v x w l m made more freed k then plain = record {
   reclaims = reclaims_on v x w made more k.reclaims then.reclaims;
@@ -131,7 +131,8 @@ sweeps_on c v x w l m made more freed k then plain = record {
 }
 
 -- they left something, and then the round scanned
-module _ (c : Config) (v g x w : View) (l k m : Noted) (one made more : List Step) (t freed : ℕ) (back : Bool) (scanned : Scanned) (found : Found) (then : ℕ)
+module _ (c : Config) (v g x w : Knowledge) (l k m : Noted) (one made more : List Step) (t freed : ℕ) (back : Bool) (scanned : RoundScan)
+    (found : HeadHolders) (then : ℕ)
     (load : Makes v g one) (plain : All (λ s. IsPlainKind s.kind) one) (frees : FreesAll g x l k made t freed)
     (s : Sweeps c x w k m more back scanned found then) where
   first : Makes v x (one ++ made)

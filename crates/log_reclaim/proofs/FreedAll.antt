@@ -6,10 +6,10 @@ use Rattle.mv_history.specs.declared.Step.{Step}
 use Rattle.mv_history.specs.declared.StepKind.{StepKind}
 use Rattle.mv_history.specs.declared.StepKind.TheVariants.{StoreFree}
 use Rattle.mv_layout.specs.declared.Config.{Config}
-use Rattle.mv_layout.specs.declared.Place.TheVariants.{Stamp}
+use Rattle.mv_layout.specs.declared.SharedWord.TheVariants.{Stamp}
 use Rattle.mv_layout.specs.Places.{place_of}
-use Rattle.seat_log.specs.mv_core.declared.view.View.{View}
-use Rattle.seat_log.specs.mv_core.declared.view.Walk.TheVariants.{Nowhere}
+use Rattle.seat_log.specs.mv_core.declared.view.Knowledge.{Knowledge}
+use Rattle.seat_log.specs.mv_core.declared.view.WalkStage.TheVariants.{Nowhere}
 use Rattle.seat_log.specs.mv_core.EnterSteps.{MayLoadLow}
 use Rattle.seat_log.specs.mv_core.Rings.{index_of}
 use Rattle.seat_log.specs.mv_core.ReclaimSteps.{free_stored}
@@ -31,23 +31,23 @@ drops (suc a) (suc b) [] = ap (λ k. drop k []) (let e : suc (a + suc b) ≡ suc
 drops (suc a) b (n ∷ ns) = drops a b ns ∙ ap (λ k. drop k (n ∷ ns)) (let e : suc (a + b) ≡ suc a + b = omega arith in e)
 
 -- the frees of one set: of the view nothing changes but the log and the trail, which is longer by these steps
-record FreesSlots (v w : View) (steps : List Step) (count : ℕ) : Type 0 where
+record FreesSlots (v w : Knowledge) (steps : List Step) (count : ℕ) : Type 0 where
   view : w ≡ record v { ring = w.ring; trail = w.trail }
   trail : w.trail ≡ v.trail ++ steps
   kinds : All (λ s. s.kind ≡ StoreFree) steps
   long : length steps ≡ count
 
-slots_view : (c : Config) (v : View) (p k : ℕ) → (steps : List Step) × FreesSlots v (slots_freed c v p k) steps k
+slots_view : (c : Config) (v : Knowledge) (p k : ℕ) → (steps : List Step) × FreesSlots v (slots_freed c v p k) steps k
 unfolding slots_freed
 slots_view c v p zero = ([], record { view = refl; trail = sym (append-nil v.trail); kinds = All-nil (λ s. s.kind ≡ StoreFree); long = refl })
 slots_view c v p (suc k) =
     let a = slots_view c v p k in
-    let u : View = slots_freed c v p k in
-    let w : View = free_stored c u (p + k) in
+    let u : Knowledge = slots_freed c v p k in
+    let w : Knowledge = free_stored c u (p + k) in
     let step : Step = record { kind = StoreFree; word = place_of c (Stamp u.number (index_of c (p + k))); found = None; stored = Some 0 } in (
       a.0 ++ step ∷ [],
       record {
-        view = ap (λ (x : View). record x { ring = w.ring; trail = w.trail }) a.1.view;
+        view = ap (λ (x : Knowledge). record x { ring = w.ring; trail = w.trail }) a.1.view;
         trail = ap (λ l. l ++ step ∷ []) a.1.trail ∙ append_assoc v.trail a.0 (step ∷ []);
         kinds = All-push (λ (s : Step). s.kind ≡ StoreFree) a.0 step a.1.kinds refl;
         long = (let e = length-append a.0 (step ∷ []) in let few = a.1.long in omega arith);
@@ -58,23 +58,23 @@ slots_view c v p (suc k) =
 pub free_kind : (P : StepKind → Type 0) → P StoreFree → (steps : List Step) → All (λ s. s.kind ≡ StoreFree) steps → All (λ (s : Step). P s.kind) steps
 free_kind P p steps = All-weaker (λ (s : Step). s.kind ≡ StoreFree) (λ (s : Step). P s.kind) (λ s e. subst P (sym e) p) steps
 
-frees_makes : (v w : View) (steps : List Step) (count : ℕ) → MayLoadLow v → (v.walk ≡ Nowhere) × (v.back ≡ None) → FreesSlots v w steps count
+frees_makes : (v w : Knowledge) (steps : List Step) (count : ℕ) → MayLoadLow v → (v.walk ≡ Nowhere) × (v.back ≡ None) → FreesSlots v w steps count
     → Makes v w steps
 frees_makes v w steps count may still k =
     let e = k.view in record {
       reclaims = reclaims_outside v w steps may still
-          (ap (λ (x : View). record x { past = w.past; clocks = w.clocks; empty = w.empty; ring = w.ring; grace = w.grace; trail = w.trail }) e)
-          ([], ap (λ (x : View). x.past.seen) e ∙ sym (append-nil v.past.seen))
-          (ap (λ (x : View). x.past.mine) e)
-          (let same : w.grace ≡ v.grace = ap (λ (x : View). x.grace) e in omega arith)
+          (ap (λ (x : Knowledge). record x { past = w.past; clocks = w.clocks; empty = w.empty; ring = w.ring; grace = w.grace; trail = w.trail }) e)
+          ([], ap (λ (x : Knowledge). x.past.seen) e ∙ sym (append-nil v.past.seen))
+          (ap (λ (x : Knowledge). x.past.mine) e)
+          (let same : w.grace ≡ v.grace = ap (λ (x : Knowledge). x.grace) e in omega arith)
           k.trail
           (free_kind IsReclaimKind tt steps k.kinds);
-      rests = ap (λ (x : View). x.past.rests) e;
+      rests = ap (λ (x : Knowledge). x.past.rests) e;
       kinds = free_kind IsOtherKind tt steps k.kinds;
     }
 
 -- so many slots were freed so far, by one step each
-pub record FreesSome (v w : View) (l m : Noted) (made : List Step) (freed : ℕ) : Type 0 where
+pub record FreesSome (v w : Knowledge) (l m : Noted) (made : List Step) (freed : ℕ) : Type 0 where
   pub makes : Makes v w made
   pub kinds : All (λ s. s.kind ≡ StoreFree) made
   pub long : length made ≡ freed
@@ -82,7 +82,7 @@ pub record FreesSome (v w : View) (l m : Noted) (made : List Step) (freed : ℕ)
   pub few : freed ≤ length l.live
   pub log : m ≡ freed_noted l freed
 
-pub frees_none : (v : View) (l : Noted) → MayLoadLow v → (v.walk ≡ Nowhere) × (v.back ≡ None) → FreesSome v v l l [] 0
+pub frees_none : (v : Knowledge) (l : Noted) → MayLoadLow v → (v.walk ≡ Nowhere) × (v.back ≡ None) → FreesSome v v l l [] 0
 frees_none v l may still = record {
   makes = makes_none v may still;
   kinds = All-nil (λ s. s.kind ≡ StoreFree);
@@ -92,7 +92,8 @@ frees_none v l may still = record {
   log = λ i. record l { freed = (let e : l.freed ≡ l.freed + 0 = omega arith in e) i };
 }
 
-module _ (c : Config) (v w : View) (l m : Noted) (made : List Step) (freed : ℕ) (k : FreesSome v w l m made freed) (t count : ℕ) (f : FreesSet m t count) where
+module _ (c : Config) (v w : Knowledge) (l m : Noted) (made : List Step) (freed : ℕ) (k : FreesSome v w l m made freed) (t count : ℕ)
+    (f : FreesSet m t count) where
   -- there are so many versions fewer
   fewer : length m.live + freed ≡ length l.live
   fewer =
@@ -100,11 +101,11 @@ module _ (c : Config) (v w : View) (l m : Noted) (made : List Step) (freed : ℕ
       let d = length-drop freed l.live in let few = k.few in omega arith
 
   -- one set more
-  pub frees_more : (u : View) (n : Noted) → u ≡ slots_freed c w m.freed count → n ≡ freed_noted m count
+  pub frees_more : (u : Knowledge) (n : Noted) → u ≡ slots_freed c w m.freed count → n ≡ freed_noted m count
       → (more : List Step) × FreesSome v u l n more (freed + count)
   frees_more u n view log =
       let a = slots_view c w m.freed count in
-      let one : FreesSlots w u a.0 count = subst (λ (x : View). FreesSlots w x a.0 count) (sym view) a.1 in
+      let one : FreesSlots w u a.0 count = subst (λ (x : Knowledge). FreesSlots w x a.0 count) (sym view) a.1 in
       let makes = frees_makes w u a.0 count (reclaims_may v w made k.makes.reclaims) (reclaims_still v w made k.makes.reclaims) one in
       let all = fewer in
       let some = few_freed m t count f in (
@@ -113,7 +114,7 @@ module _ (c : Config) (v w : View) (l m : Noted) (made : List Step) (freed : ℕ
           makes = makes_on v w u made a.0 k.makes makes;
           kinds = All-append (λ (s : Step). s.kind ≡ StoreFree) made a.0 k.kinds one.kinds;
           long = (let e = length-append made a.0 in let before = k.long in let more = one.long in omega arith);
-          view = one.view ∙ ap (λ (x : View). record x { ring = u.ring; trail = u.trail }) k.view;
+          view = one.view ∙ ap (λ (x : Knowledge). record x { ring = u.ring; trail = u.trail }) k.view;
           few = omega arith;
           log = log
               ∙ ap (λ (x : Noted). freed_noted x count) k.log
@@ -133,8 +134,8 @@ none_dead m t count log f none some dead =
     ⊎_elim (λ a. a.1.outside 0 r.0 r.1 (omega arith) (let e : r.0.first ≡ m.freed = omega arith in e)) (λ b. b.0 dead) f
 
 -- no set more
-pub frees_end : (c : Config) (v w : View) (l m : Noted) (made : List Step) (freed t count : ℕ) → FreesSome v w l m made freed → IsLog m
-    → FreesSet m t count → count ≡ 0 → (u : View) (n : Noted) → u ≡ slots_freed c w m.freed count → n ≡ freed_noted m count
+pub frees_end : (c : Config) (v w : Knowledge) (l m : Noted) (made : List Step) (freed t count : ℕ) → FreesSome v w l m made freed → IsLog m
+    → FreesSet m t count → count ≡ 0 → (u : Knowledge) (n : Noted) → u ≡ slots_freed c w m.freed count → n ≡ freed_noted m count
     → (more : List Step) × FreesAll v u l n more t freed
 frees_end c v w l m made freed t count k log f none u n view is =
     let a = frees_more c v w l m made freed k t count f u n view is in

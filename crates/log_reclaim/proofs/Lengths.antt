@@ -2,7 +2,7 @@
 use Rattle.std.proofs.Common.{◌≡◌, ℕ, ◌+◌, ◌*◌, ◌≤◌, List, [], ◌∷◌, ◌++◌, length, length-append, ap, ◌∙◌, arith}
 use Rattle.mv_history.specs.declared.Step.{Step}
 use Rattle.mv_layout.specs.declared.Config.{Config}
-use Rattle.seat_log.specs.mv_core.declared.view.View.{View}
+use Rattle.seat_log.specs.mv_core.declared.view.Knowledge.{Knowledge}
 use Rattle.seat_log.specs.commit_clock.Helps.{Helps}
 use Rattle.seat_log.specs.reader_marks.declared.scanning.Watermark.{Watermark}
 use Rattle.seat_log.specs.reader_marks.Scans.{Scans, scan_steps}
@@ -16,31 +16,31 @@ pub one_longer : (t u : List Step) (s : Step) → u ≡ t ++ s ∷ [] → length
 one_longer t u s is = ap length is ∙ length-append t (s ∷ [])
 
 -- a section was entered
-pub entered_longer : (c : Config) (v w : View) (time : ℕ) → Begins c v w time → length w.trail ≤ length v.trail + 6
+pub entered_longer : (c : Config) (v w : Knowledge) (time : ℕ) → Begins c v w time → length w.trail ≤ length v.trail + 6
 entered_longer c v w time b =
     let long = ap length b.entered.trail ∙ length-append v.trail b.entered.steps in let few = b.entered.few in omega arith
 
 -- a word of CLOCK was helped
-pub helped_longer : (c : Config) (v w : View) (word : ℕ) → Helps c v w word → length w.trail ≤ length v.trail + 3
+pub helped_longer : (c : Config) (v w : Knowledge) (word : ℕ) → Helps c v w word → length w.trail ≤ length v.trail + 3
 helped_longer c v w word k = let long = ap length k.trail.1 ∙ length-append v.trail k.trail.0 in let few = k.trail.2 in omega arith
 
 -- slots were freed
-pub freed_longer : (v w : View) (l m : Noted) (made : List Step) (time freed : ℕ) → FreesAll v w l m made time freed
+pub freed_longer : (v w : Knowledge) (l m : Noted) (made : List Step) (time freed : ℕ) → FreesAll v w l m made time freed
     → length w.trail ≡ length v.trail + freed
 freed_longer v w l m made time freed k =
     let long = ap length k.makes.reclaims.trail ∙ length-append v.trail made in let few = k.long in omega arith
 
 -- a scan was made
-pub scanned_longer : (c : Config) (v w : View) (mark : Watermark) (clock before after : ℕ) → Scans c v w mark clock before after
+pub scanned_longer : (c : Config) (v w : Knowledge) (mark : Watermark) (clock before after : ℕ) → Scans c v w mark clock before after
     → after ≤ before + (c.seats + 3) → length w.trail ≤ length v.trail + (c.seats + 3)
 scanned_longer c v w mark clock before after k few =
     let long : length w.trail ≡ length v.trail + length (scan_steps c v.number k.word k.marks mark.low k.found) =
-    ap (λ (u : View). length u.trail) k.view ∙ length-append v.trail (scan_steps c v.number k.word k.marks mark.low k.found) in
+    ap (λ (u : Knowledge). length u.trail) k.view ∙ length-append v.trail (scan_steps c v.number k.word k.marks mark.low k.found) in
     let count = k.count in
     omega arith
 
 -- a log has as many versions as slots at most
-pub live_few : (c : Config) (v : View) (l : Noted) → Stands c v l → length l.live ≤ c.slots
+pub live_few : (c : Config) (v : Knowledge) (l : Noted) → Stands c v l → length l.live ≤ c.slots
 live_few c v l k = let spare = k.spare in omega arith
 
 -- no step

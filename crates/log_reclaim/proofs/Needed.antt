@@ -8,10 +8,10 @@ use Rattle.mv_history.specs.declared.Entry.{Entry}
 use Rattle.mv_history.specs.State.{State, Writes}
 use Rattle.mv_layout.specs.declared.Config.{Config}
 use Rattle.seat_log.specs.mv_core.declared.ring.Slot.TheVariants.{Live}
-use Rattle.seat_log.specs.mv_core.declared.ring.Status.{Status}
-use Rattle.seat_log.specs.mv_core.declared.ring.Status.TheVariants.{Held, Aborted, Committed}
+use Rattle.seat_log.specs.mv_core.declared.ring.WriteSetStatus.{WriteSetStatus}
+use Rattle.seat_log.specs.mv_core.declared.ring.WriteSetStatus.TheVariants.{Held, Aborted, Committed}
 use Rattle.seat_log.specs.mv_core.declared.ring.CommitNote.{CommitNote}
-use Rattle.seat_log.specs.mv_core.declared.view.View.{View}
+use Rattle.seat_log.specs.mv_core.declared.view.Knowledge.{Knowledge}
 use Rattle.seat_log.specs.mv_core.Known.{Known}
 use Rattle.seat_log.specs.mv_core.Rings.{slot_at, index_of}
 use Rattle.seat_log.specs.mv_core.Times.{latest, latest_at, IsNextIn}
@@ -52,13 +52,13 @@ next_above base h o t next low is none =
     absurd (omega arith))
     (cases_lt low next)
 
-module _ (c : Config) (w : View) (l : Noted) (i : ℕ) (n : Note) (k : Stands c w l) (at : IsNoteAt l i n) where
+module _ (c : Config) (w : Knowledge) (l : Noted) (i : ℕ) (n : Note) (k : Stands c w l) (at : IsNoteAt l i n) where
   -- what is in the slot of a noted version
-  abbrev there : (st : Status) × (slot_at w.ring (index_of c n.position) ≡ Live (version_of n) st) × IsAsNoted (nat_le (held_from l) i) n st
+  abbrev there : (st : WriteSetStatus) × (slot_at w.ring (index_of c n.position) ≡ Live (version_of n) st) × IsAsNoted (nat_le (held_from l) i) n st
   there = let h = k.live i n at in (h.status, ap (λ p. slot_at w.ring (index_of c p)) (k.log.notes.position i n at) ∙ h.lives, h.as_noted)
 
   -- a noted time of death is that of the version
-  noted_death : (held : Bool) (st : Status) → 0 < n.dead → IsAsNoted held n st → death_in st ≡ Some n.dead
+  noted_death : (held : Bool) (st : WriteSetStatus) → 0 < n.dead → IsAsNoted held n st → death_in st ≡ Some n.dead
   noted_death held Held some noted = let none = noted.2 in absurd (omega arith)
   noted_death held (Aborted dead) some noted = noted.3
   noted_death held (Committed note) some noted = noted.3 ∙ death_is n.dead some
@@ -92,7 +92,7 @@ module _ (c : Config) (w : View) (l : Noted) (i : ℕ) (n : Note) (k : Stands c 
         ∥∥₁_elim known (next_once w.base w.past.seen n.object note.time n.dead)
         (λ a. (a.commits (index_of c n.position) (version_of n) note lives).superseded n.dead uncut dead)
 
-    needed : (held : Bool) (st : Status) → slot_at w.ring (index_of c n.position) ≡ Live (version_of n) st → 0 < n.dead → IsAsNoted held n st
+    needed : (held : Bool) (st : WriteSetStatus) → slot_at w.ring (index_of c n.position) ≡ Live (version_of n) st → 0 < n.dead → IsAsNoted held n st
         → Needs w (version_of n) st n.dead
     needed held Held lives some noted = let none = noted.2 in absurd (omega arith)
     needed held (Aborted dead) lives some noted = noted.3

@@ -3,13 +3,13 @@ use Rattle.std.proofs.Common.{◌≡◌, ℕ, ◌+◌, ◌-◌, ◌<◌, ◌≤�
 use Rattle.std.proofs.lemmas.Option.{slice_get-get_or}
 use Rattle.mv_history.specs.declared.Entry.TheVariants.{Rest}
 use Rattle.mv_history.specs.State.{State, Writes}
-use Rattle.seat_log.specs.mv_core.declared.view.View.{View}
+use Rattle.seat_log.specs.mv_core.declared.view.Knowledge.{Knowledge}
 use Rattle.seat_log.specs.mv_core.HistoryFacts.{BeginsWith}
 use Rattle.seat_log.specs.mv_core.Known.{Known}
 use Rattle.seat_log.proofs.mv_core_lemmas.history.OwnEntries.{other_maker}
 use Rattle.log_reclaim.specs.Holders.{IsOthers}
 
-module _ (starts : State → Type 0) (allows : List ℕ → State → Writes → Type 0) (v w : View) (before : ∥ Known starts allows v ∥₁)
+module _ (starts : State → Type 0) (allows : List ℕ → State → Writes → Type 0) (v w : Knowledge) (before : ∥ Known starts allows v ∥₁)
     (after : ∥ Known starts allows w ∥₁) (number : w.number ≡ v.number) (base : w.base ≡ v.base) (seen : BeginsWith w.past.seen v.past.seen)
     (mine : w.past.mine ≡ v.past.mine) (rests : w.past.rests ≡ v.past.rests) where
   -- an entry of a time that was seen only meanwhile is of another seat

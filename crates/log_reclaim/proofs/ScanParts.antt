@@ -7,8 +7,8 @@ use Rattle.mv_history.specs.declared.Step.{Step}
 use Rattle.mv_history.specs.declared.StepKind.{StepKind}
 use Rattle.mv_history.specs.declared.StepKind.TheVariants.{LoadScan, LoadMark, RaiseGrace}
 use Rattle.mv_layout.specs.declared.Config.{Config}
-use Rattle.seat_log.specs.mv_core.declared.view.View.{View}
-use Rattle.seat_log.specs.mv_core.declared.view.Walk.TheVariants.{Nowhere}
+use Rattle.seat_log.specs.mv_core.declared.view.Knowledge.{Knowledge}
+use Rattle.seat_log.specs.mv_core.declared.view.WalkStage.TheVariants.{Nowhere}
 use Rattle.seat_log.specs.mv_core.EnterSteps.{MayLoadLow}
 use Rattle.seat_log.specs.mv_core.HistoryFacts.{BeginsWith}
 use Rattle.seat_log.specs.mv_core.SeatSteps.{grace_loaded}
@@ -26,30 +26,30 @@ use Rattle.log_reclaim.proofs.causes.ScanCauses.{after_clock_all}
 one_kind : (P : StepKind → Type 0) (s : Step) → P s.kind → All (λ (x : Step). P x.kind) (s ∷ [])
 one_kind P s p = All-cons (λ (x : Step). P x.kind) s [] p (All-nil (λ (x : Step). P x.kind))
 
-module _ (c : Config) (v w : View) (found : ℕ) (is : w ≡ grace_loaded c v found) where
+module _ (c : Config) (v w : Knowledge) (found : ℕ) (is : w ≡ grace_loaded c v found) where
   pub grace_makes : MayLoadLow v → (v.walk ≡ Nowhere) × (v.back ≡ None) → Makes v w (grace_load c found ∷ [])
   grace_makes may still = record {
     reclaims = reclaims_outside v w (grace_load c found ∷ []) may still
-        (ap (λ (x : View). record x { past = w.past; clocks = w.clocks; empty = w.empty; ring = w.ring; grace = w.grace; trail = w.trail }) is)
-        ([], ap (λ (x : View). x.past.seen) is ∙ sym (append-nil v.past.seen))
-        (ap (λ (x : View). x.past.mine) is)
-        (let e : w.grace ≡ max v.grace found = ap (λ (x : View). x.grace) is in omega arith)
-        (ap (λ (x : View). x.trail) is)
+        (ap (λ (x : Knowledge). record x { past = w.past; clocks = w.clocks; empty = w.empty; ring = w.ring; grace = w.grace; trail = w.trail }) is)
+        ([], ap (λ (x : Knowledge). x.past.seen) is ∙ sym (append-nil v.past.seen))
+        (ap (λ (x : Knowledge). x.past.mine) is)
+        (let e : w.grace ≡ max v.grace found = ap (λ (x : Knowledge). x.grace) is in omega arith)
+        (ap (λ (x : Knowledge). x.trail) is)
         (one_kind IsReclaimKind (grace_load c found) tt);
-    rests = ap (λ (x : View). x.past.rests) is;
+    rests = ap (λ (x : Knowledge). x.past.rests) is;
     kinds = one_kind IsOtherKind (grace_load c found) tt;
   }
 
   pub grace_may : MayLoadLow v → MayLoadLow w
-  grace_may may = record { outside = ap (λ (x : View). x.phase) is ∙ may.outside; no_scan = ap (λ (x : View). x.scan) is ∙ may.no_scan }
+  grace_may may = record { outside = ap (λ (x : Knowledge). x.phase) is ∙ may.outside; no_scan = ap (λ (x : Knowledge). x.scan) is ∙ may.no_scan }
 
   pub grace_stands : (l : Noted) → Stands c v l → Stands c w l
   grace_stands l k =
-      stands_left c v w l k (ap (λ (x : View). x.number) is) (ap (λ (x : View). x.ring) is) (ap (λ (x : View). x.past.mine) is)
-      (ap (λ (x : View). x.past.rests) is) (grace_load c found ∷ []) (ap (λ (x : View). x.trail) is)
+      stands_left c v w l k (ap (λ (x : Knowledge). x.number) is) (ap (λ (x : Knowledge). x.ring) is) (ap (λ (x : Knowledge). x.past.mine) is)
+      (ap (λ (x : Knowledge). x.past.rests) is) (grace_load c found ∷ []) (ap (λ (x : Knowledge). x.trail) is)
       (one_kind LeavesLog (grace_load c found) (refl, refl))
 
-module _ (c : Config) (v w : View) (mark : Watermark) (clock before after : ℕ) (k : Scans c v w mark clock before after) where
+module _ (c : Config) (v w : Knowledge) (mark : Watermark) (clock before after : ℕ) (k : Scans c v w mark clock before after) where
   -- the steps of the scan
   abbrev pub steps_of : List Step
   steps_of = scan_steps c v.number k.word k.marks mark.low k.found
@@ -66,7 +66,7 @@ module _ (c : Config) (v w : View) (mark : Watermark) (clock before after : ℕ)
   scan_plain = steps_all IsPlainKind tt tt tt
 
   seen_is : w.past.seen ≡ k.h
-  seen_is = ap (λ (x : View). x.past.seen) k.view
+  seen_is = ap (λ (x : Knowledge). x.past.seen) k.view
 
   scan_seen : BeginsWith w.past.seen v.past.seen
   scan_seen = subst (λ (h : List Entry). BeginsWith h v.past.seen) (sym seen_is) k.whole.0
@@ -76,48 +76,49 @@ module _ (c : Config) (v w : View) (mark : Watermark) (clock before after : ℕ)
   scan_clock_is from =
       let long = k.whole.1 in
       let is = k.clock_is in
-      let base : w.base ≡ v.base = ap (λ (x : View). x.base) k.view in
+      let base : w.base ≡ v.base = ap (λ (x : Knowledge). x.base) k.view in
       let seen : length w.past.seen ≡ length k.h = ap length seen_is in
       omega arith
 
   pub scan_later : v.base ≡ c.base → v.base + length v.past.seen ≤ clock
   scan_later from =
       let e = scan_clock_is from in
-      let base : w.base ≡ v.base = ap (λ (x : View). x.base) k.view in let more = begins_long w.past.seen v.past.seen scan_seen in omega arith
+      let base : w.base ≡ v.base = ap (λ (x : Knowledge). x.base) k.view in let more = begins_long w.past.seen v.past.seen scan_seen in omega arith
 
   pub scan_reclaims : MayLoadLow v → (v.walk ≡ Nowhere) × (v.back ≡ None) → Reclaims v w steps_of
   scan_reclaims may still =
       let is = k.view in record {
-        outside = ap (λ (x : View). x.phase) is ∙ may.outside;
-        no_scan = ap (λ (x : View). x.scan) is;
+        outside = ap (λ (x : Knowledge). x.phase) is ∙ may.outside;
+        no_scan = ap (λ (x : Knowledge). x.scan) is;
         seen = scan_seen;
-        mine = ap (λ (x : View). x.past.mine) is;
-        grace = (let e : w.grace ≡ max (max v.grace mark.low) k.found = ap (λ (x : View). x.grace) is in omega arith);
-        trail = ap (λ (x : View). x.trail) is;
+        mine = ap (λ (x : Knowledge). x.past.mine) is;
+        grace = (let e : w.grace ≡ max (max v.grace mark.low) k.found = ap (λ (x : Knowledge). x.grace) is in omega arith);
+        trail = ap (λ (x : Knowledge). x.trail) is;
         kinds = steps_all IsReclaimKind tt tt tt;
         rest = is
             ∙ (λ i. record v {
-              past = sym (ap (λ (x : View). x.past) is) i;
+              past = sym (ap (λ (x : Knowledge). x.past) is) i;
               phase = may.outside i;
-              clocks = sym (ap (λ (x : View). x.clocks) is) i;
+              clocks = sym (ap (λ (x : Knowledge). x.clocks) is) i;
               walk = still.0 i;
-              empty = sym (ap (λ (x : View). x.empty) is) i;
-              ring = sym (ap (λ (x : View). x.ring) is) i;
+              empty = sym (ap (λ (x : Knowledge). x.empty) is) i;
+              ring = sym (ap (λ (x : Knowledge). x.ring) is) i;
               back = still.1 i;
               scan = None;
-              grace = sym (ap (λ (x : View). x.grace) is) i;
-              trail = sym (ap (λ (x : View). x.trail) is) i;
+              grace = sym (ap (λ (x : Knowledge). x.grace) is) i;
+              trail = sym (ap (λ (x : Knowledge). x.trail) is) i;
             });
       }
 
   pub scan_rests : w.past.rests ≡ v.past.rests
-  scan_rests = ap (λ (x : View). x.past.rests) k.view
+  scan_rests = ap (λ (x : Knowledge). x.past.rests) k.view
 
   pub scan_stands : (l : Noted) → Stands c v l → Stands c w l
   scan_stands l s =
       let is = k.view in
-      stands_left c v w l s (ap (λ (x : View). x.number) is) (ap (λ (x : View). x.ring) is) (ap (λ (x : View). x.past.mine) is) scan_rests steps_of
-      (ap (λ (x : View). x.trail) is) (steps_all LeavesLog (refl, refl) (refl, refl) (refl, refl))
+      stands_left c v w l s (ap (λ (x : Knowledge). x.number) is) (ap (λ (x : Knowledge). x.ring) is)
+      (ap (λ (x : Knowledge). x.past.mine) is) scan_rests steps_of
+      (ap (λ (x : Knowledge). x.trail) is) (steps_all LeavesLog (refl, refl) (refl, refl) (refl, refl))
 
   pub scan_shown : HasScanned c v.number steps_of mark clock
   scan_shown = record {

@@ -4,7 +4,7 @@ use Rattle.std.proofs.lemmas.List.Elements.{All-append}
 use Rattle.mv_history.specs.State.{State, Writes, maker_of}
 use Rattle.mv_history.specs.declared.Step.{Step}
 use Rattle.mv_layout.specs.declared.Config.{Config}
-use Rattle.seat_log.specs.mv_core.declared.view.View.{View}
+use Rattle.seat_log.specs.mv_core.declared.view.Knowledge.{Knowledge}
 use Rattle.seat_log.specs.mv_core.Known.{Known}
 use Rattle.seat_log.specs.mv_core.EnterSteps.{MayLoadLow}
 use Rattle.seat_log.specs.reader_marks.declared.scanning.Watermark.{Watermark}
@@ -15,7 +15,7 @@ use Rattle.seat_log.specs.Stands.{Stands}
 use Rattle.seat_log.specs.Frees.{freed_noted}
 use Rattle.seat_log.proofs.Places.{get_dropped}
 use Rattle.seat_log.proofs.Places.{get_within}
-use Rattle.log_reclaim.specs.declared.settling.Found.{Found}
+use Rattle.log_reclaim.specs.declared.settling.HeadHolders.{HeadHolders}
 use Rattle.log_reclaim.specs.Parts.{IsOtherKind, IsPlainKind, LeavesClock, Reclaims, DiesFrom, Shrinks}
 use Rattle.log_reclaim.specs.Untimed.{StaysUntimed, DatedSo}
 use Rattle.log_reclaim.specs.Tries.{MaySettle}
@@ -36,7 +36,8 @@ use Rattle.log_reclaim.proofs.FreedAll.{free_kind}
 pub left_at : (m n : Noted) (k i : ℕ) (e : Note) → n ≡ freed_noted m k → IsNoteAt n i e → IsNoteAt m (k + i) e
 left_at m n k i e is at = sym (get_dropped k i m.live) ∙ ap (λ (y : Noted). slice_get y.live i) (sym is) ∙ at
 
-module _ (starts : State → Type 0) (allows : List ℕ → State → Writes → Type 0) (c : Config) (v u : View) (l : Noted) (mark : Watermark) (clock before after : ℕ)
+module _ (starts : State → Type 0) (allows : List ℕ → State → Writes → Type 0) (c : Config) (v u : Knowledge) (l : Noted) (mark : Watermark)
+    (clock before after : ℕ)
     (base : v.base ≡ c.base) (may : MayLoadLow v) (stands : Stands c v l) (known : ∥ Known starts allows v ∥₁)
     (scans : Scans c v u mark clock before after) where
   abbrev steps : List Step
@@ -62,7 +63,7 @@ module _ (starts : State → Type 0) (allows : List ℕ → State → Writes →
         early = not_late;
       }
 
-  module _ (x w : View) (m n : Noted) (made more : List Step) (back : Bool) (found : Found) (top freed : ℕ) (is_known : IsKnown u mark)
+  module _ (x w : Knowledge) (m n : Noted) (made more : List Step) (back : Bool) (found : HeadHolders) (top freed : ℕ) (is_known : IsKnown u mark)
       (settles : Settles c u x l m made mark clock back found top (length l.live)) (frees : FreesAll x w m n more mark.time freed) where
     abbrev all : List Step
     all = steps ++ (made ++ more)

@@ -2,13 +2,14 @@
 use Rattle.std.proofs.Common.{List, ◌++◌, Bool, inl, inr, ⊎_elim}
 use Rattle.mv_history.specs.declared.Step.{Step}
 use Rattle.mv_layout.specs.declared.Config.{Config}
-use Rattle.seat_log.specs.mv_core.declared.view.View.{View}
+use Rattle.seat_log.specs.mv_core.declared.view.Knowledge.{Knowledge}
 use Rattle.seat_log.specs.Notes.{Noted}
 use Rattle.log_reclaim.specs.Rounds.{SweptSo}
 use Rattle.log_reclaim.proofs.MoreSteps.{scanned_then}
 use Rattle.log_reclaim.proofs.Untimed.{untimed_then}
 
-pub swept_then : (c : Config) (w : View) (l : Noted) (before made : List Step) (back : Bool) → SweptSo c w l made back → SweptSo c w l (before ++ made) back
+pub swept_then : (c : Config) (w : Knowledge) (l : Noted) (before made : List Step) (back : Bool) → SweptSo c w l made back
+    → SweptSo c w l (before ++ made) back
 swept_then c w l before made back swept =
     ⊎_elim inl
     (λ k.

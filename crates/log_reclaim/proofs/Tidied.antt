@@ -6,14 +6,14 @@ use Rattle.mv_history.specs.Trail.{clock_exchanges}
 use Rattle.mv_history.specs.declared.Step.{Step}
 use Rattle.mv_history.specs.declared.answers.Holder.{Holder}
 use Rattle.mv_layout.specs.declared.Config.{Config}
-use Rattle.seat_log.specs.mv_core.declared.view.View.{View}
+use Rattle.seat_log.specs.mv_core.declared.view.Knowledge.{Knowledge}
 use Rattle.seat_log.specs.mv_core.Known.{Known}
 use Rattle.seat_log.specs.commit_clock.Hears.{Hears}
 use Rattle.seat_log.proofs.commit_clock_lemmas.Hearing.{hears_one, hears_on}
 use Rattle.seat_log.specs.Notes.{Noted}
 use Rattle.seat_log.specs.Stands.{Stands}
-use Rattle.log_reclaim.specs.declared.settling.Found.{Found}
-use Rattle.log_reclaim.specs.declared.rounds.Scanned.{Scanned}
+use Rattle.log_reclaim.specs.declared.settling.HeadHolders.{HeadHolders}
+use Rattle.log_reclaim.specs.declared.rounds.RoundScan.{RoundScan}
 use Rattle.log_reclaim.specs.Parts.{Reclaims, Shrinks, grace_load}
 use Rattle.log_reclaim.specs.Tries.{Makes}
 use Rattle.log_reclaim.specs.Sweeps.{HasEntries, Sweeps, SweepsAll, SweepsSo}
@@ -34,21 +34,21 @@ use Rattle.log_reclaim.proofs.rests.Heard.{heard_freed}
 pub none_held : {A : Type 0} (holder : Holder) → ◌≡◌ {A = Option Holder} None (Some holder) → A
 none_held holder e = absurd (cc)
 
-pub held_by_none : (o : Noted) (first : Scanned) (last : Option Scanned) (found : Found) (held : Option Holder) → last ≡ None → held ≡ None
+pub held_by_none : (o : Noted) (first : RoundScan) (last : Option RoundScan) (found : HeadHolders) (held : Option Holder) → last ≡ None → held ≡ None
     → HeldBy o first last found held
 held_by_none o first None found held none is = is
 held_by_none o first (Some last) found held none is = absurd cc
 
-pub held_by_some : (o : Noted) (first : Scanned) (last : Option Scanned) (found : Found) (held answer : Option Holder) (two : Scanned)
+pub held_by_some : (o : Noted) (first : RoundScan) (last : Option RoundScan) (found : HeadHolders) (held answer : Option Holder) (two : RoundScan)
     → last ≡ Some two → held ≡ answer → IsHolder o first two true found answer → HeldBy o first last found held
 held_by_some o first last found held answer two also is_held h =
-    subst (λ (p : Option Scanned). HeldBy o first p found held) (sym also) (subst (IsHolder o first two true found) (sym is_held) h)
+    subst (λ (p : Option RoundScan). HeldBy o first p found held) (sym also) (subst (IsHolder o first two true found) (sym is_held) h)
 
 pub no_notes : {X : Type 0} (xs : List X) → length xs ≡ 0 → xs ≡ []
 no_notes [] e = refl
 no_notes (x ∷ xs) e = absurd (omega arith)
 
-shrinks_of : (c : Config) (v w : View) (l m : Noted) (made : List Step) (back : Bool) (found : Found) (freed : ℕ) (scanned : Option Scanned)
+shrinks_of : (c : Config) (v w : Knowledge) (l m : Noted) (made : List Step) (back : Bool) (found : HeadHolders) (freed : ℕ) (scanned : Option RoundScan)
     → SweepsSo c v w l m made back found freed scanned → Shrinks l m freed
 shrinks_of c v w l m made back found freed None k = k.shrinks
 shrinks_of c v w l m made back found freed (Some scanned) k = k.shrinks
@@ -64,7 +64,8 @@ shrinks_rested l m o more is k =
     }
 
 -- and the table of what the first scan found has an entry for each version that is left
-pub table_left : (c : Config) (v w : View) (l m o : Noted) (made : List Step) (back : Bool) (found other : Found) (freed : ℕ) (scanned : Option Scanned)
+pub table_left : (c : Config) (v w : Knowledge) (l m o : Noted) (made : List Step) (back : Bool) (found other : HeadHolders) (freed : ℕ)
+    (scanned : Option RoundScan)
     → HasEntries l found → m ≡ record l { rests = m.rests } → SweepsSo c v w m o made back other freed scanned → HasEntries o found
 table_left c v w l m o made back found other freed scanned table rested sweeps =
     let k = shrinks_of c v w m o made back other freed scanned sweeps in
@@ -77,21 +78,21 @@ table_left c v w l m o made back found other freed scanned table rested sweeps =
     (omega arith, omega arith, table.2)
 
 -- each of the two rounds leaves the rests as they were, and between them is at most one
-rests_of : (c : Config) (v w : View) (l m : Noted) (made : List Step) (back : Bool) (found : Found) (freed : ℕ) (scanned : Option Scanned)
+rests_of : (c : Config) (v w : Knowledge) (l m : Noted) (made : List Step) (back : Bool) (found : HeadHolders) (freed : ℕ) (scanned : Option RoundScan)
     → SweepsSo c v w l m made back found freed scanned → w.past.rests ≡ v.past.rests
 rests_of c v w l m made back found freed None k = k.rests
 rests_of c v w l m made back found freed (Some scanned) k = k.rests
 
 -- a tidy of which the first frees left something, by its parts
-module _ (starts : State → Type 0) (allows : List ℕ → State → Writes → Type 0) (c : Config) (v u x w : View) (k l m o : Noted)
-    (made rested later : List Step) (first : Scanned) (found unused : Found) (freed more : ℕ) (sweep : Sweeps c v u k l made true first found freed)
+module _ (starts : State → Type 0) (allows : List ℕ → State → Writes → Type 0) (c : Config) (v u x w : Knowledge) (k l m o : Noted)
+    (made rested later : List Step) (first : RoundScan) (found unused : HeadHolders) (freed more : ℕ) (sweep : Sweeps c v u k l made true first found freed)
     (rest : RestsSo c u x l m rested first.latest) (stands : Stands c v k) (stands_x : Stands c x m) (stands_w : Stands c w o)
     (known : ∥ Known starts allows v ∥₁) (known_x : ∥ Known starts allows x ∥₁) (known_w : ∥ Known starts allows w ∥₁) where
   frees_scanned : FreesBeforeScan c k made (Some first) → FreesFirst c k (made ++ rested ++ later) true
   frees_scanned one =
       subst (λ (s : List Step). FreesFirst c k s true) (sym (append_assoc made rested later)) (frees_longer c k made (rested ++ later) true one.0 one.1)
 
-  by_parts : Hears v u first.latest → (last : Option Scanned) → SweepsSo c x w m o later false unused more last → FreesBeforeScan c k made (Some first)
+  by_parts : Hears v u first.latest → (last : Option RoundScan) → SweepsSo c x w m o later false unused more last → FreesBeforeScan c k made (Some first)
       → (held : Option Holder) → HeldBy o first last found held
       → (steps : List Step) × Reclaims v w steps × SweptSo c w o steps false × HeldSo (TidyHolds c w o steps) o held × (length (clock_exchanges steps) ≤ 1)
       × WritesBackSo c w o steps × FreesFirst c k steps true × RestsWhereDue c w k steps
@@ -120,7 +121,7 @@ module _ (starts : State → Type 0) (allows : List ℕ → State → Writes →
         tidy_due c v u x w k l m made rested later first found freed sweep hears rest again.reclaims (none_exchanged later again.leaves),
       )
 
-  none_left : (last : Option Scanned) → SweepsSo c x w m o later false unused more last → v.number < c.seats → c.seats ≡ 1
+  none_left : (last : Option RoundScan) → SweepsSo c x w m o later false unused more last → v.number < c.seats → c.seats ≡ 1
       → v.base + length v.past.seen < 35184372088831 → o.live ≡ []
   none_left None again mine one early = no_notes o.live again.empty
   none_left (Some last) again mine one early =
@@ -128,7 +129,7 @@ module _ (starts : State → Type 0) (allows : List ℕ → State → Writes →
       (none_alive c one starts allows v u x w k l m o made rested later first last found unused freed more sweep rest again stands known mine early)
 
 -- a tidy of which the first frees left something
-module _ (starts : State → Type 0) (allows : List ℕ → State → Writes → Type 0) (c : Config) (v w : View) (l m : Noted) (freed : ℕ)
+module _ (starts : State → Type 0) (allows : List ℕ → State → Writes → Type 0) (c : Config) (v w : Knowledge) (l m : Noted) (freed : ℕ)
     (held : Option Holder) (t : TidiesLeft starts allows c v w l m freed held) where
   pub left_rests : RestsOnce v w
   left_rests =
@@ -157,7 +158,7 @@ module _ (starts : State → Type 0) (allows : List ℕ → State → Writes →
         t.first_freed t.last_freed t.scan t.rest stands t.stands stands_w known t.known known_w t.last t.again
 
 -- the same, counted from the load of GRACE and the frees that it allowed
-module _ (starts : State → Type 0) (allows : List ℕ → State → Writes → Type 0) (c : Config) (v g x w : View) (l k m : Noted) (made : List Step)
+module _ (starts : State → Type 0) (allows : List ℕ → State → Writes → Type 0) (c : Config) (v g x w : Knowledge) (l k m : Noted) (made : List Step)
     (time freed more : ℕ) (held : Option Holder) (load : Makes v g (grace_load c time ∷ [])) (frees : FreesAll g x l k made time freed)
     (t : TidiesLeft starts allows c x w k m more held) where
   -- the load of GRACE finds no time of CLOCK
@@ -196,7 +197,7 @@ module _ (starts : State → Type 0) (allows : List ℕ → State → Writes →
   left_begins some = frees_then c g x l k made time freed frees t.scan_steps t.first some
 
 -- a tidy whose first frees left nothing
-module _ (c : Config) (v w : View) (l m : Noted) (made : List Step) (freed : ℕ) (sweep : SweepsAll c v w l m made freed) where
+module _ (c : Config) (v w : Knowledge) (l m : Noted) (made : List Step) (freed : ℕ) (sweep : SweepsAll c v w l m made freed) where
   pub emptied : FreesFirst c l made true → (held : Option Holder) → held ≡ None
       → (steps : List Step) × Reclaims v w steps × SweptSo c w m steps false × HeldSo (TidyHolds c w m steps) m held × (length (clock_exchanges steps) ≤ 1)
       × WritesBackSo c w m steps × FreesFirst c l steps true × RestsWhereDue c w l steps

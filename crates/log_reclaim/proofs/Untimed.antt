@@ -4,7 +4,7 @@ use Rattle.std.proofs.Common.{⊎_elim, arith, append_assoc, Option, Some, None,
 use Rattle.std.proofs.lemmas.List.Elements.{Contains-append_left, Contains-append_right}
 use Rattle.mv_history.specs.declared.Step.{Step}
 use Rattle.mv_layout.specs.declared.Config.{Config}
-use Rattle.seat_log.specs.mv_core.declared.view.View.{View}
+use Rattle.seat_log.specs.mv_core.declared.view.Knowledge.{Knowledge}
 use Rattle.seat_log.specs.mv_core.Times.{latest, latest_at}
 use Rattle.seat_log.proofs.mv_core_lemmas.history.Fronts.{latest_at-more, latest-more}
 use Rattle.seat_log.specs.reader_marks.declared.scanning.Watermark.{Watermark}
@@ -39,7 +39,7 @@ times_then made more dead t =
     }
 
 -- a step that found a newer version in HEAD did so also when more steps were made
-newer_on : (c : Config) (u w : View) (more : List Step) (r : Reclaims u w more) (n : Note) (seat : ℕ) (s : Step) → FindsNewer c u n seat s
+newer_on : (c : Config) (u w : Knowledge) (more : List Step) (r : Reclaims u w more) (n : Note) (seat : ℕ) (s : Step) → FindsNewer c u n seat s
     → FindsNewer c w n seat s
 newer_on c u w more r n seat s f = record {
   top = record {
@@ -54,7 +54,7 @@ newer_on c u w more r n seat s f = record {
 }
 
 -- and so are those that find a newer version in HEAD
-pub above_first : (c : Config) (u w : View) (made more : List Step) (r : Reclaims u w more) (n : Note) (seat : ℕ) → FindsAbove c u made n seat
+pub above_first : (c : Config) (u w : Knowledge) (made more : List Step) (r : Reclaims u w more) (n : Note) (seat : ℕ) → FindsAbove c u made n seat
     → FindsAbove c w (made ++ more) n seat
 above_first c u w made more r n seat a = record {
   not_own = λ e. a.not_own (e ∙ reclaims_number u w more r);
@@ -68,7 +68,7 @@ above_first c u w made more r n seat a = record {
   finds = newer_on c u w more r n seat a.step a.finds;
 }
 
-pub above_then : (c : Config) (w : View) (made more : List Step) (n : Note) (seat : ℕ) → FindsAbove c w more n seat → FindsAbove c w (made ++ more) n seat
+pub above_then : (c : Config) (w : Knowledge) (made more : List Step) (n : Note) (seat : ℕ) → FindsAbove c w more n seat → FindsAbove c w (made ++ more) n seat
 above_then c w made more n seat a = record {
   not_own = a.not_own;
   in_range = a.in_range;
@@ -81,7 +81,7 @@ above_then c w made more n seat a = record {
 }
 
 -- more steps are made after these, and more is seen
-module _ (c : Config) (u w : View) (made more : List Step) (r : Reclaims u w more) where
+module _ (c : Config) (u w : Knowledge) (made more : List Step) (r : Reclaims u w more) where
   module _ (mark : Watermark) (clock : ℕ) (n : Note) where
     tried_on : (above : Option ℕ) → TriedSo c u made mark clock n above → TriedSo c w (made ++ more) mark clock n above
     tried_on None t =
@@ -127,7 +127,7 @@ module _ (c : Config) (u w : View) (made more : List Step) (r : Reclaims u w mor
       d
 
 -- other steps were made before these
-module _ (c : Config) (w : View) (made more : List Step) (mark : Watermark) (clock : ℕ) (n : Note) where
+module _ (c : Config) (w : Knowledge) (made more : List Step) (mark : Watermark) (clock : ℕ) (n : Note) where
   tried_then : (above : Option ℕ) → TriedSo c w more mark clock n above → TriedSo c w (made ++ more) mark clock n above
   tried_then None t = t
   tried_then (Some seat) a = above_then c w made more n seat a
@@ -140,7 +140,7 @@ module _ (c : Config) (w : View) (made more : List Step) (mark : Watermark) (clo
     tried = λ b. tried_then above (d.tried b);
   }
 
-pub dated_then : (c : Config) (w : View) (made more : List Step) (most top : ℕ) (back : Bool) (old n : Note) → most ≤ top
+pub dated_then : (c : Config) (w : Knowledge) (made more : List Step) (most top : ℕ) (back : Bool) (old n : Note) → most ≤ top
     → DatedSo c w more most back old n → DatedSo c w (made ++ more) top back old n
 dated_then c w made more most top back old n le d =
     ⊎_elim inl

@@ -5,11 +5,11 @@ use Rattle.mv_layout.specs.declared.Config.{Config}
 use Rattle.mv_layout.specs.Words.{clock_time_of, link_of, link_seat_of}
 use Rattle.seat_log.specs.mv_core.declared.ring.Slot.TheVariants.{Live}
 use Rattle.seat_log.specs.mv_core.declared.ring.Version.{Version}
-use Rattle.seat_log.specs.mv_core.declared.ring.Status.TheVariants.{Committed}
+use Rattle.seat_log.specs.mv_core.declared.ring.WriteSetStatus.TheVariants.{Committed}
 use Rattle.seat_log.specs.mv_core.declared.ring.CommitNote.{CommitNote}
-use Rattle.seat_log.specs.mv_core.declared.view.View.{View}
+use Rattle.seat_log.specs.mv_core.declared.view.Knowledge.{Knowledge}
 use Rattle.seat_log.specs.mv_core.declared.view.Phase.TheVariants.{Inside}
-use Rattle.seat_log.specs.mv_core.declared.view.Section.{Section}
+use Rattle.seat_log.specs.mv_core.declared.view.OwnSection.{OwnSection}
 use Rattle.seat_log.specs.mv_core.declared.view.Mode.TheVariants.{Open}
 use Rattle.seat_log.specs.mv_core.Rings.{slot_at, index_of, HoldsNothing}
 use Rattle.seat_log.specs.mv_core.SectionFacts.{IsPastHelp}
@@ -23,7 +23,7 @@ use Rattle.seat_log.specs.reader_marks.Sections.{Begins}
 use Rattle.seat_log.specs.declared.version.Note.{Note}
 use Rattle.seat_log.specs.Notes.{Noted, IsNoteAt, retired, back_noted}
 use Rattle.seat_log.specs.Stands.{Stands}
-use Rattle.log_reclaim.specs.declared.writing_back.Back.{Back}
+use Rattle.log_reclaim.specs.declared.writing_back.StartedWriteBack.{StartedWriteBack}
 use Rattle.log_reclaim.specs.declared.writing_back.NoBack.{NoBack}
 use Rattle.log_reclaim.specs.declared.writing_back.NoBack.TheVariants.{Young, Gone, Above}
 use Rattle.log_reclaim.specs.declared.writing_back.BackEnd.{BackEnd}
@@ -38,8 +38,8 @@ pub record IsCommitted (l : Noted) (position : ℕ) (n : Note) : Type 0 where
 -- The write-back is under way in the view: in an open section past its help that holds nothing, of an own committed version that
 -- has no time of death, wasn't cut, and whose time isn't above the pass's watermark; so many of its words were stored, and its
 -- exchange of HEAD wasn't tried.
-pub record IsWriting (c : Config) (v : View) (back : Back) : Type 0 where
-  pub inside : Section
+pub record IsWriting (c : Config) (v : Knowledge) (back : StartedWriteBack) : Type 0 where
+  pub inside : OwnSection
   pub phase : v.phase ≡ Inside inside
   pub open_is : inside.mode ≡ Open
   pub past_help : IsPastHelp v.clocks inside
@@ -59,8 +59,8 @@ pub record IsWriting (c : Config) (v : View) (back : Back) : Type 0 where
   pub goes : GoesToWord v back.object back.stored back.position version note
 
 -- a section was entered, and HEAD of the object then had this link; where that is of another seat, it names a newer version of the object
-pub record HasLooked (c : Config) (v w : View) (object link : ℕ) : Type 0 where
-  pub entered : View
+pub record HasLooked (c : Config) (v w : Knowledge) (object link : ℕ) : Type 0 where
+  pub entered : Knowledge
   pub time : ℕ
   pub begins : Begins c v entered time
   pub looked : w ≡ head_loaded c entered begins.inside object link
@@ -68,9 +68,9 @@ pub record HasLooked (c : Config) (v w : View) (object link : ℕ) : Type 0 wher
   pub newer : IsNewer c entered object link
 
 -- HEAD of the object had another link than that of the version of the note, and the section was left
-pub record LeavesAt (c : Config) (v w : View) (n : Note) (link : ℕ) : Type 0 where
+pub record LeavesAt (c : Config) (v w : Knowledge) (n : Note) (link : ℕ) : Type 0 where
   pub other : link ≢ link_of v.number n.position
-  pub inside : View
+  pub inside : Knowledge
   pub looked : HasLooked c v inside n.object link
   pub left : w ≡ mark_cleared c inside
 
@@ -83,14 +83,14 @@ pub record HasLater (l : Noted) (n : Note) : Type 0 where
   pub later : n.time < other.time
 
 -- the link names a version of this seat, and where that is the own one, the log has a later commit of the object
-pub record NamesSeat (c : Config) (v : View) (l : Noted) (n : Note) (seat link : ℕ) : Type 0 where
+pub record NamesSeat (c : Config) (v : Knowledge) (l : Noted) (n : Note) (seat link : ℕ) : Type 0 where
   pub some : link ≢ 0
   pub seat_is : link_seat_of link ≡ seat
   pub in_range : seat < c.seats
   pub own : seat ≡ v.number → HasLater l n
 
 -- what starting a write-back of the version of a note answers
-abbrev pub StartsSo : Config → View → View → Noted → Note → Watermark → ℕ → ℕ → Result Back NoBack → Type 0
+abbrev pub StartsSo : Config → Knowledge → Knowledge → Noted → Note → Watermark → ℕ → ℕ → Result StartedWriteBack NoBack → Type 0
 StartsSo c v w l n mark before after (Ok back) =
     (n.time ≤ mark.time) × HasLooked c v w n.object (link_of v.number n.position) × IsWriting c w back
     × (back ≡ record { object = n.object; position = n.position; words = n.words; stored = 0 })
@@ -100,19 +100,19 @@ StartsSo c v w l n mark before after (Err (Above seat)) =
     (n.time ≤ mark.time) × (link : ℕ) × LeavesAt c v w n link × NamesSeat c v l n seat link
 
 -- the next word is stored
-pub record StoresWord (c : Config) (v w : View) (b d : Back) : Type 0 where
+pub record StoresWord (c : Config) (v w : Knowledge) (b d : StartedWriteBack) : Type 0 where
   pub view : w ≡ master_stored c v b.object b.stored (slice_index b.words b.stored) b.position
   pub back : d ≡ record b { stored = b.stored + 1 }
 
 -- the exchange of HEAD was won: the version is cut
-pub record HasCut (c : Config) (v w : View) (back : Back) : Type 0 where
+pub record HasCut (c : Config) (v w : Knowledge) (back : StartedWriteBack) : Type 0 where
   pub version : Version
   pub note : CommitNote
   pub own : slot_at v.ring (index_of c back.position) ≡ Live version (Committed note)
   pub view : w ≡ head_cut c v back.object back.position version note
 
 -- it found another link, of another seat, which names a newer version of the object
-pub record HasLostTo (c : Config) (v w : View) (back : Back) (seat : ℕ) : Type 0 where
+pub record HasLostTo (c : Config) (v w : Knowledge) (back : StartedWriteBack) (seat : ℕ) : Type 0 where
   pub link : ℕ
   pub some : link ≢ 0
   pub other : link ≢ link_of v.number back.position
@@ -123,12 +123,12 @@ pub record HasLostTo (c : Config) (v w : View) (back : Back) (seat : ℕ) : Type
   pub view : w ≡ cut_lost c v back.object back.position link
 
 -- how it went
-abbrev pub CutsSo : Config → View → View → Back → BackEnd → Type 0
+abbrev pub CutsSo : Config → Knowledge → Knowledge → StartedWriteBack → BackEnd → Type 0
 CutsSo c v w back end.Cut = HasCut c v w back
 CutsSo c v w back (end.Above seat) = HasLostTo c v w back seat
 
 -- CLOCK was loaded, and had this time
-pub record FindsDeath (c : Config) (v w : View) (time : ℕ) : Type 0 where
+pub record FindsDeath (c : Config) (v w : Knowledge) (time : ℕ) : Type 0 where
   pub word : ℕ
   pub history : List Entry
   pub whole : IsWhole c v word history
@@ -136,15 +136,15 @@ pub record FindsDeath (c : Config) (v w : View) (time : ℕ) : Type 0 where
   pub time_is : time ≡ clock_time_of word
 
 -- The write-back that the view `from` had stored the words of has cut its chain, and found this time in CLOCK since; the log stood for `from`.
-pub record HasTimed (c : Config) (from v : View) (l : Noted) (back : Back) (time : ℕ) : Type 0 where
+pub record HasTimed (c : Config) (from v : Knowledge) (l : Noted) (back : StartedWriteBack) (time : ℕ) : Type 0 where
   pub stands : Stands c from l
   pub writing : IsWriting c from back
-  pub cut_view : View
+  pub cut_view : Knowledge
   pub cut : HasCut c from cut_view back
   pub death : FindsDeath c cut_view v time
 
 -- the exchange was won: the version is cut, and dead from the time after that of the clock, and the section was left
-pub record IsCut (c : Config) (v w : View) (l m : Noted) (back : Back) : Type 0 where
+pub record IsCut (c : Config) (v w : Knowledge) (l m : Noted) (back : StartedWriteBack) : Type 0 where
   pub version : Version
   pub note : CommitNote
   pub own : slot_at v.ring (index_of c back.position) ≡ Live version (Committed note)
@@ -155,11 +155,11 @@ pub record IsCut (c : Config) (v w : View) (l m : Noted) (back : Back) : Type 0 
   pub log : m ≡ back_noted (retired l back.position (clock_time_of word + 1))
 
 -- the same, where the clock's time was this
-abbrev pub IsCutAt : Config → View → View → Noted → Noted → Back → ℕ → Type 0
+abbrev pub IsCutAt : Config → Knowledge → Knowledge → Noted → Noted → StartedWriteBack → ℕ → Type 0
 IsCutAt c v w l m back time = (cut : IsCut c v w l m back) × (clock_time_of cut.word ≡ time)
 
 -- the exchange found another link, of another seat, which names a newer version of the object, and the section was left
-pub record IsUncut (c : Config) (v w : View) (l m : Noted) (back : Back) (seat : ℕ) : Type 0 where
+pub record IsUncut (c : Config) (v w : Knowledge) (l m : Noted) (back : StartedWriteBack) (seat : ℕ) : Type 0 where
   pub link : ℕ
   pub some : link ≢ 0
   pub other : link ≢ link_of v.number back.position
@@ -171,6 +171,6 @@ pub record IsUncut (c : Config) (v w : View) (l m : Noted) (back : Back) (seat :
   pub log : m ≡ l
 
 -- how a write-back ends
-abbrev pub FinishesSo : Config → View → View → Noted → Noted → Back → BackEnd → Type 0
+abbrev pub FinishesSo : Config → Knowledge → Knowledge → Noted → Noted → StartedWriteBack → BackEnd → Type 0
 FinishesSo c v w l m back end.Cut = IsCut c v w l m back
 FinishesSo c v w l m back (end.Above seat) = IsUncut c v w l m back seat

@@ -5,12 +5,12 @@ use Rattle.mv_history.specs.declared.StepKind.{StepKind}
 use Rattle.mv_history.specs.declared.StepKind.TheVariants.{LoadScan, LoadMark, RaiseGrace, LoadGrace, StoreFree, LoadHead, CutHead, LoadSuper}
 use Rattle.mv_history.specs.declared.StepKind.TheVariants.{LockHead, UnlockHead, LoadDeath, NameCommit, NameRest}
 use Rattle.mv_layout.specs.declared.Config.{Config}
-use Rattle.mv_layout.specs.declared.Place.TheVariants.{Grace, Head, Super}
+use Rattle.mv_layout.specs.declared.SharedWord.TheVariants.{Grace, Head, Super}
 use Rattle.mv_layout.specs.Places.{place_of}
 use Rattle.mv_layout.specs.Words.{clock_time_of, link_seat_of}
-use Rattle.seat_log.specs.mv_core.declared.view.View.{View}
+use Rattle.seat_log.specs.mv_core.declared.view.Knowledge.{Knowledge}
 use Rattle.seat_log.specs.mv_core.declared.view.Phase.TheVariants.{Outside}
-use Rattle.seat_log.specs.mv_core.declared.view.Walk.TheVariants.{Nowhere}
+use Rattle.seat_log.specs.mv_core.declared.view.WalkStage.TheVariants.{Nowhere}
 use Rattle.seat_log.specs.mv_core.Rings.{index_of}
 use Rattle.seat_log.specs.mv_core.HistoryFacts.{BeginsWith}
 use Rattle.seat_log.specs.mv_core.Chains.{IsLater}
@@ -62,7 +62,7 @@ IsPlain back made = back ≡ false → All (λ s. IsPlainKind s.kind) made
 -- The pass is outside a section, as before, with no scan running. What was seen is only longer, the own commits are as before,
 -- the watermark isn't lower, and the trail is longer by these steps; nothing else has changed but the rests, the clock words
 -- heard, the HEADs found empty and the own log.
-pub record Reclaims (v w : View) (made : List Step) : Type 0 where
+pub record Reclaims (v w : Knowledge) (made : List Step) : Type 0 where
   pub outside : w.phase ≡ Outside
   pub no_scan : w.scan ≡ None
   pub seen : BeginsWith w.past.seen v.past.seen
@@ -123,21 +123,21 @@ pub record FindsSeat (c : Config) (object seat : ℕ) (s : Step) : Type 0 where
 
 -- The step found HEAD of the object naming a version of this seat. By its trail the seat that made it had this view just before; in
 -- a state of the rule with that view the version is the newest of the object.
-pub record FindsTop (c : Config) (w : View) (object seat : ℕ) (s : Step) : Type 0 where
+pub record FindsTop (c : Config) (w : Knowledge) (object seat : ℕ) (s : Step) : Type 0 where
   pub finds : FindsSeat c object seat s
-  pub view : View
+  pub view : Knowledge
   pub number : view.number ≡ w.number
   pub after : List Step
   pub trail : w.trail ≡ view.trail ++ s ∷ after
   pub names : NamesNewer c view object finds.link
 
 -- the same of the note's object, where the version found is held, or was committed later than the note's
-pub record FindsNewer (c : Config) (w : View) (n : Note) (seat : ℕ) (s : Step) : Type 0 where
+pub record FindsNewer (c : Config) (w : Knowledge) (n : Note) (seat : ℕ) (s : Step) : Type 0 where
   pub top : FindsTop c w n.object seat s
   pub newer : IsLater n.time top.names.status
 
 -- one of these steps found HEAD of the note's object naming a newer version, of this other seat
-pub record FindsOther (c : Config) (w : View) (made : List Step) (n : Note) (seat : ℕ) : Type 0 where
+pub record FindsOther (c : Config) (w : Knowledge) (made : List Step) (n : Note) (seat : ℕ) : Type 0 where
   pub not_own : seat ≢ w.number
   pub in_range : seat < c.seats
   pub step : Step
@@ -146,7 +146,7 @@ pub record FindsOther (c : Config) (w : View) (made : List Step) (n : Note) (sea
 
 -- among these steps one found SUPER 0 in the version of the note, and a later one found HEAD of its object naming a newer version, of
 -- this other seat
-pub record FindsAbove (c : Config) (w : View) (made : List Step) (n : Note) (seat : ℕ) : Type 0 where
+pub record FindsAbove (c : Config) (w : Knowledge) (made : List Step) (n : Note) (seat : ℕ) : Type 0 where
   pub not_own : seat ≢ w.number
   pub in_range : seat < c.seats
   pub before : List Step

@@ -3,14 +3,14 @@ use Rattle.std.specs.Prelude.{◌≡◌, ℕ, zero, suc, ◌+◌, ◌-◌, ◌<�
 use Rattle.std.specs.Prelude.{Option, Some, None, slice_index_or, slice_set}
 use Rattle.mv_history.specs.declared.Step.{Step}
 use Rattle.mv_layout.specs.declared.Config.{Config}
-use Rattle.seat_log.specs.mv_core.declared.view.View.{View}
+use Rattle.seat_log.specs.mv_core.declared.view.Knowledge.{Knowledge}
 use Rattle.seat_log.specs.reader_marks.declared.scanning.Watermark.{Watermark}
 use Rattle.seat_log.specs.reader_marks.Scans.{IsKnown}
 use Rattle.seat_log.specs.declared.version.Note.{Note}
 use Rattle.seat_log.specs.Notes.{Noted, IsNoteAt}
 use Rattle.seat_log.specs.Frees.{OldestIsDead}
-use Rattle.log_reclaim.specs.declared.settling.Found.{Found}
-use Rattle.log_reclaim.specs.declared.rounds.Scanned.{Scanned}
+use Rattle.log_reclaim.specs.declared.settling.HeadHolders.{HeadHolders}
+use Rattle.log_reclaim.specs.declared.rounds.RoundScan.{RoundScan}
 use Rattle.log_reclaim.specs.Parts.{LeavesClock, IsOtherKind, IsPlain, Reclaims, DiesFrom, Shrinks, HasScanned}
 use Rattle.log_reclaim.specs.Untimed.{StaysUntimed, DatedSo}
 
@@ -25,24 +25,24 @@ byte_of_seat None = 0
 byte_of_seat (Some seat) = suc seat
 
 -- the other seat whose version the write-back of the version at this position found in HEAD, if any
-abbrev pub found_at : Found → ℕ → Option ℕ
+abbrev pub found_at : HeadHolders → ℕ → Option ℕ
 found_at found position = seat_of_byte (slice_index_or found.seats (position - found.base) 0)
 
 -- the table with another entry at a place
-abbrev pub found_set : Found → ℕ → Option ℕ → Found
+abbrev pub found_set : HeadHolders → ℕ → Option ℕ → HeadHolders
 found_set found index above = record found { seats = slice_set found.seats index (byte_of_seat above) }
 
 -- there is an entry for each slot of the log, from its oldest position on
-abbrev pub IsTableOf : Noted → Found → Type 0
+abbrev pub IsTableOf : Noted → HeadHolders → Type 0
 IsTableOf l found = (found.base ≡ l.freed) × (length found.seats ≡ 4096)
 
 -- there is an entry for each version of the log
-abbrev pub HasEntries : Noted → Found → Type 0
+abbrev pub HasEntries : Noted → HeadHolders → Type 0
 HasEntries l found = (found.base ≤ l.freed) × (length l.live + l.freed ≤ found.base + 4096) × (length found.seats ≡ 4096)
 
 -- A round has looked at the first `done` versions of the log: of each that still has no time of death it is known why; the others
 -- are as before. `top` is the greatest time that it found in CLOCK.
-pub record Settles (c : Config) (v w : View) (l m : Noted) (made : List Step) (mark : Watermark) (clock : ℕ) (back : Bool) (found : Found)
+pub record Settles (c : Config) (v w : Knowledge) (l m : Noted) (made : List Step) (mark : Watermark) (clock : ℕ) (back : Bool) (found : HeadHolders)
     (top done : ℕ) : Type 0 where
   pub reclaims : Reclaims v w made
   pub rests : w.past.rests ≡ v.past.rests
@@ -58,7 +58,7 @@ pub record Settles (c : Config) (v w : View) (l m : Noted) (made : List Step) (m
   pub within : top ≤ w.base + length w.past.seen
 
 -- one version was looked at
-pub record SettlesOne (c : Config) (v w : View) (l m : Noted) (made : List Step) (mark : Watermark) (clock : ℕ) (back : Bool) (old found : Found)
+pub record SettlesOne (c : Config) (v w : Knowledge) (l m : Noted) (made : List Step) (mark : Watermark) (clock : ℕ) (back : Bool) (old found : HeadHolders)
     (index top : ℕ) : Type 0 where
   pub reclaims : Reclaims v w made
   pub rests : w.past.rests ≡ v.past.rests
@@ -75,7 +75,8 @@ pub record SettlesOne (c : Config) (v w : View) (l m : Noted) (made : List Step)
 
 -- A round that had to scan: it found this watermark, freed so many slots, looked at each version, and made no exchange on CLOCK.
 -- The oldest write set that is left isn't dead by that watermark.
-pub record Sweeps (c : Config) (v w : View) (l m : Noted) (made : List Step) (back : Bool) (scanned : Scanned) (found : Found) (freed : ℕ) : Type 0 where
+pub record Sweeps (c : Config) (v w : Knowledge) (l m : Noted) (made : List Step) (back : Bool) (scanned : RoundScan) (found : HeadHolders)
+    (freed : ℕ) : Type 0 where
   pub reclaims : Reclaims v w made
   pub leaves : All (λ s. LeavesClock s.kind) made
   pub plain : IsPlain back made
@@ -96,7 +97,7 @@ pub record Sweeps (c : Config) (v w : View) (l m : Noted) (made : List Step) (ba
   pub alone : c.seats ≡ 1 → scanned.clock ≡ v.base + (length v.past.mine + v.past.rests)
 
 -- a round that freed all by the watermark that stood in GRACE, and made no scan and no exchange on CLOCK
-pub record SweepsAll (c : Config) (v w : View) (l m : Noted) (made : List Step) (freed : ℕ) : Type 0 where
+pub record SweepsAll (c : Config) (v w : Knowledge) (l m : Noted) (made : List Step) (freed : ℕ) : Type 0 where
   pub reclaims : Reclaims v w made
   pub leaves : All (λ s. LeavesClock s.kind) made
   pub plain : IsPlain false made
@@ -105,6 +106,6 @@ pub record SweepsAll (c : Config) (v w : View) (l m : Noted) (made : List Step) 
   pub empty : length m.live ≡ 0
 
 -- what a round answers within: what it found by its scan, unless the log was empty before that
-abbrev pub SweepsSo : Config → View → View → Noted → Noted → List Step → Bool → Found → ℕ → Option Scanned → Type 0
+abbrev pub SweepsSo : Config → Knowledge → Knowledge → Noted → Noted → List Step → Bool → HeadHolders → ℕ → Option RoundScan → Type 0
 SweepsSo c v w l m made back found freed None = SweepsAll c v w l m made freed
 SweepsSo c v w l m made back found freed (Some scanned) = Sweeps c v w l m made back scanned found freed

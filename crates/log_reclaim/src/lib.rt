@@ -40,5 +40,6 @@ mod writing_back;
 pub use rounds::{Tidy, round};
 pub use tidying::tidy;
 pub use writing_back::{
-    Back, BackEnd, NoBack, back_cut, back_death, back_end, back_finish, back_start, back_word,
+    BackEnd, NoBack, StartedWriteBack, back_cut, back_death, back_end, back_finish, back_start,
+    back_word,
 };

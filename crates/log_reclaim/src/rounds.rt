@@ -16,7 +16,7 @@ ghost use Rattle.log_reclaim.specs.Sweeps.{HasEntries, Sweeps, SweepsSo};
 ghost use Rattle.log_reclaim.specs.Holders.{RoundHolds, HeldSo};
 ghost use Rattle.log_reclaim.specs.Rounds.{FreesAll, FreesFirst, FreesBeforeScan, IsDue, by_mark_of, IsHolder, SweptSo, HasMade};
 
-use crate::settling::{Found, settle_all};
+use crate::settling::{HeadHolders, settle_all};
 use mv_history::{Holder, Protocol};
 use mv_layout::LAST;
 use seat_log::mv_core::{Pass, Shared, Steps};
@@ -37,7 +37,7 @@ pub struct Tidy {
 
 /// What a round's scan found, and the greatest printed time that the round found in CLOCK.
 #[derive(Clone, Copy)]
-pub(crate) struct Scanned {
+pub(crate) struct RoundScan {
     pub(crate) mark: Watermark,
     pub(crate) clock: u64,
     pub(crate) latest: u64,
@@ -76,9 +76,9 @@ pub(crate) fn scan_and_free<P: Protocol, L: Ledger>(
     pass: &mut Pass<P>,
     log: &mut Log,
     back: bool,
-    found: &mut Found,
+    found: &mut HeadHolders,
     steps: &mut Steps<L>,
-) -> (u32, Scanned)
+) -> (u32, RoundScan)
     requires of { IsOf shared.now pass.old }
     requires may { MayLoadLow (view pass.old) }
     requires stands { Stands (config_of shared.now) (view pass.old) log.old }
@@ -91,10 +91,10 @@ pub(crate) fn scan_and_free<P: Protocol, L: Ledger>(
     ensures trail { length (view pass.new).trail ≤ length (view pass.old).trail + ((config_of shared.now).seats + 3 + 18 * length log.old.live + result.0) }
 {
     let (mark, clock) = scan_clock(shared, pass, steps);
-    *found = Found::new(note(log, 0).position);
+    *found = HeadHolders::new(note(log, 0).position);
     let latest = settle_all(shared, pass, log, back, &mark, clock, found, steps);
     let freed = free_all(shared, pass, log, &mark, steps);
-    let scanned = Scanned {
+    let scanned = RoundScan {
         mark,
         clock,
         latest,
@@ -110,9 +110,9 @@ pub(crate) fn sweep<P: Protocol, L: Ledger>(
     pass: &mut Pass<P>,
     log: &mut Log,
     back: bool,
-    found: &mut Found,
+    found: &mut HeadHolders,
     steps: &mut Steps<L>,
-) -> (u32, Option<Scanned>)
+) -> (u32, Option<RoundScan>)
     requires of { IsOf shared.now pass.old }
     requires may { MayLoadLow (view pass.old) }
     requires stands { Stands (config_of shared.now) (view pass.old) log.old }
@@ -166,10 +166,10 @@ fn by_mark(mark: &Watermark) -> Holder
 /// scan. In a round that wrote nothing back a version without a time of death is fresh.
 pub(crate) fn holder(
     log: &Log,
-    first: &Scanned,
-    last: &Scanned,
+    first: &RoundScan,
+    last: &RoundScan,
     back: bool,
-    found: &Found,
+    found: &HeadHolders,
 ) -> Option<Holder>
     requires noted { IsLog log.now }
     requires table { back ≡ true → HasEntries log.now found.now }
@@ -246,7 +246,7 @@ pub fn round<P: Protocol, L: Ledger>(
     ensures cost { steps.new ≤ steps.old + (4 + (config_of shared.now).seats + 20 * (config_of shared.now).slots) }
     ensures trail { length (view pass.new).trail ≤ length (view pass.old).trail + (4 + (config_of shared.now).seats + 20 * (config_of shared.now).slots) }
 {
-    let mut found = Found::new(0);
+    let mut found = HeadHolders::new(0);
     let (freed, scanned) = sweep(shared, pass, log, back, &mut found, steps);
     let held = match scanned {
         Some(scanned) => holder(log, &scanned, &scanned, back, &found),

@@ -13,7 +13,9 @@ ghost use Rattle.log_reclaim.specs.Sweeps.{found_at, found_set, IsTableOf, Settl
 ghost use Rattle.log_reclaim.specs.Backs.{IsWriting};
 ghost use Rattle.log_reclaim.specs.Tries.{MaySettle, IsUntimed, StoresAll, TriesOne, LoadsSuper};
 
-use crate::writing_back::{Back, BackEnd, NoBack, back_word, finish_clock, start_clock};
+use crate::writing_back::{
+    BackEnd, NoBack, StartedWriteBack, back_word, finish_clock, start_clock,
+};
 use mv_history::Protocol;
 use mv_layout::WIDTH;
 use seat_log::mv_core::{Pass, Shared, Steps};
@@ -30,18 +32,18 @@ const SLOTS_MAX: usize = 4096;
 ///
 /// It lies on the stack, since the holder is known only at a tidy's end, and no call takes memory.
 #[derive(Drop)]
-pub(crate) struct Found {
+pub(crate) struct HeadHolders {
     base: u64,
     seats: [u8; SLOTS_MAX],
 }
 
-impl Found {
+impl HeadHolders {
     /// Nothing was found yet, of a log with this oldest position.
-    pub(crate) fn new(base: u64) -> Found
+    pub(crate) fn new(base: u64) -> HeadHolders
         ensures base { result.base ≡ base }
         ensures wide { length result.seats ≡ 4096 }
     {
-        Found {
+        HeadHolders {
             base,
             seats: [0; SLOTS_MAX],
         }
@@ -77,7 +79,7 @@ impl Found {
 // What a write-back came to: the other seat whose version it found in HEAD, if any, and the greatest
 // time that it found in CLOCK, or 0.
 #[derive(Clone, Copy)]
-struct Tried {
+struct WriteBackSeen {
     above: Option<u32>,
     clock: u64,
 }
@@ -87,7 +89,7 @@ fn store_all<P: Protocol, L: Ledger>(
     shared: &Shared<P>,
     pass: &mut Pass<P>,
     log: &mut Log,
-    back: Back,
+    back: StartedWriteBack,
     steps: &mut Steps<L>,
 ) -> (BackEnd, u64)
     requires of { IsOf shared.now pass.old }
@@ -146,7 +148,7 @@ fn write_back<P: Protocol, L: Ledger>(
     position: u64,
     mark: &Watermark,
     steps: &mut Steps<L>,
-) -> Tried
+) -> WriteBackSeen
     ghost at: { Note }
     requires of { IsOf shared.now pass.old }
     requires may { MayLoadLow (view pass.old) }
@@ -168,7 +170,7 @@ fn write_back<P: Protocol, L: Ledger>(
                 BackEnd::Cut => None,
                 BackEnd::Above { seat } => Some(seat),
             };
-            return Tried {
+            return WriteBackSeen {
                 above,
                 clock: clock.max(time),
             };
@@ -186,7 +188,7 @@ fn write_back<P: Protocol, L: Ledger>(
             }
         }
     };
-    Tried { above, clock }
+    WriteBackSeen { above, clock }
 }
 
 // Looks at the version at this index: loads SUPER where it has no time of death, and in a round with
@@ -198,7 +200,7 @@ fn settle<P: Protocol, L: Ledger>(
     index: u32,
     back: bool,
     mark: &Watermark,
-    found: &mut Found,
+    found: &mut HeadHolders,
     steps: &mut Steps<L>,
 ) -> u64
     requires of { IsOf shared.now pass.old }
@@ -236,7 +238,7 @@ pub(crate) fn settle_all<P: Protocol, L: Ledger>(
     back: bool,
     mark: &Watermark,
     clock: u64,
-    found: &mut Found,
+    found: &mut HeadHolders,
     steps: &mut Steps<L>,
 ) -> u64
     requires of { IsOf shared.now pass.old }

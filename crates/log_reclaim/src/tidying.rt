@@ -12,7 +12,7 @@ ghost use Rattle.log_reclaim.specs.Rounds.{FreesFirst, SweptSo};
 ghost use Rattle.log_reclaim.specs.Tidies.{IsAnyAbove, RestsSo, RestsOnce, RestsWhereDue, WritesBackSo, TidiesLeft};
 
 use crate::rounds::{Tidy, free_all, holder, scan_and_free, sweep};
-use crate::settling::Found;
+use crate::settling::HeadHolders;
 use mv_history::Protocol;
 use mv_layout::{LAST, clock_time};
 use seat_log::commit_clock::{Named, help, now, rest};
@@ -84,10 +84,10 @@ fn tidy_left<P: Protocol, L: Ledger>(
     ensures cost { steps.new ≤ steps.old + (2 * (config_of shared.now).seats + 38 * length log.old.live + 12) }
     ensures trail { length (view pass.new).trail ≤ length (view pass.old).trail + (2 * (config_of shared.now).seats + 38 * length log.old.live + 12) }
 {
-    let mut found = Found::new(0);
+    let mut found = HeadHolders::new(0);
     let (first_freed, first) = scan_and_free(shared, pass, log, true, &mut found, steps);
     rest_if_due(shared, pass, log, first.latest, steps);
-    let mut unused = Found::new(0);
+    let mut unused = HeadHolders::new(0);
     let (freed, last) = sweep(shared, pass, log, false, &mut unused, steps);
     let held = match last {
         Some(last) => holder(log, &first, &last, true, &found),

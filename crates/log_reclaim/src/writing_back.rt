@@ -1,7 +1,7 @@
 // Writing a version back into its object's master, and cutting its chain.
 ghost use Rattle.std.specs.Prelude.{◌≡◌, ◌≢◌, ◌+◌, ◌<◌, ◌≤◌, length, Err};
 ghost use Rattle.mv_layout.specs.Words.{IsLink, link_seat_of};
-ghost use Rattle.seat_log.specs.mv_core.declared.view.View.{View};
+ghost use Rattle.seat_log.specs.mv_core.declared.view.Knowledge.{Knowledge};
 ghost use Rattle.seat_log.specs.mv_core.EnterSteps.{MayLoadLow, mark_cleared};
 ghost use Rattle.seat_log.specs.mv_core.LockSteps.{MayLoadDeath};
 ghost use Rattle.seat_log.specs.mv_core.Passes.{view, IsOf, IsSame, config_of};
@@ -25,7 +25,7 @@ use std::sync::ledger::Ledger;
 /// A write-back under way: the version, and how many of its words were stored. Letting it go leaves
 /// the pass in its section.
 #[derive(Drop)]
-pub struct Back {
+pub struct StartedWriteBack {
     object: u32,
     position: u64,
     words: Words,
@@ -83,7 +83,7 @@ pub fn back_start<P: Protocol, L: Ledger>(
     position: u64,
     mark: &Watermark,
     steps: &mut Steps<L>,
-) -> Result<Back, NoBack>
+) -> Result<StartedWriteBack, NoBack>
     ghost at: { Note }
     requires of { IsOf shared.now pass.old }
     requires may { MayLoadLow (view pass.old) }
@@ -107,7 +107,7 @@ pub(crate) fn start_clock<P: Protocol, L: Ledger>(
     position: u64,
     mark: &Watermark,
     steps: &mut Steps<L>,
-) -> (Result<Back, NoBack>, u64)
+) -> (Result<StartedWriteBack, NoBack>, u64)
     ghost at: { Note }
     requires of { IsOf shared.now pass.old }
     requires may { MayLoadLow (view pass.old) }
@@ -130,7 +130,7 @@ pub(crate) fn start_clock<P: Protocol, L: Ledger>(
     let link = shared.load_head(pass, version.object, steps);
     if link == link_word(pass.seat(), position) {
         let words = version.words;
-        let back = Back {
+        let back = StartedWriteBack {
             object: version.object,
             position,
             words,
@@ -147,7 +147,7 @@ pub(crate) fn start_clock<P: Protocol, L: Ledger>(
 pub fn back_word<P: Protocol, L: Ledger>(
     shared: &Shared<P>,
     pass: &mut Pass<P>,
-    back: &mut Back,
+    back: &mut StartedWriteBack,
     steps: &mut Steps<L>,
 )
     requires of { IsOf shared.now pass.old }
@@ -172,7 +172,7 @@ pub fn back_word<P: Protocol, L: Ledger>(
 pub fn back_cut<P: Protocol, L: Ledger>(
     shared: &Shared<P>,
     pass: &mut Pass<P>,
-    back: &Back,
+    back: &StartedWriteBack,
     steps: &mut Steps<L>,
 ) -> BackEnd
     requires of { IsOf shared.now pass.old }
@@ -215,16 +215,16 @@ pub fn back_end<P: Protocol, L: Ledger>(
     shared: &Shared<P>,
     pass: &mut Pass<P>,
     log: &mut Log,
-    back: Back,
+    back: StartedWriteBack,
     time: u64,
     steps: &mut Steps<L>,
 )
     requires of { IsOf shared.now pass.old }
-    requires timed { (from : View) × HasTimed (config_of shared.now) from (view pass.old) log.old back time }
+    requires timed { (from : Knowledge) × HasTimed (config_of shared.now) from (view pass.old) log.old back time }
     ensures same { IsSame pass.old pass.new }
     ensures view { view pass.new ≡ mark_cleared (config_of shared.now) (view pass.old) }
     ensures log { log.new ≡ back_noted (retired log.old back.position (time + 1)) }
-    ensures cut { (from : View) → HasTimed (config_of shared.now) from (view pass.old) log.old back time
+    ensures cut { (from : Knowledge) → HasTimed (config_of shared.now) from (view pass.old) log.old back time
         → IsCutAt (config_of shared.now) from (view pass.new) log.old log.new back time }
     ensures stands { Stands (config_of shared.now) (view pass.new) log.new }
     ensures step { steps.new ≡ steps.old + 1 }
@@ -248,7 +248,7 @@ pub fn back_finish<P: Protocol, L: Ledger>(
     shared: &Shared<P>,
     pass: &mut Pass<P>,
     log: &mut Log,
-    back: Back,
+    back: StartedWriteBack,
     steps: &mut Steps<L>,
 ) -> BackEnd
     requires of { IsOf shared.now pass.old }
@@ -269,7 +269,7 @@ pub(crate) fn finish_clock<P: Protocol, L: Ledger>(
     shared: &Shared<P>,
     pass: &mut Pass<P>,
     log: &mut Log,
-    back: Back,
+    back: StartedWriteBack,
     steps: &mut Steps<L>,
 ) -> (BackEnd, u64)
     requires of { IsOf shared.now pass.old }

@@ -8,7 +8,7 @@ ghost use Rattle.run_outside.specs.Outside.{HasCause, HasText, IsTold, Starts, T
 ghost use Rattle.run_outside.specs.Outside.{next_count};
 ghost use Rattle.memory_outside.specs.Memory.{faults_in, text_of, named, left_from, FilesState, SinkState};
 
-use run_outside::{Failed, Files, Sink, Told};
+use run_outside::{CallRecord, Failed, Files, Sink};
 use std::alloc::{AllocError, Global};
 use std::marker::Model;
 
@@ -31,7 +31,7 @@ pub struct MemFiles {
     calls: u64,
     faults: u64,
     opened: Option<usize>,
-    told: Told,
+    told: CallRecord,
     place: usize,
 }
 
@@ -83,7 +83,7 @@ impl MemFiles {
             calls: 0,
             faults: 0,
             opened: None,
-            told: Told::new(),
+            told: CallRecord::new(),
             place: 0,
         }
     }

@@ -11,7 +11,7 @@ pub use Rattle.mv_core.specs.ReclaimFacts.{next_in, Deaths, DeathSeen, DeathsSee
 pub use Rattle.mv_core.specs.ReclaimFacts.{PositionsAndGrace, IsWrittenBack, death_in}
 pub use Rattle.mv_core.specs.Rule.{IsNoted, IsThere, Seated, IsSeated, Ruled, Loads, IsKept, Facts, first_view, Stores, Swaps, Raises}
 pub use Rattle.mv_core.specs.Known.{Known, KnownInDomain, RunsOn, IsTimed, IsBegun, KnownHeld, KnownSection, KnownCommit}
-pub use Rattle.mv_core.specs.Chains.{Placed, HangFrom, prev_of, AreWritesFrom, AreLatest, IsChain, IsLinked, lowest, time_before, last_link, IsLoose}
+pub use Rattle.mv_core.specs.Chains.{SlotVersion, HangFrom, prev_of, AreWritesFrom, AreLatest, IsChain, IsLinked, lowest, time_before, last_link, IsLoose}
 pub use Rattle.mv_core.specs.Chains.{LeadsBy, time_down, IsLater, IsUnderLater, IsRightLink, IsRightMaster, IsAbortedOver, GoesOn, ReachesLink}
 pub use Rattle.mv_core.specs.Chains.{Reaches}
 pub use Rattle.mv_core.specs.Frees.{ClockIsAfter, FreeingIs, FreesHold, FirstFree}

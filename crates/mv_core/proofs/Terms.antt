@@ -4,8 +4,8 @@ pub use Rattle.mv_history.specs.declared.Entry.{Entry}
 pub use Rattle.mv_history.specs.declared.Entry.TheVariants.{Change, Rest}
 pub use Rattle.mv_history.specs.declared.Step.{Step}
 pub use Rattle.mv_layout.specs.declared.Config.{Config}
-pub use Rattle.mv_layout.specs.declared.Place.{Place}
-pub use Rattle.mv_layout.specs.declared.Place.TheVariants.{Clock, Grace, Mark, Head, Master, First, Stamp, Prev, Super, Data}
+pub use Rattle.mv_layout.specs.declared.SharedWord.{SharedWord}
+pub use Rattle.mv_layout.specs.declared.SharedWord.TheVariants.{Clock, Grace, Mark, Head, Master, First, Stamp, Prev, Super, Data}
 pub use Rattle.mv_layout.specs.Limits.{Checked}
 pub use Rattle.mv_layout.specs.Words.{clock_of, clock_time_of, clock_slot_of, unset_of, clock_seat_of, link_seat_of, link_of, IsUnset}
 pub use Rattle.mv_layout.specs.Words.{link_position_of, IsLink}
@@ -15,25 +15,25 @@ pub use Rattle.mv_core.specs.declared.ring.Ring.{Ring}
 pub use Rattle.mv_core.specs.declared.ring.Version.{Version}
 pub use Rattle.mv_core.specs.declared.ring.Build.{Build}
 pub use Rattle.mv_core.specs.declared.ring.CommitNote.{CommitNote}
-pub use Rattle.mv_core.specs.declared.ring.Status.{Status}
-pub use Rattle.mv_core.specs.declared.ring.Status.TheVariants.{Held, Aborted, Committed}
+pub use Rattle.mv_core.specs.declared.ring.WriteSetStatus.{WriteSetStatus}
+pub use Rattle.mv_core.specs.declared.ring.WriteSetStatus.TheVariants.{Held, Aborted, Committed}
 pub use Rattle.mv_core.specs.declared.ring.Slot.{Slot}
 pub use Rattle.mv_core.specs.declared.ring.Slot.TheVariants.{Free, Built, Live, Freeing}
-pub use Rattle.mv_core.specs.declared.view.View.{View}
+pub use Rattle.mv_core.specs.declared.view.Knowledge.{Knowledge}
 pub use Rattle.mv_core.specs.declared.view.Past.{Past}
 pub use Rattle.mv_core.specs.declared.view.Phase.{Phase}
 pub use Rattle.mv_core.specs.declared.view.Phase.TheVariants.{Outside, Inside, Lowered, Marked}
-pub use Rattle.mv_core.specs.declared.view.Section.{Section}
+pub use Rattle.mv_core.specs.declared.view.OwnSection.{OwnSection}
 pub use Rattle.mv_core.specs.declared.view.Mode.{Mode}
 pub use Rattle.mv_core.specs.declared.view.Mode.TheVariants.{Open, Aborting, Named}
 pub use Rattle.mv_core.specs.declared.view.LoadedClocks.{LoadedClocks}
 pub use Rattle.mv_core.specs.declared.view.Naming.{Naming}
-pub use Rattle.mv_core.specs.declared.view.Walk.{Walk}
+pub use Rattle.mv_core.specs.declared.view.WalkStage.{WalkStage}
 pub use Rattle.mv_core.specs.declared.view.Stand.{Stand}
 pub use Rattle.mv_core.specs.declared.view.EmptyHead.{EmptyHead}
 pub use Rattle.mv_core.specs.declared.view.WriteBack.{WriteBack}
 pub use Rattle.mv_core.specs.declared.view.Scan.{Scan}
-pub use Rattle.mv_core.specs.declared.view.Note.{Note}
+pub use Rattle.mv_core.specs.declared.view.JoinedSeat.{JoinedSeat}
 pub use Rattle.mv_core.specs.declared.view.FoundStamp.{FoundStamp}
 pub use Rattle.mv_core.specs.Passes.{view, config_of, start_of, IsOf, AreNew}
 pub use Rattle.mv_core.specs.Rings.{slot_at, index_of, empty_ring, Names, NoneUncut, InUse, put_slot, is_held, held_count, Lives, set_first}

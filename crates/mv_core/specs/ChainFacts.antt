@@ -6,8 +6,8 @@ use Rattle.mv_layout.specs.declared.Config.{Config}
 use Rattle.mv_layout.specs.Words.{link_of}
 use Rattle.mv_core.specs.declared.ring.Ring.{Ring}
 use Rattle.mv_core.specs.declared.ring.Version.{Version}
-use Rattle.mv_core.specs.declared.ring.Status.{Status}
-use Rattle.mv_core.specs.declared.ring.Status.TheVariants.{Held, Aborted, Committed}
+use Rattle.mv_core.specs.declared.ring.WriteSetStatus.{WriteSetStatus}
+use Rattle.mv_core.specs.declared.ring.WriteSetStatus.TheVariants.{Held, Aborted, Committed}
 use Rattle.mv_core.specs.declared.ring.CommitNote.{CommitNote}
 use Rattle.mv_core.specs.Rings.{Lives, Names, IsGone, IsVersion, NoneHolds, NoneUncut, IsTop}
 use Rattle.mv_core.specs.Times.{latest, latest_at, words_of, AreThe, NotAboveAny}
@@ -54,5 +54,5 @@ IsGrounded c start h master time x note =
 -- chain-foot: under a committed version whose previous link names no live version, its time isn't above any section's, or it is grounded
 abbrev pub ChainFoot : Config → State → List Entry → (ℕ → ℕ → ℕ) → (ℕ → Option ℕ) → (ℕ → Ring) → Type 0
 ChainFoot c start h master time rings =
-    (s k : ℕ) (x : Version) (note : CommitNote) → Lives rings s k x (Committed note) → ((y : Version) (st : Status) → ¬ (Names rings x.previous y st))
+    (s k : ℕ) (x : Version) (note : CommitNote) → Lives rings s k x (Committed note) → ((y : Version) (st : WriteSetStatus) → ¬ (Names rings x.previous y st))
     → NotAboveAny note.time time ⊎ IsGrounded c start h master time x note

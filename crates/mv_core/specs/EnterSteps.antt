@@ -5,21 +5,21 @@ use Rattle.mv_history.specs.declared.Entry.{Entry}
 use Rattle.mv_history.specs.State.{maker_of}
 use Rattle.mv_history.specs.declared.StepKind.TheVariants.{LoadLow, StoreMark, LoadTime, LoadNamed, LoadCheck, SwapStamp, ClearMark}
 use Rattle.mv_layout.specs.declared.Config.{Config}
-use Rattle.mv_layout.specs.declared.Place.{Place}
-use Rattle.mv_layout.specs.declared.Place.TheVariants.{Clock, Mark, Stamp}
+use Rattle.mv_layout.specs.declared.SharedWord.{SharedWord}
+use Rattle.mv_layout.specs.declared.SharedWord.TheVariants.{Clock, Mark, Stamp}
 use Rattle.mv_layout.specs.Words.{clock_of, clock_time_of, clock_seat_of, clock_slot_of, unset_of}
 use Rattle.mv_core.specs.declared.ring.Slot.TheVariants.{Live}
 use Rattle.mv_core.specs.declared.ring.Version.{Version}
-use Rattle.mv_core.specs.declared.ring.Status.TheVariants.{Committed}
+use Rattle.mv_core.specs.declared.ring.WriteSetStatus.TheVariants.{Committed}
 use Rattle.mv_core.specs.declared.ring.CommitNote.{CommitNote}
-use Rattle.mv_core.specs.declared.view.View.{View}
+use Rattle.mv_core.specs.declared.view.Knowledge.{Knowledge}
 use Rattle.mv_core.specs.declared.view.Phase.{Phase}
 use Rattle.mv_core.specs.declared.view.Phase.TheVariants.{Outside, Lowered, Marked, Inside}
-use Rattle.mv_core.specs.declared.view.Section.{Section}
+use Rattle.mv_core.specs.declared.view.OwnSection.{OwnSection}
 use Rattle.mv_core.specs.declared.view.Mode.{Mode}
 use Rattle.mv_core.specs.declared.view.Mode.TheVariants.{Open, Aborting, Named}
 use Rattle.mv_core.specs.declared.view.Naming.{Naming}
-use Rattle.mv_core.specs.declared.view.Walk.TheVariants.{Nowhere}
+use Rattle.mv_core.specs.declared.view.WalkStage.TheVariants.{Nowhere}
 use Rattle.mv_core.specs.declared.view.LoadedClocks.{LoadedClocks}
 use Rattle.mv_core.specs.declared.view.FoundStamp.{FoundStamp}
 use Rattle.mv_core.specs.Rings.{slot_at, index_of, HoldsNothing}
@@ -28,11 +28,11 @@ use Rattle.mv_core.specs.HistoryFacts.{BeginsWith}
 
 -- h is the whole history where CLOCK is this word: it begins with all that was seen, is as long as the word says, and each entry is of a
 -- seat of the domain
-abbrev pub IsWhole : Config → View → ℕ → List Entry → Type 0
+abbrev pub IsWhole : Config → Knowledge → ℕ → List Entry → Type 0
 IsWhole c v word h = BeginsWith h v.past.seen × (clock_time_of word ≡ c.base + length h) × All (λ e. maker_of e < c.seats) h
 
 -- the place of the stamp of the commit that a clock word names
-abbrev pub stamp_place : ℕ → Place
+abbrev pub stamp_place : ℕ → SharedWord
 stamp_place word = Stamp (clock_seat_of word) (clock_slot_of word)
 
 -- the word, if it names no commit
@@ -40,28 +40,28 @@ abbrev pub if_none : ℕ → List ℕ
 if_none word = if names_none word then word ∷ [] else []
 
 -- load CLOCK (low bound): outside, with no scan
-pub record MayLoadLow (v : View) : Type 0 where
+pub record MayLoadLow (v : Knowledge) : Type 0 where
   pub outside : v.phase ≡ Outside
   pub no_scan : v.scan ≡ None
 
 -- it gives the low time; clock words are forgotten
-abbrev pub low_loaded : Config → View → ℕ → View
+abbrev pub low_loaded : Config → Knowledge → ℕ → Knowledge
 low_loaded c v word = record v { phase = Lowered (clock_time_of word); clocks = no_clocks; trail = with_step c v LoadLow Clock (Some word) None }
 
 -- store MARK: a low time was loaded
-abbrev pub MayStoreMark : View → ℕ → Type 0
+abbrev pub MayStoreMark : Knowledge → ℕ → Type 0
 MayStoreMark v low = v.phase ≡ Lowered low
 
 -- the mark is stored for that low time
-abbrev pub mark_stored : Config → View → ℕ → View
+abbrev pub mark_stored : Config → Knowledge → ℕ → Knowledge
 mark_stored c v low = record v { phase = Marked low; trail = with_step c v StoreMark (Mark v.number) None (Some (1 + low)) }
 
 -- load CLOCK (take time): the mark was stored
-abbrev pub MayLoadTime : View → Type 0
+abbrev pub MayLoadTime : Knowledge → Type 0
 MayLoadTime v = (low : ℕ) × (v.phase ≡ Marked low)
 
 -- a section begins, of this word's time, and the whole history h is seen
-abbrev pub time_loaded : Config → View → ℕ → List Entry → View
+abbrev pub time_loaded : Config → Knowledge → ℕ → List Entry → Knowledge
 time_loaded c v word h = record v {
   phase = Inside (record { low = low_of v.phase; word = word; mode = Open });
   past = record v.past { seen = h };
@@ -76,7 +76,7 @@ abbrev pub helped_too : LoadedClocks → ℕ → LoadedClocks
 helped_too clocks word = record clocks { helped = clocks.helped ++ word ∷ []; found = None }
 
 -- load STAMP named: of a clock word that was loaded and names a commit
-pub record MayLoadNamed (v : View) (word : ℕ) : Type 0 where
+pub record MayLoadNamed (v : Knowledge) (word : ℕ) : Type 0 where
   pub loaded : Contains v.clocks.loaded word
   pub names : clock_slot_of word ≢ 8191
 
@@ -86,7 +86,7 @@ named_clocks clocks word found =
     if leb 9223372036854775808 found then record clocks { found = Some (record { word = word; unset = found; checked = false }) } else helped_too clocks word
 
 -- what was found there is noted
-abbrev pub named_loaded : Config → View → ℕ → ℕ → View
+abbrev pub named_loaded : Config → Knowledge → ℕ → ℕ → Knowledge
 named_loaded c v word found =
     record v { clocks = named_clocks v.clocks word found; trail = with_step c v LoadNamed (stamp_place word) (Some found) None }
 
@@ -116,7 +116,7 @@ checked_clocks clocks word = record {
 }
 
 -- the whole history h is seen, and the word is loaded
-abbrev pub check_loaded : Config → View → ℕ → List Entry → View
+abbrev pub check_loaded : Config → Knowledge → ℕ → List Entry → Knowledge
 check_loaded c v word h = record v {
   past = record v.past { seen = h };
   clocks = checked_clocks v.clocks word;
@@ -124,17 +124,17 @@ check_loaded c v word h = record v {
 }
 
 -- the clock word is that of the commit that this seat's section has named, and this its unset stamp
-abbrev pub IsOwnNaming : Config → View → ℕ → ℕ → Type 0
+abbrev pub IsOwnNaming : Config → Knowledge → ℕ → ℕ → Type 0
 IsOwnNaming c v word unset =
-    (inside : Section) × (n : Naming) × (v.phase ≡ Inside inside) × (inside.mode ≡ Named n)
+    (inside : OwnSection) × (n : Naming) × (v.phase ≡ Inside inside) × (inside.mode ≡ Named n)
     × (word ≡ clock_of n.time v.number (index_of c n.first)) × (unset ≡ unset_of n.first)
 
 -- the clock word of the own commit of this time, whose write set begins at this position
-abbrev pub own_word : Config → View → ℕ → ℕ → ℕ
+abbrev pub own_word : Config → Knowledge → ℕ → ℕ → ℕ
 own_word c v first time = clock_of time v.number (index_of c first)
 
 -- compare_exchange STAMP: the unset stamp was found for the word, which was in the clock afterwards, or both are of the own commit
-abbrev pub MayStamp : Config → View → ℕ → ℕ → Type 0
+abbrev pub MayStamp : Config → Knowledge → ℕ → ℕ → Type 0
 MayStamp c v word unset =
     (v.clocks.found ≡ Some (record { word = word; unset = unset; checked = true })) ⊎ IsOwnNaming c v word unset
 
@@ -160,7 +160,7 @@ abbrev pub stored_if : ℕ → ℕ → ℕ → Option ℕ
 stored_if found old new = if found == old then Some new else None
 
 -- won or lost, the word is helped
-abbrev pub stamp_swapped : Config → View → ℕ → ℕ → ℕ → View
+abbrev pub stamp_swapped : Config → Knowledge → ℕ → ℕ → ℕ → Knowledge
 stamp_swapped c v word unset found = record v {
   phase = stamped_phase c v.number v.phase word unset;
   clocks = helped_too v.clocks word;
@@ -168,7 +168,7 @@ stamp_swapped c v word unset found = record v {
 }
 
 -- store MARK 0: in a section that holds nothing; where it named a commit, the stamp's exchange and each SUPER are done
-abbrev pub IsFinished : View → Mode → Type 0
+abbrev pub IsFinished : Knowledge → Mode → Type 0
 IsFinished v Open = Unit {0}
 IsFinished v Aborting = Unit {0}
 IsFinished v (Named n) =
@@ -176,14 +176,14 @@ IsFinished v (Named n) =
     × ((k : ℕ) (x : Version) (note : CommitNote) → slot_at v.ring k ≡ Live x (Committed note) → note.time ≡ n.time → note.linked ≡ true)
 
 -- the condition of it
-pub record MayClearMark (v : View) : Type 0 where
-  pub inside : Section
+pub record MayClearMark (v : Knowledge) : Type 0 where
+  pub inside : OwnSection
   pub phase : v.phase ≡ Inside inside
   pub nothing : HoldsNothing v.ring
   pub finished : IsFinished v inside.mode
 
 -- the section, its walk and its write-back end, and clock words are forgotten
-abbrev pub mark_cleared : Config → View → View
+abbrev pub mark_cleared : Config → Knowledge → Knowledge
 mark_cleared c v = record v {
   phase = Outside;
   clocks = no_clocks;

@@ -4,16 +4,16 @@ use Rattle.std.specs.Prelude.{◌≡◌, ◌≢◌, ◌⊎◌, ℕ, ◌+◌, ◌
 use Rattle.mv_history.specs.declared.Entry.{Entry}
 use Rattle.mv_history.specs.State.{maker_of}
 use Rattle.mv_layout.specs.declared.Config.{Config}
-use Rattle.mv_layout.specs.declared.Place.TheVariants.{Clock}
+use Rattle.mv_layout.specs.declared.SharedWord.TheVariants.{Clock}
 use Rattle.mv_layout.specs.Places.{Memory}
 use Rattle.mv_layout.specs.Words.{link_of, clock_seat_of, clock_slot_of}
 use Rattle.mv_core.specs.declared.ring.Slot.TheVariants.{Free, Live, Freeing}
 use Rattle.mv_core.specs.declared.ring.Version.{Version}
-use Rattle.mv_core.specs.declared.ring.Status.{Status}
-use Rattle.mv_core.specs.declared.ring.Status.TheVariants.{Committed}
+use Rattle.mv_core.specs.declared.ring.WriteSetStatus.{WriteSetStatus}
+use Rattle.mv_core.specs.declared.ring.WriteSetStatus.TheVariants.{Committed}
 use Rattle.mv_core.specs.declared.ring.CommitNote.{CommitNote}
-use Rattle.mv_core.specs.declared.view.View.{View}
-use Rattle.mv_core.specs.declared.view.Section.{Section}
+use Rattle.mv_core.specs.declared.view.Knowledge.{Knowledge}
+use Rattle.mv_core.specs.declared.view.OwnSection.{OwnSection}
 use Rattle.mv_core.specs.declared.view.Mode.TheVariants.{Named}
 use Rattle.mv_core.specs.declared.view.Naming.{Naming}
 use Rattle.mv_core.specs.Rings.{slot_at, index_of, Lives, IsVersion}
@@ -33,8 +33,8 @@ ClockIsAfter m f s p =
 -- section reaches a link up to here; and the round of the position is below the seat's watermark
 pub record FreeingIs (c : Config) (m : Memory) (f : ViewParts) (s p first : ℕ) : Type 0 where
   pub after_first : first < p
-  pub later_sets : (k : ℕ) (x : Version) (st : Status) → Lives f.ring s k x st → p < x.first
-  pub named_later : (inside : Section) (n : Naming) → f.section s ≡ Some inside → inside.mode ≡ Named n → p < n.first
+  pub later_sets : (k : ℕ) (x : Version) (st : WriteSetStatus) → Lives f.ring s k x st → p < x.first
+  pub named_later : (inside : OwnSection) (n : Naming) → f.section s ≡ Some inside → inside.mode ≡ Named n → p < n.first
   pub clock_later : ClockIsAfter m f s p
   pub unreached : (j t link q : ℕ) → ReachesLink c m f j t link → q ≤ p → link ≢ link_of s q
   pub round : c.base + p / c.slots < f.grace s
@@ -43,18 +43,18 @@ pub record FreeingIs (c : Config) (m : Memory) (f : ViewParts) (s p first : ℕ)
 -- its version still, or its time is below the watermark of the seat that made it
 pub record FreesHold (c : Config) (m : Memory) (h : List Entry) (f : ViewParts) : Type 0 where
   pub freeing : (s k p first : ℕ) → slot_at (f.ring s) k ≡ Freeing p first → FreeingIs c m f s p first
-  pub dead : (s k : ℕ) (x : Version) (st : Status) → Lives f.ring s k x st → IsDeadBy (f.grace s) st → (j t : ℕ)
+  pub dead : (s k : ℕ) (x : Version) (st : WriteSetStatus) → Lives f.ring s k x st → IsDeadBy (f.grace s) st → (j t : ℕ)
       → ¬ (Reaches c m f j t (record { seat = s; slot = k; version = x; status = st }))
   pub old : (t o : ℕ) (e : Entry) → IsEntry c.base h t e → writes_to o e ≡ true
       → ((link : ℕ) × (x : Version) × (note : CommitNote) × IsVersion f.ring o t link x note) ⊎ (t < f.grace (maker_of e))
 
 -- the first free of a write set: it is of the set's first position, each version of the set is dead by the seat's watermark, and
 -- afterwards none is live: that slot is free, and each other one is being freed
-pub record FirstFree (c : Config) (v : View) (position : ℕ) (x : Version) : Type 0 where
+pub record FirstFree (c : Config) (v : Knowledge) (position : ℕ) (x : Version) : Type 0 where
   pub position_is : x.position ≡ position
   pub first_is : x.first ≡ position
-  pub dead : (k : ℕ) (y : Version) (st : Status) → slot_at v.ring k ≡ Live y st → y.first ≡ position → IsDeadBy v.grace st
-  pub gone : (k : ℕ) (y : Version) (st : Status) → slot_at (free_stored c v position).ring k ≡ Live y st → y.first ≢ position
+  pub dead : (k : ℕ) (y : Version) (st : WriteSetStatus) → slot_at v.ring k ≡ Live y st → y.first ≡ position → IsDeadBy v.grace st
+  pub gone : (k : ℕ) (y : Version) (st : WriteSetStatus) → slot_at (free_stored c v position).ring k ≡ Live y st → y.first ≢ position
   pub freed : slot_at (free_stored c v position).ring (index_of c position) ≡ Free
-  pub freeing : (k : ℕ) (y : Version) (st : Status) → slot_at v.ring k ≡ Live y st → y.first ≡ position → k ≢ index_of c position
+  pub freeing : (k : ℕ) (y : Version) (st : WriteSetStatus) → slot_at v.ring k ≡ Live y st → y.first ≡ position → k ≢ index_of c position
       → slot_at (free_stored c v position).ring k ≡ Freeing y.position position

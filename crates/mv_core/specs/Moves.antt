@@ -5,15 +5,15 @@ use Rattle.mv_history.specs.declared.Entry.{Entry}
 use Rattle.mv_history.specs.declared.Entry.TheVariants.{Rest, Change}
 use Rattle.mv_history.specs.State.{State, Writes}
 use Rattle.mv_layout.specs.declared.Config.{Config}
-use Rattle.mv_layout.specs.declared.Place.{Place}
-use Rattle.mv_layout.specs.declared.Place.TheVariants.{Clock, Grace, Mark, Head, Master, First, Stamp, Prev, Super, Data}
+use Rattle.mv_layout.specs.declared.SharedWord.{SharedWord}
+use Rattle.mv_layout.specs.declared.SharedWord.TheVariants.{Clock, Grace, Mark, Head, Master, First, Stamp, Prev, Super, Data}
 use Rattle.mv_layout.specs.Words.{clock_time_of, link_of, link_seat_of}
 use Rattle.mv_layout.specs.Places.{Memory, put}
 use Rattle.mv_core.specs.declared.ring.Build.{Build}
 use Rattle.mv_core.specs.declared.ring.Version.{Version}
 use Rattle.mv_core.specs.declared.ring.CommitNote.{CommitNote}
-use Rattle.mv_core.specs.declared.view.View.{View}
-use Rattle.mv_core.specs.declared.view.Section.{Section}
+use Rattle.mv_core.specs.declared.view.Knowledge.{Knowledge}
+use Rattle.mv_core.specs.declared.view.OwnSection.{OwnSection}
 use Rattle.mv_core.specs.declared.view.Stand.{Stand}
 use Rattle.mv_core.specs.declared.view.Scan.{Scan}
 use Rattle.mv_core.specs.Rings.{index_of}
@@ -35,55 +35,55 @@ use Rattle.mv_core.specs.Start.{opening_memory}
 pub record Moment : Type 0 where
   pub memory : Memory
   pub history : List Entry
-  pub seats : ℕ → View
+  pub seats : ℕ → Knowledge
 
 -- the kinds of step on one word, each with its operands and with what its seat knows of them
-pub data Kind : Type 0 where
-  load_low : Kind
-  store_mark : (low : ℕ) → Kind
-  load_time : Kind
-  clear_mark : Kind
-  load_named : (word : ℕ) → Kind
-  load_check : Kind
-  stamp : (word unset : ℕ) → Kind
-  load_head : (object : ℕ) → (inside : Section) → Kind
-  load_first : (link : ℕ) → (stand : Stand) → Kind
-  load_stamp : (link first : ℕ) → (stand : Stand) → Kind
-  load_prev : (link : ℕ) → (stand : Stand) → Kind
-  load_data : (link word : ℕ) → (stand : Stand) → (inside : Section) → Kind
-  load_master : (object word : ℕ) → (inside : Section) → Kind
-  store_built : (position field value : ℕ) → (build : Build) → Kind
-  store_data : (position word value : ℕ) → (version : Version) → Kind
-  load_death : Kind
-  lock_head : (object previous position : ℕ) → (words : List ℕ) → (build : Build) → (inside : Section) → Kind
-  unlock_head : (object previous slot : ℕ) → (version : Version) → (inside : Section) → Kind
-  name_commit : (word : ℕ) → (tag : List ℕ) → (inside : Section) → Kind
-  store_super : (link time slot : ℕ) → (version : Version) → (note : CommitNote) → Kind
-  name_rest : (word : ℕ) → Kind
-  load_scan : Kind
-  load_mark : (seat : ℕ) → (scan : Scan) → Kind
-  load_grace : Kind
-  raise_grace : (time : ℕ) → Kind
-  load_super : (position : ℕ) → (version : Version) → (note : CommitNote) → Kind
-  store_master : (object word value position : ℕ) → (version : Version) → (note : CommitNote) → (inside : Section) → Kind
-  cut_head : (object position : ℕ) → (version : Version) → (note : CommitNote) → Kind
-  store_free : (position : ℕ) → Kind
-  load_joined : Kind
+pub data MoveKind : Type 0 where
+  load_low : MoveKind
+  store_mark : (low : ℕ) → MoveKind
+  load_time : MoveKind
+  clear_mark : MoveKind
+  load_named : (word : ℕ) → MoveKind
+  load_check : MoveKind
+  stamp : (word unset : ℕ) → MoveKind
+  load_head : (object : ℕ) → (inside : OwnSection) → MoveKind
+  load_first : (link : ℕ) → (stand : Stand) → MoveKind
+  load_stamp : (link first : ℕ) → (stand : Stand) → MoveKind
+  load_prev : (link : ℕ) → (stand : Stand) → MoveKind
+  load_data : (link word : ℕ) → (stand : Stand) → (inside : OwnSection) → MoveKind
+  load_master : (object word : ℕ) → (inside : OwnSection) → MoveKind
+  store_built : (position field value : ℕ) → (build : Build) → MoveKind
+  store_data : (position word value : ℕ) → (version : Version) → MoveKind
+  load_death : MoveKind
+  lock_head : (object previous position : ℕ) → (words : List ℕ) → (build : Build) → (inside : OwnSection) → MoveKind
+  unlock_head : (object previous slot : ℕ) → (version : Version) → (inside : OwnSection) → MoveKind
+  name_commit : (word : ℕ) → (tag : List ℕ) → (inside : OwnSection) → MoveKind
+  store_super : (link time slot : ℕ) → (version : Version) → (note : CommitNote) → MoveKind
+  name_rest : (word : ℕ) → MoveKind
+  load_scan : MoveKind
+  load_mark : (seat : ℕ) → (scan : Scan) → MoveKind
+  load_grace : MoveKind
+  raise_grace : (time : ℕ) → MoveKind
+  load_super : (position : ℕ) → (version : Version) → (note : CommitNote) → MoveKind
+  store_master : (object word value position : ℕ) → (version : Version) → (note : CommitNote) → (inside : OwnSection) → MoveKind
+  cut_head : (object position : ℕ) → (version : Version) → (note : CommitNote) → MoveKind
+  store_free : (position : ℕ) → MoveKind
+  load_joined : MoveKind
 
 -- a step on one word: its condition, its place, and, of the word found there and the history before, the word written, the view after, and the entry made
 pub record Act : Type 1 where
   pub may : Type 0
-  pub place : Place
+  pub place : SharedWord
   pub writes : ℕ → Option ℕ
-  pub view : ℕ → List Entry → View
+  pub view : ℕ → List Entry → Knowledge
   pub entry : ℕ → Option Entry
 
 -- a load writes nothing
-abbrev pub loads : Type 0 → Place → (ℕ → List Entry → View) → Act
+abbrev pub loads : Type 0 → SharedWord → (ℕ → List Entry → Knowledge) → Act
 loads may place view = record { may = may; place = place; writes = λ found. None; view = view; entry = λ found. None }
 
 -- a store writes a word, whatever it finds
-abbrev pub stores : Type 0 → Place → ℕ → View → Act
+abbrev pub stores : Type 0 → SharedWord → ℕ → Knowledge → Act
 stores may place new view = record { may = may; place = place; writes = λ found. Some new; view = λ found h. view; entry = λ found. None }
 
 -- what is so only where an exchange found the word that it expected
@@ -91,7 +91,7 @@ abbrev pub if_won : {A : Type 0} → ℕ → ℕ → A → A → A
 if_won old found won lost = if found == old then won else lost
 
 -- an exchange is won where it finds `old`, writes then, and may make an entry; else it changes the view alone
-abbrev pub swaps : Type 0 → Place → ℕ → ℕ → (List Entry → View) → (ℕ → List Entry → View) → Option Entry → Act
+abbrev pub swaps : Type 0 → SharedWord → ℕ → ℕ → (List Entry → Knowledge) → (ℕ → List Entry → Knowledge) → Option Entry → Act
 swaps may place old new won lost made = record {
   may = may;
   place = place;
@@ -101,19 +101,19 @@ swaps may place old new won lost made = record {
 }
 
 -- a fetch_max writes the greater of the two
-abbrev pub raises : Type 0 → Place → ℕ → (ℕ → View) → Act
+abbrev pub raises : Type 0 → SharedWord → ℕ → (ℕ → Knowledge) → Act
 raises may place by view = record { may = may; place = place; writes = λ found. Some (max found by); view = λ found h. view found; entry = λ found. None }
 
 -- what a seat has seen that learned of this time: the history up to it, or what it had seen, if that is longer
-abbrev pub seen_to : Config → View → ℕ → List Entry → List Entry
+abbrev pub seen_to : Config → Knowledge → ℕ → List Entry → List Entry
 seen_to c v time h = take (max (length v.past.seen) (time - c.base)) h
 
 -- a stamp that is a time tells of it, and one that is unset of nothing
-abbrev pub seen_at : Config → View → ℕ → List Entry → List Entry
+abbrev pub seen_at : Config → Knowledge → ℕ → List Entry → List Entry
 seen_at c v found h = if leb 9223372036854775808 found then v.past.seen else seen_to c v found h
 
 -- each kind of step, by the own view
-abbrev pub act : (List ℕ → State → Writes → Type 0) → Config → View → Kind → Act
+abbrev pub act : (List ℕ → State → Writes → Type 0) → Config → Knowledge → MoveKind → Act
 act allows c v load_low = loads (MayLoadLow v) Clock (λ word h. low_loaded c v word)
 act allows c v (store_mark low) = stores (MayStoreMark v low) (Mark v.number) (1 + low) (mark_stored c v low)
 act allows c v load_time = loads (MayLoadTime v) Clock (λ word h. time_loaded c v word h)
@@ -172,7 +172,7 @@ act allows c v (store_free position) =
 act allows c v load_joined = loads (Unit {0}) Clock (λ word h. joined_loaded c v word h)
 
 -- the words after a write, if there is one
-abbrev pub memory_after : Memory → Place → Option ℕ → Memory
+abbrev pub memory_after : Memory → SharedWord → Option ℕ → Memory
 memory_after m p None = m
 memory_after m p (Some n) = put m p n
 
@@ -209,7 +209,7 @@ IsStorable (Some n) = n < 2 ^ 64
 
 -- a move of the seat n: a step on one word, the making of a seat, or the joining of one
 pub data Move (allows : List ℕ → State → Writes → Type 0) (c : Config) (n : ℕ) (s t : Moment) : Type 0 where
-  steps : (k : Kind) → (act allows c (s.seats n) k).may
+  steps : (k : MoveKind) → (act allows c (s.seats n) k).may
       → IsStorable ((act allows c (s.seats n) k).writes (s.memory (act allows c (s.seats n) k).place))
       → t ≡ stepped (act allows c (s.seats n) k) n s → Move allows c n s t
   makes : n ≡ 0 → (s.seats n).made < c.seats → t ≡ seat_made c n s → Move allows c n s t

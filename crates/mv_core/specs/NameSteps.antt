@@ -8,16 +8,16 @@ use Rattle.mv_history.specs.State.{State, Writes, maker_of, state_at}
 use Rattle.mv_history.specs.Drift.{IsFit}
 use Rattle.mv_history.specs.declared.StepKind.TheVariants.{NameCommit, StoreSuper, NameRest}
 use Rattle.mv_layout.specs.declared.Config.{Config}
-use Rattle.mv_layout.specs.declared.Place.TheVariants.{Clock, Super}
+use Rattle.mv_layout.specs.declared.SharedWord.TheVariants.{Clock, Super}
 use Rattle.mv_layout.specs.Words.{clock_of, clock_time_of, clock_seat_of, link_seat_of}
 use Rattle.mv_core.specs.declared.ring.Slot.{Slot}
 use Rattle.mv_core.specs.declared.ring.Slot.TheVariants.{Live}
 use Rattle.mv_core.specs.declared.ring.Version.{Version}
-use Rattle.mv_core.specs.declared.ring.Status.TheVariants.{Held, Committed}
+use Rattle.mv_core.specs.declared.ring.WriteSetStatus.TheVariants.{Held, Committed}
 use Rattle.mv_core.specs.declared.ring.CommitNote.{CommitNote}
-use Rattle.mv_core.specs.declared.view.View.{View}
+use Rattle.mv_core.specs.declared.view.Knowledge.{Knowledge}
 use Rattle.mv_core.specs.declared.view.Phase.TheVariants.{Outside, Inside}
-use Rattle.mv_core.specs.declared.view.Section.{Section}
+use Rattle.mv_core.specs.declared.view.OwnSection.{OwnSection}
 use Rattle.mv_core.specs.declared.view.Mode.TheVariants.{Open, Named}
 use Rattle.mv_core.specs.declared.view.Naming.{Naming}
 use Rattle.mv_core.specs.Rings.{slot_at, index_of, put_slot, held_count, set_first, own_of}
@@ -28,7 +28,7 @@ use Rattle.mv_core.specs.EnterSteps.{IsWhole, if_none}
 use Rattle.mv_core.specs.WalkSteps.{IsLinkOf, slot_named}
 
 -- the commit of what the section holds
-abbrev pub commit_of : Config → View → Section → List ℕ → Commit
+abbrev pub commit_of : Config → Knowledge → OwnSection → List ℕ → Commit
 commit_of c v inside tag = record {
   seat = v.number;
   number = length v.past.mine + 1;
@@ -38,18 +38,18 @@ commit_of c v inside tag = record {
 }
 
 -- what the exchange tells of the own log before it: the links of what is held are packed ones, or 0, and no commit there is later than the word found
-pub record LogTold (c : Config) (v : View) (found : ℕ) : Type 0 where
+pub record LogTold (c : Config) (v : Knowledge) (found : ℕ) : Type 0 where
   pub links : (k : ℕ) (x : Version) → slot_at v.ring k ≡ Live x Held → IsLinkOf c x.previous
   pub old : (k : ℕ) (x : Version) (note : CommitNote) → slot_at v.ring k ≡ Live x (Committed note) → note.time ≤ clock_time_of found
 
 -- the clock word of that commit, after this one
-abbrev pub commit_word : Config → View → ℕ → ℕ
+abbrev pub commit_word : Config → Knowledge → ℕ → ℕ
 commit_word c v word = clock_of (clock_time_of word + 1) v.number (index_of c (set_first v.ring))
 
 -- compare_exchange CLOCK (commit): an open section past its help holds something, the word was loaded and helped, a time is left,
 -- and the drift condition holds of the tag
-pub record MayNameCommit (allows : List ℕ → State → Writes → Type 0) (c : Config) (v : View) (word : ℕ) (tag : List ℕ)
-    (inside : Section) : Type 0 where
+pub record MayNameCommit (allows : List ℕ → State → Writes → Type 0) (c : Config) (v : Knowledge) (word : ℕ) (tag : List ℕ)
+    (inside : OwnSection) : Type 0 where
   pub phase : v.phase ≡ Inside inside
   pub open_is : inside.mode ≡ Open
   pub past_help : IsPastHelp v.clocks inside
@@ -65,7 +65,7 @@ committed_slot t (Live x Held) = Live x (Committed (record { time = t; dead = No
 committed_slot t slot = slot
 
 -- won, over the whole history h that was there
-abbrev pub commit_named : Config → View → Section → List ℕ → ℕ → List Entry → View
+abbrev pub commit_named : Config → Knowledge → OwnSection → List ℕ → ℕ → List Entry → Knowledge
 commit_named c v inside tag word h = record v {
   past = record v.past { seen = h ++ Change (commit_of c v inside tag) ∷ []; mine = v.past.mine ++ commit_of c v inside tag ∷ [] };
   phase = Inside (record inside { mode = Named (record { time = clock_time_of word + 1; first = set_first v.ring; stamped = false }) });
@@ -74,7 +74,7 @@ commit_named c v inside tag word h = record v {
 }
 
 -- lost to the word found, which is loaded, as the whole history h is seen
-abbrev pub commit_lost : Config → View → ℕ → List Entry → View
+abbrev pub commit_lost : Config → Knowledge → ℕ → List Entry → Knowledge
 commit_lost c v found h = record v {
   past = record v.past { seen = h };
   clocks = record v.clocks { loaded = v.clocks.loaded ++ found ∷ []; helped = v.clocks.helped ++ if_none found };
@@ -87,14 +87,14 @@ pub record IsOvertaken (c : Config) (word found : ℕ) (h : List Entry) : Type 0
   pub made : c.base ≤ clock_time_of word → (e : Entry) × IsEntry c.base h (clock_time_of found) e × (maker_of e ≡ clock_seat_of found)
 
 -- what the exchange tells
-abbrev pub CommitTold : Config → View → Section → List ℕ → ℕ → ℕ → View → Type 0
+abbrev pub CommitTold : Config → Knowledge → OwnSection → List ℕ → ℕ → ℕ → Knowledge → Type 0
 CommitTold c v inside tag word found w =
     (found ≡ word → (h : List Entry) × IsWhole c v word h × (w ≡ commit_named c v inside tag word h))
     × (found ≢ word → (h : List Entry) × IsWhole c v found h × (w ≡ commit_lost c v found h) × IsOvertaken c word found h)
 
 -- store SUPER: of the version that an own version of the stamped commit links to, not stored yet
-pub record MayStoreSuper (v : View) (link time k : ℕ) (x : Version) (note : CommitNote) : Type 0 where
-  pub inside : Section
+pub record MayStoreSuper (v : Knowledge) (link time k : ℕ) (x : Version) (note : CommitNote) : Type 0 where
+  pub inside : OwnSection
   pub naming : Naming
   pub phase : v.phase ≡ Inside inside
   pub mode : inside.mode ≡ Named naming
@@ -106,32 +106,32 @@ pub record MayStoreSuper (v : View) (link time k : ℕ) (x : Version) (note : Co
   pub not_yet : note.linked ≡ false
 
 -- that SUPER was stored is noted
-abbrev pub super_stored : Config → View → ℕ → ℕ → ℕ → Version → CommitNote → View
+abbrev pub super_stored : Config → Knowledge → ℕ → ℕ → ℕ → Version → CommitNote → Knowledge
 super_stored c v link time k x note = record v {
   ring = put_slot v.ring k (Live x (Committed (record note { linked = true })));
   trail = with_step c v StoreSuper (Super (link_seat_of link) (slot_named c link)) None (Some time);
 }
 
 -- the clock word of a rest, after this one
-abbrev pub rest_word : View → ℕ → ℕ
+abbrev pub rest_word : Knowledge → ℕ → ℕ
 rest_word v word = clock_of (clock_time_of word + 1) v.number 8191
 
 -- compare_exchange CLOCK (rest): outside, the word was loaded and helped, and a time is left
-pub record MayNameRest (v : View) (word : ℕ) : Type 0 where
+pub record MayNameRest (v : Knowledge) (word : ℕ) : Type 0 where
   pub outside : v.phase ≡ Outside
   pub loaded : Contains v.clocks.loaded word
   pub helped : Contains v.clocks.helped word
   pub room : clock_time_of word < 35184372088831
 
 -- won, over the whole history h that was there
-abbrev pub rest_named : Config → View → ℕ → List Entry → View
+abbrev pub rest_named : Config → Knowledge → ℕ → List Entry → Knowledge
 rest_named c v word h = record v {
   past = record v.past { seen = h ++ Rest v.number ∷ []; rests = v.past.rests + 1 };
   trail = with_step c v NameRest Clock (Some word) (Some (rest_word v word));
 }
 
 -- lost to the word found, which is loaded, as the whole history h is seen
-abbrev pub rest_lost : Config → View → ℕ → List Entry → View
+abbrev pub rest_lost : Config → Knowledge → ℕ → List Entry → Knowledge
 rest_lost c v found h = record v {
   past = record v.past { seen = h };
   clocks = record v.clocks { loaded = v.clocks.loaded ++ found ∷ []; helped = v.clocks.helped ++ if_none found };
@@ -139,7 +139,7 @@ rest_lost c v found h = record v {
 }
 
 -- what the exchange tells
-abbrev pub RestTold : Config → View → ℕ → ℕ → View → Type 0
+abbrev pub RestTold : Config → Knowledge → ℕ → ℕ → Knowledge → Type 0
 RestTold c v word found w =
     (found ≡ word → (h : List Entry) × IsWhole c v word h × (w ≡ rest_named c v word h))
     × (found ≢ word → (h : List Entry) × IsWhole c v found h × (w ≡ rest_lost c v found h) × IsOvertaken c word found h)

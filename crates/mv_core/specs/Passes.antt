@@ -8,9 +8,9 @@ use Rattle.mv_history.specs.State.{State, Writes}
 use Rattle.mv_history.specs.Meaning.{Seat}
 use Rattle.mv_history.specs.declared.Protocol.{Ghosts}
 use Rattle.mv_layout.specs.declared.Config.{Config}
-use Rattle.mv_layout.specs.declared.Place.TheVariants.{First}
+use Rattle.mv_layout.specs.declared.SharedWord.TheVariants.{First}
 use Rattle.mv_layout.specs.Cells.{cell_of}
-use Rattle.mv_core.specs.declared.view.View.{View}
+use Rattle.mv_core.specs.declared.view.Knowledge.{Knowledge}
 use Rattle.mv_core.specs.declared.shared.Shared.{Shared}
 use Rattle.mv_core.specs.declared.shared.Pass.{Pass}
 use Rattle.mv_core.specs.Known.{Known}
@@ -32,7 +32,7 @@ table_of s = s.table.shared.table_id
 
 -- the seat of a pass of this domain
 abbrev pub IsSeatOf : {P : Type 0} → (State → Type 0) → (List ℕ → State → Writes → Type 0) → Shared P
-    → table_seat.Seat (List ℕ) View → Type 0
+    → table_seat.Seat (List ℕ) Knowledge → Type 0
 IsSeatOf starts allows s seat =
     (seat.table_id ≡ table_of s) × (seat.me.0.start ≡ start_of s) × (seat.me.0.base ≡ (config_of s).base)
     × ∥ Known starts allows seat.me.0 ∥₁
@@ -48,7 +48,7 @@ abbrev pub HomesAreApart : Type 0
 HomesAreApart = (c d : Config) (t u : TableId) → home_of c t ≡ home_of d u → (c ≡ d) × (t ≡ u)
 
 -- the seat that a view means, of this domain and with this limit of a write set
-abbrev pub seat_meant : List ℕ → ℕ → View → Seat
+abbrev pub seat_meant : List ℕ → ℕ → Knowledge → Seat
 seat_meant home write_max v = record {
   number = v.number;
   home = home;
@@ -65,7 +65,7 @@ seat_meant home write_max v = record {
 
 module _ {P : Type 0} {g : Ghosts P} where
   -- what the pass knows
-  abbrev pub view : Pass P g → View
+  abbrev pub view : Pass P g → Knowledge
   view p = p.seat.me.0
 
   -- which table the pass steps over

@@ -7,21 +7,21 @@ use Rattle.atomic_table.specs.Table as table
 use Rattle.mv_history.specs.declared.Entry.{Entry}
 use Rattle.mv_history.specs.State.{State, Writes, maker_of}
 use Rattle.mv_layout.specs.declared.Config.{Config}
-use Rattle.mv_layout.specs.declared.Place.TheVariants.{Clock, Grace, Mark, Master, First, Stamp, Prev, Super, Data}
+use Rattle.mv_layout.specs.declared.SharedWord.TheVariants.{Clock, Grace, Mark, Master, First, Stamp, Prev, Super, Data}
 use Rattle.mv_layout.specs.Places.{Memory}
 use Rattle.mv_layout.specs.Words.{clock_of, clock_time_of, clock_seat_of, clock_slot_of, link_of}
 use Rattle.mv_core.specs.declared.ring.Ring.{Ring}
 use Rattle.mv_core.specs.declared.ring.Slot.TheVariants.{Live}
 use Rattle.mv_core.specs.declared.ring.Version.{Version}
-use Rattle.mv_core.specs.declared.ring.Status.{Status}
-use Rattle.mv_core.specs.declared.ring.Status.TheVariants.{Committed}
+use Rattle.mv_core.specs.declared.ring.WriteSetStatus.{WriteSetStatus}
+use Rattle.mv_core.specs.declared.ring.WriteSetStatus.TheVariants.{Committed}
 use Rattle.mv_core.specs.declared.ring.CommitNote.{CommitNote}
-use Rattle.mv_core.specs.declared.view.View.{View}
-use Rattle.mv_core.specs.declared.view.Note.{Note}
+use Rattle.mv_core.specs.declared.view.Knowledge.{Knowledge}
+use Rattle.mv_core.specs.declared.view.JoinedSeat.{JoinedSeat}
 use Rattle.mv_core.specs.declared.view.Past.{Past}
 use Rattle.mv_core.specs.declared.view.WriteBack.{WriteBack}
-use Rattle.mv_core.specs.declared.view.Walk.TheVariants.{At}
-use Rattle.mv_core.specs.declared.view.Walk.TheVariants as walk
+use Rattle.mv_core.specs.declared.view.WalkStage.TheVariants.{At}
+use Rattle.mv_core.specs.declared.view.WalkStage.TheVariants as walk
 use Rattle.mv_core.specs.declared.view.Stand.{Stand}
 use Rattle.mv_core.specs.declared.shared.Opening.{Opening}
 use Rattle.mv_core.specs.Rings.{slot_at, Lives, index_of}
@@ -33,7 +33,7 @@ use Rattle.mv_core.specs.SectionFacts.{Marks, StampedPastHelp, HelpedWords, Lock
 use Rattle.mv_core.specs.SectionFacts as section
 use Rattle.mv_core.specs.ReclaimFacts.{Deaths}
 use Rattle.mv_core.specs.WalkFacts.{IsBeforeDeath}
-use Rattle.mv_core.specs.Chains.{Placed, IsLinked, AreLatest, IsChain, IsGrounded, IsLoose, ReachesLink, Reaches, IsUnderLater, IsRightLink}
+use Rattle.mv_core.specs.Chains.{SlotVersion, IsLinked, AreLatest, IsChain, IsGrounded, IsLoose, ReachesLink, Reaches, IsUnderLater, IsRightLink}
 use Rattle.mv_core.specs.Chains.{IsRightMaster, IsAbortedOver}
 use Rattle.mv_core.specs.ReclaimSteps.{MayStoreFree}
 use Rattle.mv_core.specs.WholeSets.{SetsAreWhole}
@@ -41,22 +41,22 @@ use Rattle.mv_core.specs.Frees.{FreesHold, FirstFree}
 use Rattle.mv_core.specs.Rule.{IsThere, Ruled}
 
 -- the numbers of the unspent views and of the notes of joined seats all differ
-pub record AllDiffer (vs : List View) : Type 0 where
-  pub views : (i j : ℕ) (v w : View) → get_elem? vs i ≡ some v → get_elem? vs j ≡ some w → v.spent ≡ false → w.spent ≡ false
+pub record AllDiffer (vs : List Knowledge) : Type 0 where
+  pub views : (i j : ℕ) (v w : Knowledge) → get_elem? vs i ≡ some v → get_elem? vs j ≡ some w → v.spent ≡ false → w.spent ≡ false
       → v.number ≡ w.number → i ≡ j
-  pub joined : (i j : ℕ) (v w : View) (n : Note) → get_elem? vs i ≡ some v → get_elem? vs j ≡ some w → v.spent ≡ false → w.spent ≡ false
+  pub joined : (i j : ℕ) (v w : Knowledge) (n : JoinedSeat) → get_elem? vs i ≡ some v → get_elem? vs j ≡ some w → v.spent ≡ false → w.spent ≡ false
       → Contains v.notes n → w.number ≢ n.number
-  pub notes : (i j a b : ℕ) (v w : View) (m n : Note) → get_elem? vs i ≡ some v → get_elem? vs j ≡ some w → v.spent ≡ false
+  pub notes : (i j a b : ℕ) (v w : Knowledge) (m n : JoinedSeat) → get_elem? vs i ≡ some v → get_elem? vs j ≡ some w → v.spent ≡ false
       → w.spent ≡ false → get_elem? v.notes a ≡ some m → get_elem? w.notes b ≡ some n → m.number ≡ n.number → (i ≡ j) × (a ≡ b)
 
 -- each entry of a history is of a seat that has an unspent view among these, or a note in one
-abbrev pub EntriesAreNamed : List View → List Entry → Type 0
+abbrev pub EntriesAreNamed : List Knowledge → List Entry → Type 0
 EntriesAreNamed vs h = (e : Entry) → Contains h e → IsThere vs (maker_of e)
 
 -- what is said of the history by number is said of the unspent views and of the notes of joined seats
-pub record AreThePasts (vs : List View) (past : ℕ → Past) : Type 0 where
-  pub views : (id : ℕ) (v : View) → get_elem? vs id ≡ some v → v.spent ≡ false → past v.number ≡ v.past
-  pub notes : (id : ℕ) (v : View) (n : Note) → get_elem? vs id ≡ some v → v.spent ≡ false → Contains v.notes n → past n.number ≡ n.past
+pub record AreThePasts (vs : List Knowledge) (past : ℕ → Past) : Type 0 where
+  pub views : (id : ℕ) (v : Knowledge) → get_elem? vs id ≡ some v → v.spent ≡ false → past v.number ≡ v.past
+  pub notes : (id : ℕ) (v : Knowledge) (n : JoinedSeat) → get_elem? vs id ≡ some v → v.spent ≡ false → Contains v.notes n → past n.number ≡ n.past
 
 -- While the clock names a commit, the first version of that commit's write set is live in the clock's slot of that seat's log. The word
 -- has the time, the seat and the first slot of each live version of the commit of its time.
@@ -119,9 +119,9 @@ OneWritesBack f = (s t : ℕ) (a b : WriteBack) → f.back s ≡ Some a → f.ba
 
 -- the one chain of an object: at most as many versions as there are slots, its latest writes, under perhaps one held version, ending grounded or loose
 pub record ChainIs (c : Config) (start : State) (m : Memory) (h : List Entry) (f : ViewParts) (o : ℕ) : Type 0 where
-  pub versions : List Placed
+  pub versions : List SlotVersion
   pub is : IsChain m f.ring o versions
-  pub once : (others : List Placed) → IsChain m f.ring o others → others ≡ versions
+  pub once : (others : List SlotVersion) → IsChain m f.ring o others → others ≡ versions
   pub short : length versions ≤ c.seats * c.slots
   pub latest : AreLatest c h o versions
   pub ends : IsGrounded m f.ring c start h f.time o versions ⊎ IsLoose m f.ring c start h f.time versions
@@ -133,17 +133,17 @@ ChainsHold c start m h f = (o : ℕ) → ChainIs c start m h f o
 -- reachable-links: a link that a section reaches is 0 or names a live version, in the slot of its position
 abbrev pub ReachedAreLive : Config → Memory → ViewParts → Type 0
 ReachedAreLive c m f =
-    (j t link : ℕ) → ReachesLink c m f j t link → link ≢ 0 → (p : Placed) × IsLinked m f.ring link p × (index_of c p.version.position ≡ p.slot)
+    (j t link : ℕ) → ReachesLink c m f j t link → link ≢ 0 → (p : SlotVersion) × IsLinked m f.ring link p × (index_of c p.version.position ≡ p.slot)
 
 -- no-slot-reuse: while a section reaches the link of a position, its slot has the version of that very position, so it isn't built again
 abbrev pub ReachedAreKept : Config → Memory → ViewParts → Type 0
 ReachedAreKept c m f =
     (j t link s position : ℕ) → ReachesLink c m f j t link → position < 2 ^ 57 → link ≡ link_of s position
-    → (x : Version) × (st : Status) × Lives f.ring s (index_of c position) x st × (x.position ≡ position)
+    → (x : Version) × (st : WriteSetStatus) × Lives f.ring s (index_of c position) x st × (x.position ≡ position)
 
 -- walkers-and-deaths, of deaths: a noted time of death of a version is above the time of each section that stands at the version or reaches it
 abbrev pub ReachedBeforeDeath : Config → Memory → ViewParts → Type 0
-ReachedBeforeDeath c m f = (j t : ℕ) (p : Placed) → Reaches c m f j t p → IsBeforeDeath t p.status
+ReachedBeforeDeath c m f = (j t : ℕ) (p : SlotVersion) → Reaches c m f j t p → IsBeforeDeath t p.status
 
 -- walkers-and-deaths, of places: a walk stands at a chained version above which all are held or later than its section's time, at
 -- one that was cut and has the words of that time, at an aborted one over such a one, or at a master with those words
@@ -183,7 +183,7 @@ BacksHold c m h f = (s : ℕ) (b : WriteBack) → f.back s ≡ Some b → BackIs
 module _ (starts : State → Type 0) (allows : List ℕ → State → Writes → Type 0) where
   -- in each state that the rule allows, this holds of the words by name, of the history and of the seats' views
   abbrev pub InEachState : (Config → State → Memory → List Entry → ViewParts → Type 0) → Type 0
-  InEachState P = (key : Opening) (s : table.State (List ℕ) View) (r : Ruled starts allows key s)
+  InEachState P = (key : Opening) (s : table.State (List ℕ) Knowledge) (r : Ruled starts allows key s)
       → P key.config key.start.value.items r.memory r.history (parts_of r.seats)
 
   -- history: it is legal and allowed, its length is the clock's time less base, each seat has seen a part of it and one all of
@@ -191,7 +191,7 @@ module _ (starts : State → Type 0) (allows : List ℕ → State → Writes →
   -- rests; the seats' numbers differ, each entry is of one of them, and what a seat knows is in its view or its note
   abbrev pub HistoryPoint : Type 0
   HistoryPoint =
-      (key : Opening) (s : table.State (List ℕ) View) (r : Ruled starts allows key s)
+      (key : Opening) (s : table.State (List ℕ) Knowledge) (r : Ruled starts allows key s)
       → History starts allows key.config key.start.value.items (r.memory Clock) r.history (λ n. (r.seats n).past)
       × ClockNames key.config (r.memory Clock) (λ n. (r.seats n).ring) × AllDiffer s.views × EntriesAreNamed s.views r.history
       × AreThePasts s.views (λ n. (r.seats n).past)
@@ -203,9 +203,9 @@ module _ (starts : State → Type 0) (allows : List ℕ → State → Writes →
   -- frees of write sets: what is being freed and what is dead, and each first free that a seat may make
   abbrev pub FreesPoint : Type 0
   FreesPoint =
-      (key : Opening) (s : table.State (List ℕ) View) (r : Ruled starts allows key s)
+      (key : Opening) (s : table.State (List ℕ) Knowledge) (r : Ruled starts allows key s)
       → FreesHold key.config r.memory r.history (parts_of r.seats)
-      × ((n position : ℕ) (x : Version) (st : Status) → MayStoreFree key.config (r.seats n) position
+      × ((n position : ℕ) (x : Version) (st : WriteSetStatus) → MayStoreFree key.config (r.seats n) position
       → slot_at (r.seats n).ring (index_of key.config position) ≡ Live x st → FirstFree key.config (r.seats n) position x)
 
   -- marks, in each such state

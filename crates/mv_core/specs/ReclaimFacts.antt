@@ -9,11 +9,11 @@ use Rattle.mv_core.specs.declared.ring.Ring.{Ring}
 use Rattle.mv_core.specs.declared.ring.Slot.TheVariants.{Free, Built, Freeing}
 use Rattle.mv_core.specs.declared.ring.Build.{Build}
 use Rattle.mv_core.specs.declared.ring.Version.{Version}
-use Rattle.mv_core.specs.declared.ring.Status.{Status}
-use Rattle.mv_core.specs.declared.ring.Status.TheVariants.{Held, Aborted, Committed}
+use Rattle.mv_core.specs.declared.ring.WriteSetStatus.{WriteSetStatus}
+use Rattle.mv_core.specs.declared.ring.WriteSetStatus.TheVariants.{Held, Aborted, Committed}
 use Rattle.mv_core.specs.declared.ring.CommitNote.{CommitNote}
 use Rattle.mv_core.specs.declared.view.Past.{Past}
-use Rattle.mv_core.specs.declared.view.Section.{Section}
+use Rattle.mv_core.specs.declared.view.OwnSection.{OwnSection}
 use Rattle.mv_core.specs.declared.view.Mode.TheVariants.{Open, Named}
 use Rattle.mv_core.specs.declared.view.Naming.{Naming}
 use Rattle.mv_core.specs.declared.view.LoadedClocks.{LoadedClocks}
@@ -32,24 +32,24 @@ pub record Deaths (c : Config) (h : List Entry) (rings : ℕ → Ring) : Type 0 
       → note.dead ≡ Some dead → IsNextWrite c.base h x.object note.time dead
 
 -- the death that is noted in a status
-abbrev pub death_in : Status → Option ℕ
+abbrev pub death_in : WriteSetStatus → Option ℕ
 death_in Held = None
 death_in (Aborted dead) = dead
 death_in (Committed note) = note.dead
 
 -- the version is committed and wasn't cut
-abbrev pub IsUncut : Status → Type 0
+abbrev pub IsUncut : WriteSetStatus → Type 0
 IsUncut Held = ⊥
 IsUncut (Aborted dead) = ⊥
 IsUncut (Committed note) = note.cut ≡ false
 
 -- a death that is noted in the status isn't after what was seen up to this time; of a version that was aborted or cut it may be the time after it
-abbrev pub DeathSeen : ℕ → Status → Type 0
+abbrev pub DeathSeen : ℕ → WriteSetStatus → Type 0
 DeathSeen now st = (dead : ℕ) → death_in st ≡ Some dead → (dead ≤ now + 1) × (IsUncut st → dead ≤ now)
 
 -- deaths-seen: a death that a seat noted is a time that it has seen, or, of a version that was aborted or cut, at most the time after all that it has seen
 abbrev pub DeathsSeen : Config → (ℕ → Past) → (ℕ → Ring) → Type 0
-DeathsSeen c past rings = (s k : ℕ) (x : Version) (st : Status) → Lives rings s k x st → DeathSeen (c.base + length (past s).seen) st
+DeathsSeen c past rings = (s k : ℕ) (x : Version) (st : WriteSetStatus) → Lives rings s k x st → DeathSeen (c.base + length (past s).seen) st
 
 -- death-after-write: a noted death of a committed version is above its time
 abbrev pub DeathAfterWrite : (ℕ → Ring) → Type 0
@@ -71,9 +71,9 @@ CutIsOld time rings =
 
 -- successor-flag: under a commit that isn't finished, the version below is uncut, and its SUPER is that commit's time where the
 -- view says so, and else 0, with no death noted there
-abbrev pub SuccessorFlag : (ℕ → ℕ → ℕ) → (ℕ → Option Section) → (ℕ → Ring) → Type 0
+abbrev pub SuccessorFlag : (ℕ → ℕ → ℕ) → (ℕ → Option OwnSection) → (ℕ → Ring) → Type 0
 SuccessorFlag super section rings =
-    (s k : ℕ) (inside : Section) (n : Naming) (x : Version) (note : CommitNote) → section s ≡ Some inside → inside.mode ≡ Named n
+    (s k : ℕ) (inside : OwnSection) (n : Naming) (x : Version) (note : CommitNote) → section s ≡ Some inside → inside.mode ≡ Named n
     → Lives rings s k x (Committed note) → note.time ≡ n.time
     → (x.previous ≡ 0 → note.linked ≡ true)
     × ((y : Version) (other : CommitNote) (below : Names rings x.previous y (Committed other))
@@ -83,7 +83,7 @@ SuccessorFlag super section rings =
 -- what a write-back is of: a live committed version of the object in the own log, the object's last write up to that section's
 -- time, not above any section's time nor the watermark; until its exchange it isn't cut, and the words stored so far are its own
 pub record IsWrittenBack (c : Config) (h : List Entry) (master : ℕ → ℕ → ℕ) (time : ℕ → Option ℕ) (ring : ℕ → Ring) (s : ℕ)
-    (clocks : LoadedClocks) (grace : ℕ) (b : WriteBack) (inside : Section) : Type 0 where
+    (clocks : LoadedClocks) (grace : ℕ) (b : WriteBack) (inside : OwnSection) : Type 0 where
   pub mode : inside.mode ≡ Open
   pub helped : IsPastHelp clocks inside
   pub nothing : HoldsNothing (ring s)
@@ -100,10 +100,10 @@ pub record IsWrittenBack (c : Config) (h : List Entry) (master : ℕ → ℕ →
   pub words : b.tried ≡ false → (i : ℕ) → i < b.stored → master b.object i ≡ slice_index version.words i
 
 -- write-back, with words-written and uncut-while-writing: who writes back is in such a section
-abbrev pub WriteBacks : Config → List Entry → (ℕ → ℕ → ℕ) → (ℕ → Option Section) → (ℕ → Option ℕ) → (ℕ → LoadedClocks)
+abbrev pub WriteBacks : Config → List Entry → (ℕ → ℕ → ℕ) → (ℕ → Option OwnSection) → (ℕ → Option ℕ) → (ℕ → LoadedClocks)
     → (ℕ → ℕ) → (ℕ → Option WriteBack) → (ℕ → Ring) → Type 0
 WriteBacks c h master section time clocks grace back rings =
-    (s : ℕ) (b : WriteBack) → back s ≡ Some b → (inside : Section) × (section s ≡ Some inside)
+    (s : ℕ) (b : WriteBack) → back s ≡ Some b → (inside : OwnSection) × (section s ≡ Some inside)
     × IsWrittenBack c h master time rings s (clocks s) (grace s) b inside
 
 -- the least position from `next` on that has this slot
@@ -112,7 +112,7 @@ next_in c r k = r.next + (k + c.slots - r.next % c.slots) % c.slots
 
 -- positions-and-grace: the time of the round that a position is of isn't above its seat's watermark, and a commit and a death come after it
 pub record PositionsAndGrace (c : Config) (grace : ℕ → ℕ) (rings : ℕ → Ring) : Type 0 where
-  pub live : (s k : ℕ) (x : Version) (st : Status) → Lives rings s k x st → c.base + x.position / c.slots ≤ grace s
+  pub live : (s k : ℕ) (x : Version) (st : WriteSetStatus) → Lives rings s k x st → c.base + x.position / c.slots ≤ grace s
   pub free : (s k : ℕ) → k < c.slots → slot_at (rings s) k ≡ Free → c.base + next_in c (rings s) k / c.slots ≤ grace s
   pub built : (s k : ℕ) (b : Build) → slot_at (rings s) k ≡ Built b → c.base + (rings s).next / c.slots ≤ grace s
   pub freeing : (s k p first : ℕ) → slot_at (rings s) k ≡ Freeing p first → c.base + p / c.slots < grace s

@@ -8,8 +8,8 @@ use Rattle.mv_core.specs.declared.ring.Ring.{Ring}
 use Rattle.mv_core.specs.declared.ring.Slot.{Slot}
 use Rattle.mv_core.specs.declared.ring.Slot.TheVariants.{Free, Built, Live, Freeing}
 use Rattle.mv_core.specs.declared.ring.Version.{Version}
-use Rattle.mv_core.specs.declared.ring.Status.{Status}
-use Rattle.mv_core.specs.declared.ring.Status.TheVariants.{Held, Committed}
+use Rattle.mv_core.specs.declared.ring.WriteSetStatus.{WriteSetStatus}
+use Rattle.mv_core.specs.declared.ring.WriteSetStatus.TheVariants.{Held, Committed}
 use Rattle.mv_core.specs.declared.ring.CommitNote.{CommitNote}
 
 -- what is in a slot
@@ -72,11 +72,11 @@ HoldsNothing r = (k : ℕ) (x : Version) → slot_at r k ≢ Live x Held
 -- what follows is over the logs of all seats, by number
 module _ (rings : ℕ → Ring) where
   -- the slot k of the seat s has this version, with this status
-  abbrev pub Lives : ℕ → ℕ → Version → Status → Type 0
+  abbrev pub Lives : ℕ → ℕ → Version → WriteSetStatus → Type 0
   Lives s k x st = slot_at (rings s) k ≡ Live x st
 
   -- the link names this version
-  pub record Names (link : ℕ) (x : Version) (st : Status) : Type 0 where
+  pub record Names (link : ℕ) (x : Version) (st : WriteSetStatus) : Type 0 where
     pub seat : ℕ
     pub slot : ℕ
     pub lives : Lives seat slot x st
@@ -88,7 +88,7 @@ module _ (rings : ℕ → Ring) where
     pub position : ℕ
     pub is : link ≡ link_of seat position
     pub used : position < (rings seat).next
-    pub gone : (k : ℕ) (x : Version) (st : Status) → Lives seat k x st → x.position ≢ position
+    pub gone : (k : ℕ) (x : Version) (st : WriteSetStatus) → Lives seat k x st → x.position ≢ position
 
   -- the link names the version of the object's write at this time
   pub record IsVersion (object time link : ℕ) (x : Version) (note : CommitNote) : Type 0 where
@@ -113,13 +113,13 @@ module _ (rings : ℕ → Ring) where
   -- a position is in use where its slot has a version of it, or is being freed
   abbrev pub InUse : Config → ℕ → ℕ → Type 0
   InUse c s p =
-      ((x : Version) × (st : Status) × Lives s (index_of c p) x st × (x.position ≡ p))
+      ((x : Version) × (st : WriteSetStatus) × Lives s (index_of c p) x st × (x.position ≡ p))
       ⊎ ((first : ℕ) × (slot_at (rings s) (index_of c p) ≡ Freeing p first))
 
   -- the first version of a version's write set is live too
   pub record HasFirst (c : Config) (s : ℕ) (x : Version) : Type 0 where
     pub version : Version
-    pub status : Status
+    pub status : WriteSetStatus
     pub lives : Lives s (index_of c x.first) version status
     pub position_is : version.position ≡ x.first
     pub first_is : version.first ≡ x.first

@@ -1,7 +1,7 @@
 -- The cells at which slots begin.
 use Rattle.std.specs.Prelude.{◌≡◌, ℕ}
 use Rattle.mv_layout.specs.declared.Config.{Config}
-use Rattle.mv_layout.specs.declared.Place.TheVariants.{First}
+use Rattle.mv_layout.specs.declared.SharedWord.TheVariants.{First}
 use Rattle.mv_layout.specs.Cells.{cell_of}
 use Rattle.mv_layout.specs.Words.{link_seat_of}
 use Rattle.mv_core.specs.Rings.{index_of}

@@ -5,12 +5,12 @@ use Rattle.mv_history.specs.Legal.{AreWords}
 use Rattle.mv_history.specs.Meaning.{words_at}
 use Rattle.mv_history.specs.declared.StepKind.TheVariants.{MakeSeat}
 use Rattle.mv_layout.specs.declared.Config.{Config}
-use Rattle.mv_layout.specs.declared.Place.{Place}
-use Rattle.mv_layout.specs.declared.Place.TheVariants.{Clock, Grace, Master}
+use Rattle.mv_layout.specs.declared.SharedWord.{SharedWord}
+use Rattle.mv_layout.specs.declared.SharedWord.TheVariants.{Clock, Grace, Master}
 use Rattle.mv_layout.specs.Words.{clock_of}
 use Rattle.mv_layout.specs.Places.{Memory, IsPlace}
 use Rattle.mv_layout.specs.Cells.{Shows, cells, cell_of}
-use Rattle.mv_core.specs.declared.view.View.{View}
+use Rattle.mv_core.specs.declared.view.Knowledge.{Knowledge}
 use Rattle.mv_core.specs.Views.{new_view}
 
 -- six words of 0
@@ -33,16 +33,16 @@ abbrev pub ShowsOpening : Config → State → List ℕ → Type 0
 ShowsOpening c start words = AreWords start × Shows c words (opening_memory c start)
 
 -- the view of the first seat, once there are this many: the making of each other one is in its trail
-abbrev pub maker_view : Config → State → ℕ → View
+abbrev pub maker_view : Config → State → ℕ → Knowledge
 maker_view c start made = record (new_view c start 0 made) { trail = replicate (made - 1) (record { kind = MakeSeat; word = 0; found = None; stored = None }) }
 
 -- the view with which a seat of a new domain begins
-abbrev pub starting_view : Config → State → ℕ → View
+abbrev pub starting_view : Config → State → ℕ → Knowledge
 starting_view c start zero = maker_view c start c.seats
 starting_view c start (suc number) = new_view c start (suc number) 0
 
 -- a word that is 0 at the opening
-abbrev pub IsBlank : Place → Type 0
+abbrev pub IsBlank : SharedWord → Type 0
 IsBlank Clock = ⊥
 IsBlank Grace = ⊥
 IsBlank (Master o w) = ⊥
@@ -55,4 +55,4 @@ pub record Laid (c : Config) (start : State) (words : List ℕ) (objects laid : 
   pub grace : slice_index words (cell_of c Grace) ≡ c.base
   pub master : (o w : ℕ) → o < c.objects → w < 6 → (o < objects) ⊎ ((o ≡ objects) × (w < laid))
       → slice_index words (cell_of c (Master o w)) ≡ slice_index (words_at start o) w
-  pub blank : (p : Place) → IsPlace c p → IsBlank p → slice_index words (cell_of c p) ≡ 0
+  pub blank : (p : SharedWord) → IsPlace c p → IsBlank p → slice_index words (cell_of c p) ≡ 0

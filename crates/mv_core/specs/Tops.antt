@@ -3,15 +3,15 @@ use Rattle.std.specs.Prelude.{◌≡◌, ◌≢◌, ◌⊎◌, ℕ, List}
 use Rattle.mv_history.specs.declared.Entry.{Entry}
 use Rattle.mv_history.specs.State.{State, Writes}
 use Rattle.mv_layout.specs.declared.Config.{Config}
-use Rattle.mv_layout.specs.declared.Place.TheVariants.{Head}
+use Rattle.mv_layout.specs.declared.SharedWord.TheVariants.{Head}
 use Rattle.mv_layout.specs.Places.{Memory}
 use Rattle.mv_layout.specs.Words.{link_of, link_seat_of}
 use Rattle.mv_core.specs.declared.ring.Slot.TheVariants.{Live}
 use Rattle.mv_core.specs.declared.ring.Version.{Version}
-use Rattle.mv_core.specs.declared.ring.Status.{Status}
-use Rattle.mv_core.specs.declared.ring.Status.TheVariants.{Held, Committed}
+use Rattle.mv_core.specs.declared.ring.WriteSetStatus.{WriteSetStatus}
+use Rattle.mv_core.specs.declared.ring.WriteSetStatus.TheVariants.{Held, Committed}
 use Rattle.mv_core.specs.declared.ring.CommitNote.{CommitNote}
-use Rattle.mv_core.specs.declared.view.View.{View}
+use Rattle.mv_core.specs.declared.view.Knowledge.{Knowledge}
 use Rattle.mv_core.specs.Rings.{slot_at}
 use Rattle.mv_core.specs.Times.{latest}
 use Rattle.mv_core.specs.Views.{parts_of}
@@ -29,21 +29,21 @@ any_commit tag state writes = Unit {0}
 
 -- A state of the rule in which a seat has this view: words by name, a history, and the views of all seats. All facts hold of it, but
 -- for what the client's own rules say of the history.
-pub record StateWith (c : Config) (v : View) : Type 0 where
+pub record StateWith (c : Config) (v : Knowledge) : Type 0 where
   pub memory : Memory
   pub history : List Entry
-  pub seats : ℕ → View
+  pub seats : ℕ → Knowledge
   pub own : seats v.number ≡ v
   pub facts : Facts any_start any_commit c v.start memory history (parts_of seats)
 
 -- The link was in HEAD of the object in a state of the rule in which the seat has this view. There it names a live version of the
 -- object, in the log of the seat that it is of, which is held, or has the object's last commit; and which is held, or was committed
 -- later than each version of the object that the own log has as committed.
-pub record NamesNewer (c : Config) (v : View) (object link : ℕ) : Type 0 where
+pub record NamesNewer (c : Config) (v : Knowledge) (object link : ℕ) : Type 0 where
   pub state : StateWith c v
   pub head : state.memory (Head object) ≡ link
   pub version : Version
-  pub status : Status
+  pub status : WriteSetStatus
   pub lives : slot_at (state.seats (link_seat_of link)).ring (slot_named c link) ≡ Live version status
   pub link_is : link ≡ link_of (link_seat_of link) version.position
   pub object_is : version.object ≡ object
@@ -51,5 +51,5 @@ pub record NamesNewer (c : Config) (v : View) (object link : ℕ) : Type 0 where
   pub newer : (k : ℕ) (x : Version) (own : CommitNote) → slot_at v.ring k ≡ Live x (Committed own) → x.object ≡ object → IsLater own.time status
 
 -- so it is where the link is of another seat
-abbrev pub IsNewer : Config → View → ℕ → ℕ → Type 0
+abbrev pub IsNewer : Config → Knowledge → ℕ → ℕ → Type 0
 IsNewer c v object link = link ≢ 0 → link_seat_of link ≢ v.number → NamesNewer c v object link

@@ -4,21 +4,21 @@ use Rattle.mv_history.specs.State.{State}
 use Rattle.mv_history.specs.declared.Step.{Step}
 use Rattle.mv_history.specs.declared.StepKind.{StepKind}
 use Rattle.mv_layout.specs.declared.Config.{Config}
-use Rattle.mv_layout.specs.declared.Place.{Place}
+use Rattle.mv_layout.specs.declared.SharedWord.{SharedWord}
 use Rattle.mv_layout.specs.Places.{place_of}
 use Rattle.mv_layout.specs.Words.{clock_time_of, clock_slot_of}
 use Rattle.mv_core.specs.declared.ring.Ring.{Ring}
-use Rattle.mv_core.specs.declared.view.View.{View}
+use Rattle.mv_core.specs.declared.view.Knowledge.{Knowledge}
 use Rattle.mv_core.specs.declared.view.Past.{Past}
-use Rattle.mv_core.specs.declared.view.Note.{Note}
+use Rattle.mv_core.specs.declared.view.JoinedSeat.{JoinedSeat}
 use Rattle.mv_core.specs.declared.view.Phase.{Phase}
 use Rattle.mv_core.specs.declared.view.Phase.TheVariants.{Outside, Lowered, Marked, Inside}
-use Rattle.mv_core.specs.declared.view.Section.{Section}
+use Rattle.mv_core.specs.declared.view.OwnSection.{OwnSection}
 use Rattle.mv_core.specs.declared.view.Mode.{Mode}
 use Rattle.mv_core.specs.declared.view.Mode.TheVariants.{Open, Aborting, Named}
 use Rattle.mv_core.specs.declared.view.LoadedClocks.{LoadedClocks}
-use Rattle.mv_core.specs.declared.view.Walk.{Walk}
-use Rattle.mv_core.specs.declared.view.Walk.TheVariants.{Nowhere}
+use Rattle.mv_core.specs.declared.view.WalkStage.{WalkStage}
+use Rattle.mv_core.specs.declared.view.WalkStage.TheVariants.{Nowhere}
 use Rattle.mv_core.specs.declared.view.EmptyHead.{EmptyHead}
 use Rattle.mv_core.specs.declared.view.WriteBack.{WriteBack}
 use Rattle.mv_core.specs.declared.view.Scan.{Scan}
@@ -29,7 +29,7 @@ abbrev pub no_clocks : LoadedClocks
 no_clocks = record { loaded = []; helped = []; found = None }
 
 -- the view of the seat of this number, which has made no step
-abbrev pub new_view : Config → State → ℕ → ℕ → View
+abbrev pub new_view : Config → State → ℕ → ℕ → Knowledge
 new_view c start number made = record {
   number = number;
   start = start;
@@ -50,7 +50,7 @@ new_view c start number made = record {
 }
 
 -- the view that a joined seat leaves behind
-abbrev pub spent_view : View
+abbrev pub spent_view : Knowledge
 spent_view = record {
   number = 0;
   start = [];
@@ -71,18 +71,18 @@ spent_view = record {
 }
 
 -- the seat of this number is that of the view, or was joined to it
-abbrev pub HasSeat : View → ℕ → Type 0
-HasSeat v s = (v.number ≡ s) ⊎ ((n : Note) × Contains v.notes n × (n.number ≡ s))
+abbrev pub HasSeat : Knowledge → ℕ → Type 0
+HasSeat v s = (v.number ≡ s) ⊎ ((n : JoinedSeat) × Contains v.notes n × (n.number ≡ s))
 
 -- the section that a seat is in
-abbrev pub section_of : Phase → Option Section
+abbrev pub section_of : Phase → Option OwnSection
 section_of Outside = None
 section_of (Lowered low) = None
 section_of (Marked low) = None
 section_of (Inside s) = Some s
 
 -- the time of a section
-abbrev pub time_in : Section → ℕ
+abbrev pub time_in : OwnSection → ℕ
 time_in s = clock_time_of s.word
 
 -- the time of the section that a seat is in
@@ -110,7 +110,7 @@ abbrev pub names_none : ℕ → Bool
 names_none word = clock_slot_of word == 8191
 
 -- the trail with one more step
-abbrev pub with_step : Config → View → StepKind → Place → Option ℕ → Option ℕ → List Step
+abbrev pub with_step : Config → Knowledge → StepKind → SharedWord → Option ℕ → Option ℕ → List Step
 with_step c v kind place found stored =
     v.trail ++ record { kind = kind; word = place_of c place; found = found; stored = stored } ∷ []
 
@@ -118,10 +118,10 @@ with_step c v kind place found stored =
 pub record ViewParts : Type 0 where
   pub past : ℕ → Past
   pub phase : ℕ → Phase
-  pub section : ℕ → Option Section
+  pub section : ℕ → Option OwnSection
   pub time : ℕ → Option ℕ
   pub clocks : ℕ → LoadedClocks
-  pub walk : ℕ → Walk
+  pub walk : ℕ → WalkStage
   pub empty : ℕ → List EmptyHead
   pub ring : ℕ → Ring
   pub back : ℕ → Option WriteBack
@@ -129,7 +129,7 @@ pub record ViewParts : Type 0 where
   pub grace : ℕ → ℕ
 
 -- the parts of these views
-abbrev pub parts_of : (ℕ → View) → ViewParts
+abbrev pub parts_of : (ℕ → Knowledge) → ViewParts
 parts_of seats = record {
   past = λ s. (seats s).past;
   phase = λ s. (seats s).phase;

@@ -7,13 +7,13 @@ use Rattle.mv_layout.specs.declared.Config.{Config}
 use Rattle.mv_layout.specs.Words.{IsUnset}
 use Rattle.mv_core.specs.declared.ring.Ring.{Ring}
 use Rattle.mv_core.specs.declared.ring.Version.{Version}
-use Rattle.mv_core.specs.declared.ring.Status.{Status}
-use Rattle.mv_core.specs.declared.ring.Status.TheVariants.{Held, Aborted, Committed}
+use Rattle.mv_core.specs.declared.ring.WriteSetStatus.{WriteSetStatus}
+use Rattle.mv_core.specs.declared.ring.WriteSetStatus.TheVariants.{Held, Aborted, Committed}
 use Rattle.mv_core.specs.declared.ring.CommitNote.{CommitNote}
-use Rattle.mv_core.specs.declared.view.Section.{Section}
+use Rattle.mv_core.specs.declared.view.OwnSection.{OwnSection}
 use Rattle.mv_core.specs.declared.view.LoadedClocks.{LoadedClocks}
-use Rattle.mv_core.specs.declared.view.Walk.{Walk}
-use Rattle.mv_core.specs.declared.view.Walk.TheVariants.{Nowhere, At, Master}
+use Rattle.mv_core.specs.declared.view.WalkStage.{WalkStage}
+use Rattle.mv_core.specs.declared.view.WalkStage.TheVariants.{Nowhere, At, Master}
 use Rattle.mv_core.specs.declared.view.Stand.{Stand}
 use Rattle.mv_core.specs.declared.view.Passed.{Passed}
 use Rattle.mv_core.specs.declared.view.Passed.TheVariants.{Nothing, Unset, Time}
@@ -33,7 +33,7 @@ abbrev pub IsRightFor : Config → List Entry → ℕ → Version → CommitNote
 IsRightFor c h t x note = (t < note.time) ⊎ (note.time ≡ latest_at c.base h x.object t)
 
 -- a version that a walk of time t may stand at, by its status
-abbrev pub MayStandAt : Config → State → List Entry → (ℕ → ℕ → ℕ) → (ℕ → Ring) → ℕ → Version → Status → Type 0
+abbrev pub MayStandAt : Config → State → List Entry → (ℕ → ℕ → ℕ) → (ℕ → Ring) → ℕ → Version → WriteSetStatus → Type 0
 MayStandAt c start h master rings t x Held = Unit {0}
 MayStandAt c start h master rings t x (Committed note) = IsRightFor c h t x note
 MayStandAt c start h master rings t x (Aborted dead) =
@@ -41,39 +41,39 @@ MayStandAt c start h master rings t x (Aborted dead) =
     ⊎ ((y : Version) × (note : CommitNote) × Names rings x.previous y (Committed note) × (y.object ≡ x.object) × IsRightFor c h t y note)
 
 -- where a walk of time t stands
-abbrev pub StandsRight : Config → State → List Entry → (ℕ → ℕ → ℕ) → (ℕ → Ring) → ℕ → Walk → Type 0
+abbrev pub StandsRight : Config → State → List Entry → (ℕ → ℕ → ℕ) → (ℕ → Ring) → ℕ → WalkStage → Type 0
 StandsRight c start h master rings t Nowhere = Unit {0}
 StandsRight c start h master rings t (Master o) = MasterServes c start h master rings t o
 StandsRight c start h master rings t (At stand) =
-    (x : Version) × (st : Status) × Names rings stand.link x st × (x.object ≡ stand.object) × MayStandAt c start h master rings t x st
+    (x : Version) × (st : WriteSetStatus) × Names rings stand.link x st × (x.object ≡ stand.object) × MayStandAt c start h master rings t x st
 
 -- walker-place: a walk stands at a live version of its object that is right for it, or at a master that serves it
-abbrev pub WalkerPlace : Config → State → List Entry → (ℕ → ℕ → ℕ) → (ℕ → Option ℕ) → (ℕ → Walk) → (ℕ → Ring) → Type 0
+abbrev pub WalkerPlace : Config → State → List Entry → (ℕ → ℕ → ℕ) → (ℕ → Option ℕ) → (ℕ → WalkStage) → (ℕ → Ring) → Type 0
 WalkerPlace c start h master time walk rings =
     (s t : ℕ) → time s ≡ Some t → StandsRight c start h master rings t (walk s)
 
 -- the time is below a noted time of death, if one was noted
-abbrev pub IsBeforeDeath : ℕ → Status → Type 0
+abbrev pub IsBeforeDeath : ℕ → WriteSetStatus → Type 0
 IsBeforeDeath t Held = Unit {0}
 IsBeforeDeath t (Aborted None) = Unit {0}
 IsBeforeDeath t (Aborted (Some dead)) = t < dead
 IsBeforeDeath t (Committed note) = (dead : ℕ) → note.dead ≡ Some dead → t < dead
 
 -- walker-before-death: a section's time is below the noted death of the version it stands at, and of one that an aborted version there links to
-pub record WalkerBeforeDeath (time : ℕ → Option ℕ) (walk : ℕ → Walk) (rings : ℕ → Ring) : Type 0 where
-  pub here : (s t : ℕ) (stand : Stand) (x : Version) (st : Status) → time s ≡ Some t → walk s ≡ At stand → Names rings stand.link x st
+pub record WalkerBeforeDeath (time : ℕ → Option ℕ) (walk : ℕ → WalkStage) (rings : ℕ → Ring) : Type 0 where
+  pub here : (s t : ℕ) (stand : Stand) (x : Version) (st : WriteSetStatus) → time s ≡ Some t → walk s ≡ At stand → Names rings stand.link x st
       → IsBeforeDeath t st
-  pub below : (s t : ℕ) (stand : Stand) (x y : Version) (dead : Option ℕ) (st : Status) → time s ≡ Some t → walk s ≡ At stand
+  pub below : (s t : ℕ) (stand : Stand) (x y : Version) (dead : Option ℕ) (st : WriteSetStatus) → time s ≡ Some t → walk s ≡ At stand
       → Names rings stand.link x (Aborted dead) → Names rings x.previous y st → IsBeforeDeath t st
 
 -- walker-knowledge: who stands somewhere is past the help; the FIRST found is that version's, a time found is that of its commit,
 -- and an unset stamp found means that it isn't committed at or before the section's time
-pub record WalkerKnowledge (section : ℕ → Option Section) (time : ℕ → Option ℕ) (clocks : ℕ → LoadedClocks) (walk : ℕ → Walk)
+pub record WalkerKnowledge (section : ℕ → Option OwnSection) (time : ℕ → Option ℕ) (clocks : ℕ → LoadedClocks) (walk : ℕ → WalkStage)
     (rings : ℕ → Ring) : Type 0 where
-  pub helped : (s : ℕ) (inside : Section) → section s ≡ Some inside → walk s ≢ Nowhere → IsPastHelp (clocks s) inside
-  pub first : (s first : ℕ) (stand : Stand) (x : Version) (st : Status) → walk s ≡ At stand → stand.first ≡ Some first
+  pub helped : (s : ℕ) (inside : OwnSection) → section s ≡ Some inside → walk s ≢ Nowhere → IsPastHelp (clocks s) inside
+  pub first : (s first : ℕ) (stand : Stand) (x : Version) (st : WriteSetStatus) → walk s ≡ At stand → stand.first ≡ Some first
       → Names rings stand.link x st → first ≡ x.first
-  pub stamp : (s found : ℕ) (stand : Stand) (x : Version) (st : Status) → walk s ≡ At stand → stand.stamp ≡ Some found → found < 2 ^ 63
+  pub stamp : (s found : ℕ) (stand : Stand) (x : Version) (st : WriteSetStatus) → walk s ≡ At stand → stand.stamp ≡ Some found → found < 2 ^ 63
       → Names rings stand.link x st → (note : CommitNote) × (st ≡ Committed note) × (note.time ≡ found)
   pub unset : (s t found : ℕ) (stand : Stand) (x : Version) (note : CommitNote) → time s ≡ Some t → walk s ≡ At stand → stand.stamp ≡ Some found
       → IsUnset found → Names rings stand.link x (Committed note) → t < note.time
@@ -92,14 +92,14 @@ HasPassed (Time least) = Unit {0}
 
 -- walker-falls: a walk that has passed a version stands at a committed and stamped one whose time is below all that it passed,
 -- and the stamp found there isn't unset; so it ends
-pub record WalkerFalls (c : Config) (stamp : ℕ → ℕ → ℕ) (walk : ℕ → Walk) (rings : ℕ → Ring) : Type 0 where
-  pub stamped : (s : ℕ) (stand : Stand) (x : Version) (st : Status) → walk s ≡ At stand → HasPassed stand.passed
+pub record WalkerFalls (c : Config) (stamp : ℕ → ℕ → ℕ) (walk : ℕ → WalkStage) (rings : ℕ → Ring) : Type 0 where
+  pub stamped : (s : ℕ) (stand : Stand) (x : Version) (st : WriteSetStatus) → walk s ≡ At stand → HasPassed stand.passed
       → (names : Names rings stand.link x st) → (note : CommitNote) × (st ≡ Committed note) × (stamp_of c stamp names.seat x ≡ note.time)
       × IsBelowPassed note.time stand.passed
   pub found : (s found : ℕ) (stand : Stand) → walk s ≡ At stand → HasPassed stand.passed → stand.stamp ≡ Some found → found < 2 ^ 63
 
 -- walker-late: where a lost exchange of a lock put a walk, the version isn't committed at or before the section's time
-abbrev pub WalkerLate : (ℕ → Option ℕ) → (ℕ → Walk) → (ℕ → Ring) → Type 0
+abbrev pub WalkerLate : (ℕ → Option ℕ) → (ℕ → WalkStage) → (ℕ → Ring) → Type 0
 WalkerLate time walk rings =
     (s t : ℕ) (stand : Stand) (x : Version) (note : CommitNote) → time s ≡ Some t → walk s ≡ At stand → stand.late ≡ true
     → Names rings stand.link x (Committed note) → t < note.time

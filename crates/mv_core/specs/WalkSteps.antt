@@ -4,19 +4,19 @@ use Rattle.std.specs.Prelude.{if◌then◌else◌, List, [], ◌∷◌, ◌++◌
 use Rattle.mv_history.specs.declared.Entry.{Entry}
 use Rattle.mv_history.specs.declared.StepKind.TheVariants.{LoadHead, LoadFirst, LoadStamp, LoadPrev, LoadData, LoadMaster}
 use Rattle.mv_layout.specs.declared.Config.{Config}
-use Rattle.mv_layout.specs.declared.Place.TheVariants.{Head, Master, First, Stamp, Prev, Data}
+use Rattle.mv_layout.specs.declared.SharedWord.TheVariants.{Head, Master, First, Stamp, Prev, Data}
 use Rattle.mv_layout.specs.Words.{link_of, link_seat_of, link_position_of, IsLink, IsUnset}
 use Rattle.mv_core.specs.declared.ring.Slot.TheVariants.{Live}
 use Rattle.mv_core.specs.declared.ring.Version.{Version}
-use Rattle.mv_core.specs.declared.ring.Status.{Status}
-use Rattle.mv_core.specs.declared.ring.Status.TheVariants.{Held, Committed}
+use Rattle.mv_core.specs.declared.ring.WriteSetStatus.{WriteSetStatus}
+use Rattle.mv_core.specs.declared.ring.WriteSetStatus.TheVariants.{Held, Committed}
 use Rattle.mv_core.specs.declared.ring.CommitNote.{CommitNote}
-use Rattle.mv_core.specs.declared.view.View.{View}
+use Rattle.mv_core.specs.declared.view.Knowledge.{Knowledge}
 use Rattle.mv_core.specs.declared.view.Phase.TheVariants.{Inside}
-use Rattle.mv_core.specs.declared.view.Section.{Section}
+use Rattle.mv_core.specs.declared.view.OwnSection.{OwnSection}
 use Rattle.mv_core.specs.declared.view.Mode.TheVariants.{Open}
-use Rattle.mv_core.specs.declared.view.Walk.{Walk}
-use Rattle.mv_core.specs.declared.view.Walk.TheVariants as walk
+use Rattle.mv_core.specs.declared.view.WalkStage.{WalkStage}
+use Rattle.mv_core.specs.declared.view.WalkStage.TheVariants as walk
 use Rattle.mv_core.specs.declared.view.Stand.{Stand}
 use Rattle.mv_core.specs.declared.view.Passed.{Passed}
 use Rattle.mv_core.specs.declared.view.Passed.TheVariants.{Nothing, Unset, Time}
@@ -41,50 +41,50 @@ abbrev pub slot_named : Config → ℕ → ℕ
 slot_named c link = index_of c (link_position_of link)
 
 -- the link isn't to the own log, or names a version of the object there that is held, or is committed and wasn't cut
-abbrev pub IsOwnTop : Config → View → ℕ → ℕ → Type 0
+abbrev pub IsOwnTop : Config → Knowledge → ℕ → ℕ → Type 0
 IsOwnTop c v object link =
-    link ≢ 0 → link_seat_of link ≡ v.number → (x : Version) × (st : Status) × (slot_at v.ring (slot_named c link) ≡ Live x st)
+    link ≢ 0 → link_seat_of link ≡ v.number → (x : Version) × (st : WriteSetStatus) × (slot_at v.ring (slot_named c link) ≡ Live x st)
     × (x.object ≡ object) × ((st ≡ Held) ⊎ ((note : CommitNote) × (st ≡ Committed note) × (note.cut ≡ false)))
 
 -- where the link is to the own log, it is that of the version in the slot that it names
-abbrev pub IsOwnLink : Config → View → ℕ → Type 0
+abbrev pub IsOwnLink : Config → Knowledge → ℕ → Type 0
 IsOwnLink c v link =
-    link ≢ 0 → link_seat_of link ≡ v.number → (x : Version) (st : Status) → slot_at v.ring (slot_named c link) ≡ Live x st
+    link ≢ 0 → link_seat_of link ≡ v.number → (x : Version) (st : WriteSetStatus) → slot_at v.ring (slot_named c link) ≡ Live x st
     → link ≡ link_of v.number x.position
 
 -- where the link names a committed version of the own log, each other one of the object there that is committed has a lesser time
-abbrev pub IsLastOwn : Config → View → ℕ → ℕ → Type 0
+abbrev pub IsLastOwn : Config → Knowledge → ℕ → ℕ → Type 0
 IsLastOwn c v object link =
     link ≢ 0 → link_seat_of link ≡ v.number → (x : Version) (note : CommitNote) → slot_at v.ring (slot_named c link) ≡ Live x (Committed note)
     → (k : ℕ) (y : Version) (other : CommitNote) → slot_at v.ring k ≡ Live y (Committed other) → y.object ≡ object → k ≢ slot_named c link
     → other.time < note.time
 
 -- where the link names a committed version of the own log, no later write of the object was seen
-abbrev pub IsLastSeen : Config → View → ℕ → ℕ → Type 0
+abbrev pub IsLastSeen : Config → Knowledge → ℕ → ℕ → Type 0
 IsLastSeen c v object link =
     link ≢ 0 → link_seat_of link ≡ v.number → (x : Version) (note : CommitNote) → slot_at v.ring (slot_named c link) ≡ Live x (Committed note)
     → latest c.base v.past.seen object ≤ note.time
 
 -- a stamp of the own log that was found is a time, where the version there is committed
-abbrev pub IsOwnTime : Config → View → ℕ → ℕ → Type 0
+abbrev pub IsOwnTime : Config → Knowledge → ℕ → ℕ → Type 0
 IsOwnTime c v link found =
     link_seat_of link ≡ v.number → (x : Version) (note : CommitNote) → slot_at v.ring (slot_named c link) ≡ Live x (Committed note)
-    → (inside : Section) → v.phase ≡ Inside inside → inside.mode ≡ Open → found < 2 ^ 63
+    → (inside : OwnSection) → v.phase ≡ Inside inside → inside.mode ≡ Open → found < 2 ^ 63
 
 -- an open section past its help, with no write-back under way
-pub record IsWalking (v : View) (inside : Section) : Type 0 where
+pub record IsWalking (v : Knowledge) (inside : OwnSection) : Type 0 where
   pub phase : v.phase ≡ Inside inside
   pub open_is : inside.mode ≡ Open
   pub helped : IsPastHelp v.clocks inside
   pub no_back : v.back ≡ None
 
 -- where a walk over the object goes that found this link
-abbrev pub stand_at : ℕ → ℕ → Passed → Bool → Walk
+abbrev pub stand_at : ℕ → ℕ → Passed → Bool → WalkStage
 stand_at object link passed late =
     if link == 0 then walk.Master object else walk.At (record { object = object; link = link; first = None; stamp = None; passed = passed; late = late })
 
 -- load HEAD: in an open section past its help, with no write-back
-abbrev pub MayLoadHead : View → Section → Type 0
+abbrev pub MayLoadHead : Knowledge → OwnSection → Type 0
 MayLoadHead v inside = IsWalking v inside
 
 -- an empty HEAD is kept in mind
@@ -92,7 +92,7 @@ abbrev pub empty_too : List EmptyHead → ℕ → ℕ → ℕ → List EmptyHead
 empty_too empty object time link = if link == 0 then empty ++ record { object = object; time = time } ∷ [] else empty
 
 -- the walk stands at the link found, or at the master
-abbrev pub head_loaded : Config → View → Section → ℕ → ℕ → View
+abbrev pub head_loaded : Config → Knowledge → OwnSection → ℕ → ℕ → Knowledge
 head_loaded c v inside object link = record v {
   walk = stand_at object link Nothing false;
   empty = empty_too v.empty object (time_in inside) link;
@@ -100,25 +100,25 @@ head_loaded c v inside object link = record v {
 }
 
 -- load FIRST: the walk stands at the link
-pub record MayLoadFirst (v : View) (link : ℕ) (stand : Stand) : Type 0 where
+pub record MayLoadFirst (v : Knowledge) (link : ℕ) (stand : Stand) : Type 0 where
   pub stands : v.walk ≡ walk.At stand
   pub link_is : stand.link ≡ link
 
 -- the FIRST that was found is kept
-abbrev pub first_loaded : Config → View → Stand → ℕ → View
+abbrev pub first_loaded : Config → Knowledge → Stand → ℕ → Knowledge
 first_loaded c v stand found = record v {
   walk = walk.At (record stand { first = Some found; stamp = None });
   trail = with_step c v LoadFirst (First (link_seat_of stand.link) (slot_named c stand.link)) (Some found) None;
 }
 
 -- load STAMP: the walk stands at the link and found that FIRST
-pub record MayLoadStamp (v : View) (link first : ℕ) (stand : Stand) : Type 0 where
+pub record MayLoadStamp (v : Knowledge) (link first : ℕ) (stand : Stand) : Type 0 where
   pub stands : v.walk ≡ walk.At stand
   pub link_is : stand.link ≡ link
   pub first_is : stand.first ≡ Some first
 
 -- what is seen after a stamp: at least up to a time that was found
-pub record SeesStamp (c : Config) (v : View) (found : ℕ) (seen : List Entry) : Type 0 where
+pub record SeesStamp (c : Config) (v : Knowledge) (found : ℕ) (seen : List Entry) : Type 0 where
   pub more : BeginsWith seen v.past.seen
   pub time : found < 2 ^ 63 → found ≤ c.base + length seen
   pub least : (length seen ≡ length v.past.seen) ⊎ (c.base + length seen ≡ found)
@@ -129,14 +129,14 @@ IsWriteOf c seen object time = (e : Entry) × IsEntry c.base seen time e × (wri
 
 -- what a stamp tells: a time is that of a write of the object, which was seen; below versions that the walk has passed it is one,
 -- and less than theirs; and where a lost exchange of a lock put the walk it is none up to the section's time
-pub record StampSays (c : Config) (v : View) (stand : Stand) (found : ℕ) (seen : List Entry) : Type 0 where
+pub record StampSays (c : Config) (v : Knowledge) (stand : Stand) (found : ℕ) (seen : List Entry) : Type 0 where
   pub sees : SeesStamp c v found seen
   pub write : found < 2 ^ 63 → IsWriteOf c seen stand.object found
   pub falls : HasPassed stand.passed → (found < 2 ^ 63) × IsBelowPassed found stand.passed
-  pub late : (inside : Section) → v.phase ≡ Inside inside → stand.late ≡ true → found < 2 ^ 63 → time_in inside < found
+  pub late : (inside : OwnSection) → v.phase ≡ Inside inside → stand.late ≡ true → found < 2 ^ 63 → time_in inside < found
 
 -- the STAMP that was found is kept, and this much is seen
-abbrev pub stamp_loaded : Config → View → Stand → ℕ → ℕ → List Entry → View
+abbrev pub stamp_loaded : Config → Knowledge → Stand → ℕ → ℕ → List Entry → Knowledge
 stamp_loaded c v stand first found seen = record v {
   past = record v.past { seen = seen };
   walk = walk.At (record stand { stamp = Some found });
@@ -144,8 +144,8 @@ stamp_loaded c v stand first found seen = record v {
 }
 
 -- load PREV: the walk stands at the link and found its stamp unset or above the section's time
-pub record MayLoadPrev (v : View) (link : ℕ) (stand : Stand) : Type 0 where
-  pub inside : Section
+pub record MayLoadPrev (v : Knowledge) (link : ℕ) (stand : Stand) : Type 0 where
+  pub inside : OwnSection
   pub phase : v.phase ≡ Inside inside
   pub stands : v.walk ≡ walk.At stand
   pub link_is : stand.link ≡ link
@@ -165,14 +165,14 @@ passed_too passed None = passed_unset passed
 passed_too passed (Some found) = if leb 9223372036854775808 found then passed_unset passed else Time found
 
 -- the walk stands at the link found, or at the master
-abbrev pub prev_loaded : Config → View → Stand → ℕ → View
+abbrev pub prev_loaded : Config → Knowledge → Stand → ℕ → Knowledge
 prev_loaded c v stand link = record v {
   walk = stand_at stand.object link (passed_too stand.passed stand.stamp) false;
   trail = with_step c v LoadPrev (Prev (link_seat_of stand.link) (slot_named c stand.link)) (Some link) None;
 }
 
 -- load DATA: the walk stands at the link and found its stamp to be a time not above the section's
-pub record MayLoadData (v : View) (link word : ℕ) (stand : Stand) (inside : Section) : Type 0 where
+pub record MayLoadData (v : Knowledge) (link word : ℕ) (stand : Stand) (inside : OwnSection) : Type 0 where
   pub phase : v.phase ≡ Inside inside
   pub stands : v.walk ≡ walk.At stand
   pub link_is : stand.link ≡ link
@@ -182,25 +182,25 @@ pub record MayLoadData (v : View) (link word : ℕ) (stand : Stand) (inside : Se
   pub in_range : word < 6
 
 -- a load that only joins the trail
-abbrev pub data_loaded : Config → View → Stand → ℕ → ℕ → View
+abbrev pub data_loaded : Config → Knowledge → Stand → ℕ → ℕ → Knowledge
 data_loaded c v stand word found =
     record v { trail = with_step c v LoadData (Data (link_seat_of stand.link) (slot_named c stand.link) word) (Some found) None }
 
 -- load MASTER: the walk stands at the master of the object
-pub record MayLoadMaster (v : View) (object word : ℕ) (inside : Section) : Type 0 where
+pub record MayLoadMaster (v : Knowledge) (object word : ℕ) (inside : OwnSection) : Type 0 where
   pub phase : v.phase ≡ Inside inside
   pub stands : v.walk ≡ walk.Master object
   pub in_range : word < 6
 
 -- a load that only joins the trail
-abbrev pub master_loaded : Config → View → ℕ → ℕ → ℕ → View
+abbrev pub master_loaded : Config → Knowledge → ℕ → ℕ → ℕ → Knowledge
 master_loaded c v object word found =
     record v { trail = with_step c v LoadMaster (Master object word) (Some found) None }
 
 -- the words of the object in the state that the section reads
-abbrev pub words_read : Config → View → Section → ℕ → List ℕ
+abbrev pub words_read : Config → Knowledge → OwnSection → ℕ → List ℕ
 words_read c v inside object = words_of c v.start v.past.seen (time_in inside) object
 
 -- one of these words
-abbrev pub word_read : Config → View → Section → ℕ → ℕ → ℕ
+abbrev pub word_read : Config → Knowledge → OwnSection → ℕ → ℕ → ℕ
 word_read c v inside object word = slice_index (words_read c v inside object) word

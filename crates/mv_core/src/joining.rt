@@ -6,10 +6,10 @@ ghost use Rattle.mv_core.specs.SectionFacts.{IsWord};
 ghost use Rattle.mv_core.specs.EnterSteps.{IsWhole};
 ghost use Rattle.mv_core.specs.SeatSteps.{MayJoin, joined, AreJoined, joined_loaded};
 
-use crate::opening::Domain;
+use crate::opening::DomainNumbers;
 use crate::shared::{Pass, Shared, join_as, load_as};
 use crate::steps::Steps;
-use crate::view::View;
+use crate::view::Knowledge;
 use atomic_table::Join;
 use mv_history::Protocol;
 use mv_layout::CLOCK_CELL;
@@ -21,7 +21,7 @@ pub(crate) struct Joining<D> {
     domain: PhantomData<D>,
 }
 
-impl<D: Domain> Join<View> for Joining<D> {
+impl<D: DomainNumbers> Join<Knowledge> for Joining<D> {
     ghost use Rattle.mv_core.specs.Views.{spent_view};
     ghost use Rattle.mv_core.specs.SeatSteps.{joined};
 

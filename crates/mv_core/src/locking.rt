@@ -3,7 +3,7 @@ ghost use Rattle.std.specs.Prelude.{◌≡◌, ◌≢◌, ℕ, List, ◌+◌, �
 ghost use Rattle.mv_layout.specs.Words.{link_seat_of};
 ghost use Rattle.mv_core.specs.declared.ring.Build.{Build};
 ghost use Rattle.mv_core.specs.declared.ring.Version.{Version};
-ghost use Rattle.mv_core.specs.declared.view.Section.{Section};
+ghost use Rattle.mv_core.specs.declared.view.OwnSection.{OwnSection};
 ghost use Rattle.mv_core.specs.Rings.{set_first};
 ghost use Rattle.mv_core.specs.Passes.{view, IsOf, IsSame, config_of};
 ghost use Rattle.mv_core.specs.WalkSteps.{IsLinkOf};
@@ -36,7 +36,7 @@ impl<P: Protocol> Shared<P> {
         position: u64,
         steps: &mut Steps<L>,
     ) -> Swap
-        ghost what: { List ℕ × Build × Section }
+        ghost what: { List ℕ × Build × OwnSection }
         requires of { IsOf self.now pass.old }
         requires may { MayLock (config_of self.now) (config_of self.now).write_max (view pass.old) object previous position what.0 what.1 what.2 }
         requires first { first ≡ set_first (view pass.old).ring }
@@ -76,7 +76,7 @@ impl<P: Protocol> Shared<P> {
         previous: u64,
         steps: &mut Steps<L>,
     )
-        ghost held: { ℕ × Version × Section }
+        ghost held: { ℕ × Version × OwnSection }
         requires of { IsOf self.now pass.old }
         requires range { object < (config_of self.now).objects }
         requires may { MayUnlock (view pass.old) object previous held.0 held.1 held.2 }

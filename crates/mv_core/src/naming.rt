@@ -3,7 +3,7 @@
 ghost use Rattle.std.specs.Prelude.{◌≡◌, ℕ, ◌+◌};
 ghost use Rattle.mv_core.specs.declared.ring.CommitNote.{CommitNote};
 ghost use Rattle.mv_core.specs.declared.ring.Version.{Version};
-ghost use Rattle.mv_core.specs.declared.view.Section.{Section};
+ghost use Rattle.mv_core.specs.declared.view.OwnSection.{OwnSection};
 ghost use Rattle.mv_core.specs.Passes.{view, IsOf, IsSame, config_of};
 ghost use Rattle.mv_core.specs.SectionFacts.{IsWord};
 ghost use Rattle.mv_core.specs.NameSteps.{LogTold, MayNameCommit, CommitTold, MayStoreSuper, super_stored, MayNameRest, RestTold};
@@ -33,7 +33,7 @@ impl<P: Protocol> Shared<P> {
         tag: Tag,
         steps: &mut Steps<L>,
     ) -> Swap
-        ghost inside: { Section }
+        ghost inside: { OwnSection }
         requires of { IsOf self.now pass.old }
         requires may { MayNameCommit P.allowed (config_of self.now) (view pass.old) word tag inside }
         ensures same { IsSame pass.old pass.new }

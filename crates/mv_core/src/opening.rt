@@ -10,7 +10,7 @@ ghost use Rattle.mv_core.specs.Passes.{view, IsOf, IsSeatOf, config_of, start_of
 ghost use Rattle.mv_core.specs.Views.{new_view};
 
 use crate::shared::{Pass, Shared, split_as};
-use crate::view::View;
+use crate::view::Knowledge;
 use atomic_table::Split;
 use mv_history::{Protocol, WORDS, Words};
 use mv_layout::{
@@ -21,13 +21,13 @@ use std::marker::{Brand, PhantomData};
 use std::snapshot::Snapshot;
 
 /// The numbers of the domain in which a seat is made.
-pub(crate) trait Domain {
+pub(crate) trait DomainNumbers {
     ghost use Rattle.mv_layout.specs.declared.Config.{Config};
 
     ghost config: { Config };
 }
 
-impl Domain for Brand {
+impl DomainNumbers for Brand {
     ghost config = { record { seats = 0; objects = 0; slots = 0; write_max = 0; low = 0; high = 0; base = 0 } };
 }
 
@@ -36,7 +36,7 @@ pub(crate) struct Making<D> {
     domain: PhantomData<D>,
 }
 
-impl<D: Domain> Split<View> for Making<D> {
+impl<D: DomainNumbers> Split<Knowledge> for Making<D> {
     ghost use Rattle.mv_core.specs.SeatSteps.{made_one, newly_made};
 
     ghost left = { made_one D.config };

@@ -2,7 +2,7 @@
 ghost use Rattle.std.specs.Prelude.{◌≡◌, ◌≢◌, ℕ, ◌+◌, ◌<◌};
 ghost use Rattle.mv_core.specs.declared.ring.Version.{Version};
 ghost use Rattle.mv_core.specs.declared.ring.CommitNote.{CommitNote};
-ghost use Rattle.mv_core.specs.declared.view.Section.{Section};
+ghost use Rattle.mv_core.specs.declared.view.OwnSection.{OwnSection};
 ghost use Rattle.mv_core.specs.Passes.{view, IsOf, IsSame, config_of};
 ghost use Rattle.mv_core.specs.ReclaimSteps.{MayLoadSuper, super_loaded, SeesSuper, FoundEmpty, MayStoreMaster, master_stored, MayCutHead, CutTold};
 ghost use Rattle.mv_core.specs.ReclaimSteps.{IsOfOther, MayStoreFree, free_stored};
@@ -60,7 +60,7 @@ impl<P: Protocol> Shared<P> {
         value: u64,
         steps: &mut Steps<L>,
     )
-        ghost back: { ℕ × Version × CommitNote × Section }
+        ghost back: { ℕ × Version × CommitNote × OwnSection }
         requires of { IsOf self.now pass.old }
         requires range { object < (config_of self.now).objects }
         requires may { MayStoreMaster (config_of self.now) (view pass.old) object word value back.0 back.1 back.2 back.3 }

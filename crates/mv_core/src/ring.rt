@@ -16,7 +16,7 @@ pub enum Slot {
     /// A version is being built for the next position.
     Built(Build),
     /// A version: its write set is held, aborted or committed, and none of its slots was freed.
-    Live(Version, Status),
+    Live(Version, WriteSetStatus),
     /// The first slot of its write set was freed, this one not yet: its position, and the first
     /// position of its set.
     Freeing(u64, u64),
@@ -42,7 +42,7 @@ pub struct Version {
 }
 
 /// What became of a version's write set.
-pub enum Status {
+pub enum WriteSetStatus {
     Held,
     /// With the time of death that was noted, if one was.
     Aborted(Option<u64>),

@@ -3,10 +3,10 @@
 ghost use Rattle.std.specs.Prelude.{◌≡◌, ◌<◌, [], length};
 ghost use Rattle.mv_layout.specs.Limits.{Checked};
 ghost use Rattle.mv_layout.specs.Cells.{cells, cell_of};
-ghost use Rattle.mv_layout.specs.declared.Place.TheVariants.{Head, First};
+ghost use Rattle.mv_layout.specs.declared.SharedWord.TheVariants.{Head, First};
 ghost use Rattle.mv_core.specs.Known.{Known, KnownInDomain, IsTimed, IsBegun};
 
-use crate::view::View;
+use crate::view::Knowledge;
 use atomic_table::{Seat, Table, TableRule};
 use mv_history::{Protocol, Tag, Words};
 use mv_layout::Config;
@@ -32,7 +32,7 @@ pub struct Core<P> {
     protocol: PhantomData<P>,
 }
 
-impl<P: Protocol> TableRule<Tag, View, Opening> for Core<P> {
+impl<P: Protocol> TableRule<Tag, Knowledge, Opening> for Core<P> {
     ghost use Rattle.mv_core.specs.Rule.{Ruled, first_view};
 
     ghost holds = { λ key s. Ruled P.start P.allowed key s };
@@ -47,7 +47,7 @@ pub struct Shared<P: Protocol> {
     // The cell of HEAD of object 0, and that at which slot 0 of seat 0 begins.
     pub(crate) first_head: u32,
     pub(crate) first_slot: u32,
-    table: Table<Tag, View, Opening, Core<P>, Global>,
+    table: Table<Tag, Knowledge, Opening, Core<P>, Global>,
     pub ghost checked: { Checked config },
     pub ghost placed: { (first_head ≡ cell_of config (Head 0)) × (first_slot ≡ cell_of config (First 0 0)) },
     pub ghost sized: { (table.shared.table_id.words ≡ cells config) × (table.shared.table_id.slots ≡ 0) },
@@ -63,7 +63,7 @@ pub struct Pass<P: Protocol> {
     pub(crate) number: u32,
     pub(crate) time: u64,
     pub(crate) first: u64,
-    pub(crate) seat: Seat<Tag, View>,
+    pub(crate) seat: Seat<Tag, Knowledge>,
     pub(crate) domain: Config,
     pub(crate) rules: PhantomData<P>,
     pub ghost numbered: { number ≡ seat.me.0.number },

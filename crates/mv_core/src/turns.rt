@@ -1,31 +1,31 @@
 //! What a step over the table is of and what it tells, which is picked where the step is called, by a
-//! `Turn` for `Brand`. The steps themselves are the functions of `shared::accesses`.
+//! `Transition` for `Brand`. The steps themselves are the functions of `shared::accesses`.
 ghost use Rattle.std.specs.Prelude.{◌≡◌, ℕ};
 
-use crate::view::View;
+use crate::view::Knowledge;
 use atomic_table::Play;
 use mv_history::{Protocol, Tag};
 use std::marker::{Brand, PhantomData};
 
 /// The numbers of the domain that a step is in, the word that it is of, what it tells of the number
 /// found and of the view after, and the kind of move that it is.
-pub(crate) trait Turn {
-    ghost use Rattle.mv_core.specs.declared.view.View.{View};
+pub(crate) trait Transition {
+    ghost use Rattle.mv_core.specs.declared.view.Knowledge.{Knowledge};
     ghost use Rattle.mv_layout.specs.declared.Config.{Config};
-    ghost use Rattle.mv_layout.specs.declared.Place.{Place};
-    ghost use Rattle.mv_core.specs.Moves.{Kind};
+    ghost use Rattle.mv_layout.specs.declared.SharedWord.{SharedWord};
+    ghost use Rattle.mv_core.specs.Moves.{MoveKind};
 
     ghost config: { Config };
 
-    ghost place: { Place };
+    ghost place: { SharedWord };
 
-    ghost tells: { ℕ → View → Type 0 };
+    ghost tells: { ℕ → Knowledge → Type 0 };
 
-    ghost kind: { Kind };
+    ghost kind: { MoveKind };
 }
 
-impl Turn for Brand {
-    ghost use Rattle.mv_layout.specs.declared.Place.TheVariants.{Clock};
+impl Transition for Brand {
+    ghost use Rattle.mv_layout.specs.declared.SharedWord.TheVariants.{Clock};
     ghost use Rattle.mv_core.specs.Moves.{load_low};
 
     ghost config = { record { seats = 0; objects = 0; slots = 0; write_max = 0; low = 0; high = 0; base = 0 } };
@@ -38,11 +38,11 @@ impl Turn for Brand {
 }
 
 /// A step that leaves what the pass has at run time.
-pub(crate) struct Told<P, J> {
+pub(crate) struct QuietStep<P, J> {
     turn: PhantomData<(P, J)>,
 }
 
-impl<P: Protocol, J: Turn> Play<Tag, View> for Told<P, J> {
+impl<P: Protocol, J: Transition> Play<Tag, Knowledge> for QuietStep<P, J> {
     ghost use Rattle.std.specs.Prelude.{◌≡◌};
     ghost use Rattle.mv_core.specs.Known.{Known, KnownInDomain, RunsOn};
     ghost use Rattle.mv_core.specs.Rule.{IsKept};
@@ -56,7 +56,7 @@ pub(crate) struct ToldAlone<P, J> {
     turn: PhantomData<(P, J)>,
 }
 
-impl<P: Protocol, J: Turn> Play<Tag, View> for ToldAlone<P, J> {
+impl<P: Protocol, J: Transition> Play<Tag, Knowledge> for ToldAlone<P, J> {
     ghost use Rattle.mv_core.specs.Known.{Known, KnownInDomain};
     ghost use Rattle.mv_core.specs.Rule.{IsKept};
 

@@ -19,11 +19,11 @@ pub enum Phase {
     Lowered(u64),
     /// The mark was stored, for this low time.
     Marked(u64),
-    Inside(Section),
+    Inside(OwnSection),
 }
 
 /// A section: the low time of its mark, the clock word that gave its time, and how far it is.
-pub struct Section {
+pub struct OwnSection {
     pub low: u64,
     pub word: u64,
     pub mode: Mode,
@@ -46,7 +46,7 @@ pub struct Naming {
 }
 
 /// A walk down a version chain.
-pub enum Walk {
+pub enum WalkStage {
     Nowhere,
     At(Stand),
     /// At the master of this object.
@@ -112,7 +112,7 @@ pub struct EmptyHead {
 }
 
 /// What is kept of a seat that was joined: its number, what it knew, its log, and its steps in order.
-pub struct Note {
+pub struct JoinedSeat {
     pub number: u32,
     pub past: Past,
     pub ring: Ring,
@@ -120,7 +120,7 @@ pub struct Note {
 }
 
 /// What a seat knows.
-pub struct View {
+pub struct Knowledge {
     pub number: u32,
     /// The opening state, and its printed time.
     pub start: LinkedList<Words>,
@@ -130,7 +130,7 @@ pub struct View {
     pub past: Past,
     pub phase: Phase,
     pub clocks: LoadedClocks,
-    pub walk: Walk,
+    pub walk: WalkStage,
     pub empty: LinkedList<EmptyHead>,
     pub ring: Ring,
     pub back: Option<WriteBack>,
@@ -140,7 +140,7 @@ pub struct View {
     /// How many seats were made, where this is the seat that makes them.
     pub made: u32,
     /// The seats that were joined to this one.
-    pub notes: LinkedList<Note>,
+    pub notes: LinkedList<JoinedSeat>,
     /// Whether this seat was itself joined to another.
     pub spent: bool,
 }

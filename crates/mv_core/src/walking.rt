@@ -1,6 +1,6 @@
 //! The steps of a walk down a version chain.
 ghost use Rattle.std.specs.Prelude.{◌≡◌, ◌+◌, ◌<◌, length};
-ghost use Rattle.mv_core.specs.declared.view.Section.{Section};
+ghost use Rattle.mv_core.specs.declared.view.OwnSection.{OwnSection};
 ghost use Rattle.mv_core.specs.declared.view.Stand.{Stand};
 ghost use Rattle.mv_core.specs.Passes.{view, IsOf, IsSame, config_of};
 ghost use Rattle.mv_core.specs.Tops.{IsNewer};
@@ -10,7 +10,7 @@ ghost use Rattle.mv_core.specs.WalkSteps.{MayLoadData, data_loaded, MayLoadMaste
 ghost use Rattle.mv_core.specs.Slots.{IsSlotIn, IsSlotLinked};
 ghost use Rattle.mv_layout.specs.Cells.{cell_of};
 ghost use Rattle.mv_layout.specs.Words.{link_seat_of};
-ghost use Rattle.mv_layout.specs.declared.Place.TheVariants.{First, Head};
+ghost use Rattle.mv_layout.specs.declared.SharedWord.TheVariants.{First, Head};
 
 use crate::shared::{Pass, Shared, load_as};
 use crate::steps::Steps;
@@ -66,7 +66,7 @@ impl<P: Protocol> Shared<P> {
     /// rule in which the pass had its view; there it is held or has the object's last commit, and so is
     /// newer than each committed version of the object in the own log.
     pub fn load_head<L: Ledger>(&self, pass: &mut Pass<P>, object: u32, steps: &mut Steps<L>) -> u64
-        ghost inside: { Section }
+        ghost inside: { OwnSection }
         requires of { IsOf self.now pass.old }
         requires range { object < (config_of self.now).objects }
         requires may { MayLoadHead (view pass.old) inside }
@@ -223,7 +223,7 @@ impl<P: Protocol> Shared<P> {
         word: u32,
         steps: &mut Steps<L>,
     ) -> u64
-        ghost at: { Stand × Section }
+        ghost at: { Stand × OwnSection }
         requires of { IsOf self.now pass.old }
         requires range { IsPackedOf (config_of self.now) link }
         requires slot { slot ≡ cell_of (config_of self.now) (First (link_seat_of link) (slot_named (config_of self.now) link)) }
@@ -247,7 +247,7 @@ impl<P: Protocol> Shared<P> {
         word: u32,
         steps: &mut Steps<L>,
     ) -> u64
-        ghost inside: { Section }
+        ghost inside: { OwnSection }
         requires of { IsOf self.now pass.old }
         requires range { object < (config_of self.now).objects }
         requires may { MayLoadMaster (view pass.old) object word inside }

@@ -4,15 +4,15 @@ use Rattle.std.proofs.Common.{refl, ap, arith, mul-le-mul_right, eqb-true}
 use Rattle.std.proofs.Common.{eq-eqb, suc-mul}
 use native.Mathlib.Decide.{dec_lt}
 use Rattle.mv_layout.specs.declared.config.Config.{Config}
-use Rattle.mv_layout.specs.declared.places.Place.{Place}
-use Rattle.mv_layout.specs.declared.places.Place.TheVariants.{Clock, Grace, Mark, Head, Master, First, Stamp, Prev, Super, Data}
+use Rattle.mv_layout.specs.declared.places.SharedWord.{SharedWord}
+use Rattle.mv_layout.specs.declared.places.SharedWord.TheVariants.{Clock, Grace, Mark, Head, Master, First, Stamp, Prev, Super, Data}
 use Rattle.mv_layout.specs.Limits.{Checked}
 use Rattle.mv_layout.specs.Places.{total, place_of, IsPlace, same}
 
 pub below : (s t k n : ℕ) → s < t → k < n → s * n + k < t * n
 below s t k n lt in_row = let m : suc s * n ≤ t * n = mul-le-mul_right n lt in omega (arith, suc-mul s n)
 
-pub in_table : (c : Config) (p : Place) → Checked c → IsPlace c p → place_of c p < total c
+pub in_table : (c : Config) (p : SharedWord) → Checked c → IsPlace c p → place_of c p < total c
 in_table c Clock k h = omega arith
 in_table c Grace k h = omega arith
 in_table c (Mark s) k h = omega arith
@@ -38,7 +38,7 @@ two true b e f = f
 two false b e f = e
 
 -- two words at one place are one word
-pub one_place : (c : Config) (p q : Place) → Checked c → IsPlace c p → IsPlace c q → place_of c p ≡ place_of c q → same p q ≡ true
+pub one_place : (c : Config) (p q : SharedWord) → Checked c → IsPlace c p → IsPlace c q → place_of c p ≡ place_of c q → same p q ≡ true
 one_place c Clock Clock k a b e = refl
 one_place c Grace Grace k a b e = refl
 one_place c (Mark s) (Mark t) k a b e = eq-eqb s t (omega arith)
@@ -58,7 +58,7 @@ both true true e = (refl, refl)
 both true false e = (refl, e)
 both false b e = cc
 
-pub same_is : (p q : Place) → same p q ≡ true → p ≡ q
+pub same_is : (p q : SharedWord) → same p q ≡ true → p ≡ q
 same_is Clock Clock e = refl
 same_is Grace Grace e = refl
 same_is (Mark s) (Mark t) e = ap Mark (eqb-true s t e)

@@ -1,8 +1,8 @@
 -- Where each word lies in the running table, by lines of eight words, and the view of a table's words by name.
 use Rattle.std.specs.Prelude.{◌≡◌, ℕ, ◌+◌, ◌*◌, List, length, slice_index}
 use Rattle.mv_layout.specs.declared.config.Config.{Config}
-use Rattle.mv_layout.specs.declared.places.Place.{Place}
-use Rattle.mv_layout.specs.declared.places.Place.TheVariants.{Clock, Grace, Mark, Head, Master, First, Stamp, Prev, Super, Data}
+use Rattle.mv_layout.specs.declared.places.SharedWord.{SharedWord}
+use Rattle.mv_layout.specs.declared.places.SharedWord.TheVariants.{Clock, Grace, Mark, Head, Master, First, Stamp, Prev, Super, Data}
 use Rattle.mv_layout.specs.declared.cells.TheConstants.{STAMP_OFFSET, PREV_OFFSET, SUPER_OFFSET, DATA_OFFSET}
 use Rattle.mv_layout.specs.Places.{IsPlace, Memory}
 
@@ -19,7 +19,7 @@ abbrev pub cells : Config → ℕ
 cells c = objects_cell c + 8 * c.objects + 16 * (c.seats * c.slots)
 
 -- where a word lies
-abbrev pub cell_of : Config → Place → ℕ
+abbrev pub cell_of : Config → SharedWord → ℕ
 cell_of c Clock = 6
 cell_of c Grace = 22
 cell_of c (Mark s) = 38 + 16 * s
@@ -34,4 +34,4 @@ cell_of c (Data s k w) = slot_cell_of c s k + DATA_OFFSET + w
 -- the words of the table are this memory
 pub record Shows (c : Config) (words : List ℕ) (m : Memory) : Type 0 where
   pub wide : length words ≡ cells c
-  pub each : (p : Place) → IsPlace c p → slice_index words (cell_of c p) ≡ m p
+  pub each : (p : SharedWord) → IsPlace c p → slice_index words (cell_of c p) ≡ m p

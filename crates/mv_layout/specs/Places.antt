@@ -1,8 +1,8 @@
 -- The words by name, the number of each, and a memory of words by name.
 use Rattle.std.specs.Prelude.{ℕ, ◌+◌, ◌*◌, ◌<◌, ◌==◌, ◌&&◌, Bool, true, false, cond}
 use Rattle.mv_layout.specs.declared.config.Config.{Config}
-use Rattle.mv_layout.specs.declared.places.Place.{Place}
-use Rattle.mv_layout.specs.declared.places.Place.TheVariants.{Clock, Grace, Mark, Head, Master, First, Stamp, Prev, Super, Data}
+use Rattle.mv_layout.specs.declared.places.SharedWord.{SharedWord}
+use Rattle.mv_layout.specs.declared.places.SharedWord.TheVariants.{Clock, Grace, Mark, Head, Master, First, Stamp, Prev, Super, Data}
 
 -- the number of the first slot's first word
 abbrev pub row_of : Config → ℕ
@@ -17,7 +17,7 @@ abbrev pub total : Config → ℕ
 total c = row_of c + 10 * (c.seats * c.slots)
 
 -- the number of a word, by which trails and texts speak of it
-abbrev pub place_of : Config → Place → ℕ
+abbrev pub place_of : Config → SharedWord → ℕ
 place_of c Clock = 0
 place_of c Grace = 1
 place_of c (Mark s) = 2 + s
@@ -30,7 +30,7 @@ place_of c (Super s k) = slot_of c s k + 3
 place_of c (Data s k w) = slot_of c s k + 4 + w
 
 -- the numbers of a word are in range
-abbrev pub IsPlace : Config → Place → Type 0
+abbrev pub IsPlace : Config → SharedWord → Type 0
 IsPlace c Clock = Unit {0}
 IsPlace c Grace = Unit {0}
 IsPlace c (Mark s) = s < c.seats
@@ -43,7 +43,7 @@ IsPlace c (Super s k) = (s < c.seats) × (k < c.slots)
 IsPlace c (Data s k w) = (s < c.seats) × (k < c.slots) × (w < 6)
 
 -- whether two names are of one word
-abbrev pub same : Place → Place → Bool
+abbrev pub same : SharedWord → SharedWord → Bool
 same Clock Clock = true
 same Grace Grace = true
 same (Mark s) (Mark t) = s == t
@@ -58,8 +58,8 @@ same _ _ = false
 
 -- what each word is
 abbrev pub Memory : Type 0
-Memory = Place → ℕ
+Memory = SharedWord → ℕ
 
 -- the memory after a write of n into p
-abbrev pub put : Memory → Place → ℕ → Memory
+abbrev pub put : Memory → SharedWord → ℕ → Memory
 put m p n q = cond (same p q) n (m q)

@@ -4,8 +4,8 @@ ghost use Rattle.mv_layout.specs.Limits.{Checked};
 ghost use Rattle.mv_layout.specs.Places.{IsPlace};
 ghost use Rattle.mv_layout.specs.Cells.{cells, cell_of};
 ghost use Rattle.mv_layout.specs.declared.config.Config.{Config};
-ghost use Rattle.mv_layout.specs.declared.places.Place.{Place};
-ghost use Rattle.mv_layout.specs.declared.places.Place.TheVariants.{Clock, Grace, Mark, Head, Master, First};
+ghost use Rattle.mv_layout.specs.declared.places.SharedWord.{SharedWord};
+ghost use Rattle.mv_layout.specs.declared.places.SharedWord.TheVariants.{Clock, Grace, Mark, Head, Master, First};
 
 use crate::config::Config;
 
@@ -104,6 +104,6 @@ pub fn slot_cell_from(config: &Config, first: u32, seat: u32, slot: u32) -> u32
 
 /// The law of cells: each word's cell is within the running table, and two words of one cell are one.
 pub fn cells_differ()
-    ensures within { (c : Config) (p : Place) → Checked c → IsPlace c p → cell_of c p < cells c }
-    ensures apart { (c : Config) (p q : Place) → Checked c → IsPlace c p → IsPlace c q → cell_of c p ≡ cell_of c q → p ≡ q }
+    ensures within { (c : Config) (p : SharedWord) → Checked c → IsPlace c p → cell_of c p < cells c }
+    ensures apart { (c : Config) (p q : SharedWord) → Checked c → IsPlace c p → IsPlace c q → cell_of c p ≡ cell_of c q → p ≡ q }
 {}

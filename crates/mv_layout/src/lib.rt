@@ -6,7 +6,7 @@
 //! The log and the version chain are those of MV-RLU (Kim, Mathew, Kashyap, Ramanathan and Min,
 //! ASPLOS 2019, sections 3 and 4); the packing is this crate's own.
 //!
-//! **The model.** `Place` names a word by what it is, `Memory` gives each named word what it holds,
+//! **The model.** `SharedWord` names a word by what it is, `Memory` gives each named word what it holds,
 //! and `Shows` says that a table's words are that memory. Whoever proves facts about the table
 //! speaks of a `Memory` alone: a write to one named word leaves every other as it was, since
 //! distinct words lie in distinct cells.
@@ -48,6 +48,6 @@ pub use packing::{
     link_word, links_unpack, mark_low, mark_word, unset_position, unset_stamp,
 };
 pub use places::{
-    Place, head_place, mark_place, master_place, places_differ, slot_place, total_words,
+    SharedWord, head_place, mark_place, master_place, places_differ, slot_place, total_words,
 };
 pub use slots::slot_of_position;

@@ -3,13 +3,13 @@ ghost use Rattle.std.specs.Prelude.{◌≡◌, ◌<◌};
 ghost use Rattle.mv_layout.specs.Limits.{Checked};
 ghost use Rattle.mv_layout.specs.Places.{total, place_of, IsPlace};
 ghost use Rattle.mv_layout.specs.declared.config.Config.{Config};
-ghost use Rattle.mv_layout.specs.declared.places.Place.{Place};
-ghost use Rattle.mv_layout.specs.declared.places.Place.TheVariants.{Mark, Head, Master, First};
+ghost use Rattle.mv_layout.specs.declared.places.SharedWord.{SharedWord};
+ghost use Rattle.mv_layout.specs.declared.places.SharedWord.TheVariants.{Mark, Head, Master, First};
 
 use crate::config::Config;
 
 /// A word of the domain, by name. An object has `WIDTH` master words, and so has a slot data words.
-pub enum Place {
+pub enum SharedWord {
     /// The time, seat and slot of the last entry.
     Clock,
     /// A time that is never above any section's time.
@@ -82,6 +82,6 @@ pub fn slot_place(config: &Config, seat: u32, slot: u32) -> u32
 
 /// The law of places: each word's place is within the table, and two words at one place are one.
 pub fn places_differ()
-    ensures within { (c : Config) (p : Place) → Checked c → IsPlace c p → place_of c p < total c }
-    ensures apart { (c : Config) (p q : Place) → Checked c → IsPlace c p → IsPlace c q → place_of c p ≡ place_of c q → p ≡ q }
+    ensures within { (c : Config) (p : SharedWord) → Checked c → IsPlace c p → place_of c p < total c }
+    ensures apart { (c : Config) (p q : SharedWord) → Checked c → IsPlace c p → IsPlace c q → place_of c p ≡ place_of c q → p ≡ q }
 {}

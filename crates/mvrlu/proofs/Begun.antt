@@ -7,8 +7,8 @@ use Rattle.mv_history.specs.declared.StepKind.TheVariants.{LoadLow, StoreMark, L
 use Rattle.mv_history.specs.Trail.{is_commit_exchange, commit_exchanges}
 use Rattle.mv_history.specs.Calls.{Enters}
 use Rattle.mv_layout.specs.declared.Config.{Config}
-use Rattle.object_lock.specs.mv_core.declared.view.View.{View}
-use Rattle.object_lock.specs.mv_core.declared.view.Section.{Section}
+use Rattle.object_lock.specs.mv_core.declared.view.Knowledge.{Knowledge}
+use Rattle.object_lock.specs.mv_core.declared.view.OwnSection.{OwnSection}
 use Rattle.object_lock.specs.mv_core.Rings.{own_of, spare_count, writes_from, set_first}
 use Rattle.object_lock.specs.mv_core.Views.{time_in}
 use Rattle.object_lock.specs.mv_core.HistoryFacts.{BeginsWith}
@@ -36,14 +36,14 @@ no_name LoadCheck h = refl
 no_name SwapStamp h = refl
 no_name _ h = absurd h
 
-module _ (c : Config) (v w : View) (time : ℕ) (b : Begins c v w time) where
+module _ (c : Config) (v w : Knowledge) (time : ℕ) (b : Begins c v w time) where
   pub begun_may : MayWalk w
   begun_may =
       let walking : IsWalking w b.inside = record { phase = b.phase; open_is = b.open_is; helped = b.past_help; no_back = b.no_back } in
       subst (IsWalking w) (sym (ap inside_of b.phase)) walking
 
   begun_time : time_at w ≡ c.base + b.at
-  begun_time = ap (λ (s : Section). time_in s) (ap inside_of b.phase) ∙ b.word_is ∙ b.time_is
+  begun_time = ap (λ (s : OwnSection). time_in s) (ap inside_of b.phase) ∙ b.word_is ∙ b.time_is
 
   begun_at : time_at w - c.base ≡ b.at
   begun_at = let t = begun_time in omega arith
@@ -67,7 +67,7 @@ module _ (p q : Placed) (time : ℕ) (b : Begins p.config p.view q.view time) (c
   abbrev c : Config
   c = p.config
 
-  abbrev w : View
+  abbrev w : Knowledge
   w = q.view
 
   at_is : time_at w - q.config.base ≡ b.at
@@ -79,11 +79,11 @@ module _ (p q : Placed) (time : ℕ) (b : Begins p.config p.view q.view time) (c
   pub enters : Enters (seat_from p) (section_from q)
   enters = record {
     seat = record {
-      continues = continues p q config table b.entered.steps (ap (λ (u : View). u.number) b.rest) (ap (λ (u : View). u.start) b.rest)
-          (ap (λ (u : View). u.base) b.rest) (begun_begins c p.view w time b) b.entered.trail;
-      mine = ap (λ (u : View). u.past.mine) b.rest;
-      rests = ap (λ (u : View). u.past.rests) b.rest;
-      spare = ap (λ (u : View). spare_count u.ring) b.rest;
+      continues = continues p q config table b.entered.steps (ap (λ (u : Knowledge). u.number) b.rest) (ap (λ (u : Knowledge). u.start) b.rest)
+          (ap (λ (u : Knowledge). u.base) b.rest) (begun_begins c p.view w time b) b.entered.trail;
+      mine = ap (λ (u : Knowledge). u.past.mine) b.rest;
+      rests = ap (λ (u : Knowledge). u.past.rests) b.rest;
+      spare = ap (λ (u : Knowledge). spare_count u.ring) b.rest;
     };
     at = (let far = longer c p.view w time b in let at = at_is in omega arith);
     own = ap (λ (d : Config). own_of d w.ring) config ∙ begun_own c p.view w time b;
@@ -94,7 +94,7 @@ module _ (p q : Placed) (time : ℕ) (b : Begins p.config p.view q.view time) (c
   took base_is = record {
     word = b.inside.word;
     there = subst (λ steps. Contains steps (record { kind = LoadTime; word = 0; found = Some b.inside.word; stored = None })) (sym trail_is) b.entered.takes;
-    time = (let t = b.word_is ∙ b.time_is in let base : w.base ≡ p.view.base = ap (λ (u : View). u.base) b.rest in let at = at_is in omega arith);
+    time = (let t = b.word_is ∙ b.time_is in let base : w.base ≡ p.view.base = ap (λ (u : Knowledge). u.base) b.rest in let at = at_is in omega arith);
   }
 
   pub busy : (starts : State → Type 0) (allows : List ℕ → State → Writes → Type 0) → IsIdle starts allows p → q.log ≡ p.log
@@ -102,9 +102,9 @@ module _ (p q : Placed) (time : ℕ) (b : Begins p.config p.view q.view time) (c
   busy starts allows idle log known =
       let stands : Stands c w p.log = stands_entered c p.view w p.log time b idle.placed.stands in
       let here : Stands q.config w q.log = subst (λ (e : Config). Stands e w q.log) (sym config) (subst (Stands c w) (sym log) stands) in record {
-        placed = placed_on starts allows p q config idle.placed (ap (λ (u : View). u.number) b.rest) (ap (λ (u : View). u.base) b.rest) known here
+        placed = placed_on starts allows p q config idle.placed (ap (λ (u : Knowledge). u.number) b.rest) (ap (λ (u : Knowledge). u.base) b.rest) known here
             (ap (λ (m : Noted). m.built) log ∙ idle.placed.unbuilt);
         may = begun_may c p.view w time b;
-        no_scan = ap (λ (u : View). u.scan) b.rest ∙ idle.outside.no_scan;
+        no_scan = ap (λ (u : Knowledge). u.scan) b.rest ∙ idle.outside.no_scan;
         few = (let none = holds_none w.ring b.nothing in let held = here.held in omega arith);
       }

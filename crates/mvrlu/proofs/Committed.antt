@@ -12,7 +12,7 @@ use Rattle.mv_history.specs.Calls as calls
 use Rattle.mv_history.proofs.Histories.{slice_get_at}
 use Rattle.mv_layout.specs.declared.Config.{Config}
 use Rattle.mv_layout.specs.Words.{clock_time_of}
-use Rattle.object_lock.specs.mv_core.declared.view.View.{View}
+use Rattle.object_lock.specs.mv_core.declared.view.Knowledge.{Knowledge}
 use Rattle.object_lock.specs.mv_core.declared.view.Past.{Past}
 use Rattle.object_lock.specs.mv_core.Known.{Known}
 use Rattle.object_lock.specs.mv_core.NameSteps.{commit_of}
@@ -59,7 +59,7 @@ module _ (p q : Placed) (config : q.config ≡ p.config) (table : q.table ≡ p.
     seen_is = ap (λ (x : Past). x.seen) k.past
 
     same_base : q.view.base ≡ p.config.base
-    same_base = ap (λ (u : View). u.base) k.rest ∙ base
+    same_base = ap (λ (u : Knowledge). u.base) k.rest ∙ base
 
     entry : IsEntryAt (seat_from q) time (Change (commit_of p.config p.view (section_in p.view) tag))
     entry =
@@ -74,8 +74,8 @@ module _ (p q : Placed) (config : q.config ≡ p.config) (table : q.table ≡ p.
 
     pub commits : calls.Commits (section_from p) tag (seat_from q) time
     commits = record {
-      continues = continues p q config table k.steps (ap (λ (u : View). u.number) k.rest) (ap (λ (u : View). u.start) k.rest)
-          (ap (λ (u : View). u.base) k.rest)
+      continues = continues p q config table k.steps (ap (λ (u : Knowledge). u.number) k.rest) (ap (λ (u : Knowledge). u.start) k.rest)
+          (ap (λ (u : Knowledge). u.base) k.rest)
           (begins_by q.view.past.seen k.history p.view.past.seen (Change (commit_of p.config p.view (section_in p.view) tag) ∷ [], seen_is) k.whole.0)
           k.loads.trail;
       entry = entry;
@@ -92,26 +92,27 @@ module _ (p q : Placed) (config : q.config ≡ p.config) (table : q.table ≡ p.
     pub done_idle : (starts : State → Type 0) (allows : List ℕ → State → Writes → Type 0) → IsBusy starts allows p
         → ∥ Known starts allows q.view ∥₁ → Stands q.config q.view q.log → q.log.built ≡ None → IsIdle starts allows q
     done_idle starts allows is known stands unbuilt = record {
-      placed = placed_on starts allows p q config is.placed (ap (λ (u : View). u.number) k.rest) (ap (λ (u : View). u.base) k.rest) known stands unbuilt;
-      outside = record { outside = k.outside; no_scan = ap (λ (u : View). u.scan) k.rest ∙ is.no_scan };
+      placed = placed_on starts allows p q config is.placed (ap (λ (u : Knowledge). u.number) k.rest)
+          (ap (λ (u : Knowledge). u.base) k.rest) known stands unbuilt;
+      outside = record { outside = k.outside; no_scan = ap (λ (u : Knowledge). u.scan) k.rest ∙ is.no_scan };
     }
 
   -- a section that was kept
   module _ (steps : List Step) (trail : q.view.trail ≡ p.view.trail ++ steps) (k : IsKept p.view q.view (section_in p.view)) where
     same_phase : q.view.phase ≡ p.view.phase
-    same_phase = ap (λ (u : View). u.phase) k.rest
+    same_phase = ap (λ (u : Knowledge). u.phase) k.rest
 
     pub kept_as_before : IsAsBefore (section_from p) (section_from q)
     kept_as_before = record {
       seat = record {
-        continues = continues p q config table steps (ap (λ (u : View). u.number) k.rest) (ap (λ (u : View). u.start) k.rest)
-            (ap (λ (u : View). u.base) k.rest) k.seen trail;
-        mine = ap (λ (u : View). u.past.mine) k.rest;
-        rests = ap (λ (u : View). u.past.rests) k.rest;
-        spare = ap (λ (u : View). spare_count u.ring) k.rest;
+        continues = continues p q config table steps (ap (λ (u : Knowledge). u.number) k.rest) (ap (λ (u : Knowledge). u.start) k.rest)
+            (ap (λ (u : Knowledge). u.base) k.rest) k.seen trail;
+        mine = ap (λ (u : Knowledge). u.past.mine) k.rest;
+        rests = ap (λ (u : Knowledge). u.past.rests) k.rest;
+        spare = ap (λ (u : Knowledge). spare_count u.ring) k.rest;
       };
       at = (let phase = same_phase in (λ i. time_in (inside_of (phase i)) - (config i).base));
-      own = ap (λ (d : Config). own_of d q.view.ring) config ∙ ap (λ (u : View). own_of p.config u.ring) k.rest;
+      own = ap (λ (d : Config). own_of d q.view.ring) config ∙ ap (λ (u : Knowledge). own_of p.config u.ring) k.rest;
     }
 
     kept_may : MayWalk p.view → MayWalk q.view
@@ -120,19 +121,20 @@ module _ (p q : Placed) (config : q.config ≡ p.config) (table : q.table ≡ p.
           phase = same_phase ∙ may.phase;
           open_is = may.open_is;
           helped = k.past_help;
-          no_back = ap (λ (u : View). u.back) k.rest ∙ may.no_back;
+          no_back = ap (λ (u : Knowledge). u.back) k.rest ∙ may.no_back;
         } in
         subst (IsWalking q.view) (sym (ap inside_of same_phase)) walking
 
     pub kept_busy : (starts : State → Type 0) (allows : List ℕ → State → Writes → Type 0) → IsBusy starts allows p
         → ∥ Known starts allows q.view ∥₁ → Stands q.config q.view q.log → q.log ≡ p.log → IsBusy starts allows q
     kept_busy starts allows is known stands log =
-        busy_on starts allows p q config is (ap (λ (u : View). u.number) k.rest) (ap (λ (u : View). u.base) k.rest) (ap (λ (u : View). u.scan) k.rest)
+        busy_on starts allows p q config is (ap (λ (u : Knowledge). u.number) k.rest) (ap (λ (u : Knowledge). u.base) k.rest)
+        (ap (λ (u : Knowledge). u.scan) k.rest)
         known (kept_may is.may) stands (ap (λ (n : Noted). n.built) log ∙ is.placed.unbuilt)
         (subst (λ (d : Config). q.log.held ≤ d.write_max) (sym config) (subst (λ (n : Noted). n.held ≤ p.config.write_max) (sym log) is.few))
 
     same_base_kept : q.view.base ≡ p.config.base
-    same_base_kept = ap (λ (u : View). u.base) k.rest ∙ base
+    same_base_kept = ap (λ (u : Knowledge). u.base) k.rest ∙ base
 
   -- a commit that another seat's entry overtook
   module _ (rival : Rival) (o : IsOvertakenBy p.config p.view q.view (section_in p.view) rival) where

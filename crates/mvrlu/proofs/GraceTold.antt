@@ -2,7 +2,7 @@
 use Rattle.std.proofs.Common.{◌≡◌, ℕ, ◌+◌, ◌≤◌, List, length, drop, sym, ap, subst, arith}
 use Rattle.mv_history.specs.State.{State, Writes}
 use Rattle.mv_history.specs.declared.Step.{Step}
-use Rattle.object_lock.specs.mv_core.declared.view.View.{View}
+use Rattle.object_lock.specs.mv_core.declared.view.Knowledge.{Knowledge}
 use Rattle.object_lock.specs.mv_core.Known.{Known}
 use Rattle.mv_layout.specs.declared.Config.{Config}
 use Rattle.object_lock.specs.seat_log.Notes.{Noted}
@@ -19,7 +19,7 @@ use Rattle.mvrlu.proofs.rooms.Left.{trail_is, idle_after, prepared, few_steps}
 use Rattle.mvrlu.proofs.NeverBelow.{never_below}
 
 -- a scan in a domain of these numbers, by the numbers that the seat's place has
-pub scans_by : (c d : Config) → c ≡ d → (v w : View) (mark : Watermark) (clock before after : ℕ) → Scans c v w mark clock before after
+pub scans_by : (c d : Config) → c ≡ d → (v w : Knowledge) (mark : Watermark) (clock before after : ℕ) → Scans c v w mark clock before after
     → Scans d v w mark clock before after
 scans_by c d is v w mark clock before after k = subst (λ (e : Config). Scans e v w mark clock before after) is k
 

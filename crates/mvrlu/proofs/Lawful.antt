@@ -17,10 +17,10 @@ use Rattle.mv_history.specs.Laws.{IsSeat-prop, IsSection-prop}
 use Rattle.mv_history.specs.Meaning.{IsSeat, IsSection}
 use Rattle.mv_layout.specs.declared.Config.{Config}
 use Rattle.object_lock.specs.mv_core.declared.ring.Slot.TheVariants.{Live}
-use Rattle.object_lock.specs.mv_core.declared.ring.Status.{Status}
-use Rattle.object_lock.specs.mv_core.declared.ring.Status.TheVariants.{Held, Aborted, Committed}
-use Rattle.object_lock.specs.mv_core.declared.view.View.{View}
-use Rattle.object_lock.specs.mv_core.declared.view.Section.{Section}
+use Rattle.object_lock.specs.mv_core.declared.ring.WriteSetStatus.{WriteSetStatus}
+use Rattle.object_lock.specs.mv_core.declared.ring.WriteSetStatus.TheVariants.{Held, Aborted, Committed}
+use Rattle.object_lock.specs.mv_core.declared.view.Knowledge.{Knowledge}
+use Rattle.object_lock.specs.mv_core.declared.view.OwnSection.{OwnSection}
 use Rattle.object_lock.specs.mv_core.Rings.{slot_at, index_of, own_of}
 use Rattle.object_lock.specs.mv_core.Times.{is_by, writes_to, latest, IsEntry}
 use Rattle.object_lock.specs.mv_core.Views.{time_in, IsUnnamed}
@@ -57,7 +57,7 @@ seat_lawful starts allows one_start one_allowed p is =
     ∥∥₁_elim is.known (IsSeat-prop starts allows one_start one_allowed (seat_from p)) (seat_known starts allows p)
 
 -- a version that is noted as held is
-as_held : (b : Bool) (n : Note) (st : Status) → b ≡ true → IsAsNoted b n st → st ≡ Held
+as_held : (b : Bool) (n : Note) (st : WriteSetStatus) → b ≡ true → IsAsNoted b n st → st ≡ Held
 as_held b n Held e a = refl
 as_held b n (Aborted dead) e a = let other = a.0 in absurd (cc)
 as_held b n (Committed note) e a = let other = a.0 in absurd (cc)
@@ -107,13 +107,13 @@ module _ (starts : State → Type 0) (allows : List ℕ → State → Writes →
   abbrev c : Config
   c = p.config
 
-  abbrev v : View
+  abbrev v : Knowledge
   v = p.view
 
   abbrev l : Noted
   l = p.log
 
-  abbrev inside : Section
+  abbrev inside : OwnSection
   inside = section_in v
 
   s : Stands c v l

@@ -10,7 +10,7 @@ use Rattle.mv_history.specs.Meaning.{Lacks}
 use Rattle.mv_history.specs.Calls.{IsAsBefore, IsLogFull, IsStale}
 use Rattle.mv_history.specs.Calls.{IsSetFull as IsFullSection}
 use Rattle.mv_layout.specs.declared.Config.{Config}
-use Rattle.object_lock.specs.mv_core.declared.view.View.{View}
+use Rattle.object_lock.specs.mv_core.declared.view.Knowledge.{Knowledge}
 use Rattle.object_lock.specs.mv_core.declared.view.Phase.{Phase}
 use Rattle.object_lock.specs.mv_core.Passes.{home_of}
 use Rattle.object_lock.specs.mv_core.Views.{time_in}
@@ -23,7 +23,7 @@ use Rattle.mvrlu.specs.Placed.{Placed, section_from}
 use Rattle.mvrlu.specs.Causes.{FoundLocked}
 use Rattle.mvrlu.proofs.LockMeant.{tried_continues}
 
-module _ (c : Config) (v w : View) (object : ℕ) (words : List ℕ) where
+module _ (c : Config) (v w : Knowledge) (object : ℕ) (words : List ℕ) where
   -- a full set or a full log is answered, where the object isn't held
   set_full_by : (a : LockAnswer) → AnswersWith c v w object words a → IsSetFull c v → a ≡ SetFull
   set_full_by SetFull h full = refl
@@ -60,11 +60,11 @@ module _ (p q : Placed) (before after : ℕ) (tried : List Step) (config : q.con
   as_before keeps = record {
     seat = record {
       continues = tried_continues p q before after tried config table t;
-      mine = ap (λ (u : View). u.past.mine) t.rest;
-      rests = ap (λ (u : View). u.past.rests) t.rest;
+      mine = ap (λ (u : Knowledge). u.past.mine) t.rest;
+      rests = ap (λ (u : Knowledge). u.past.rests) t.rest;
       spare = keeps.1;
     };
-    at = (let phase : q.view.phase ≡ p.view.phase = ap (λ (u : View). u.phase) t.rest in λ i. time_in (inside_of (phase i)) - (config i).base);
+    at = (let phase : q.view.phase ≡ p.view.phase = ap (λ (u : Knowledge). u.phase) t.rest in λ i. time_in (inside_of (phase i)) - (config i).base);
     own = ap (λ (d : Config). own_of d q.view.ring) config ∙ keeps.0;
   }
 
@@ -99,7 +99,7 @@ module _ (p q : Placed) (before after : ℕ) (tried : List Step) (config : q.con
   pub found_stale : (time : ℕ) → a ≡ Stale time → q.view.base ≡ q.config.base → IsStale (section_from q) object time
   found_stale time e base =
       let is = subst (AnswersWith p.config p.view q.view object words) e answers in
-      let phase : q.view.phase ≡ p.view.phase = ap (λ (u : View). u.phase) t.rest in
+      let phase : q.view.phase ≡ p.view.phase = ap (λ (u : Knowledge). u.phase) t.rest in
       let here : time_at q.view ≡ time_at p.view = ap (λ (f : Phase). time_in (inside_of f)) phase in
       let w = is.1.1 in
       stale_by q object time w.0 (subst (λ (n : ℕ). n < time) (sym here) is.1.0) base

@@ -11,7 +11,7 @@ use Rattle.mv_history.specs.Calls.{Continues, GoesOn, LocksWith}
 use Rattle.mv_history.proofs.Writing.{words-written_other}
 use Rattle.mv_history.proofs.Snapshots.{snapshot_of-later}
 use Rattle.mv_layout.specs.declared.Config.{Config}
-use Rattle.object_lock.specs.mv_core.declared.view.View.{View}
+use Rattle.object_lock.specs.mv_core.declared.view.Knowledge.{Knowledge}
 use Rattle.object_lock.specs.mv_core.declared.view.Phase.{Phase}
 use Rattle.object_lock.specs.mv_core.Views.{time_in}
 use Rattle.object_lock.specs.mv_core.Rings.{own_of, spare_count}
@@ -49,19 +49,20 @@ module _ (p q : Placed) (before after : ℕ) (tried : List Step) (config : q.con
     (t : Tries p.view q.view before after tried) where
   pub tried_continues : Continues (seat_from p) (seat_from q)
   tried_continues =
-      continues p q config table t.trail.0 (ap (λ (u : View). u.number) t.rest) (ap (λ (u : View). u.start) t.rest) (ap (λ (u : View). u.base) t.rest)
+      continues p q config table t.trail.0 (ap (λ (u : Knowledge). u.number) t.rest) (ap (λ (u : Knowledge). u.start) t.rest)
+      (ap (λ (u : Knowledge). u.base) t.rest)
       t.seen t.trail.1
 
   tried_at : time_at q.view - q.config.base ≡ time_at p.view - p.config.base
   tried_at =
-      let phase : q.view.phase ≡ p.view.phase = ap (λ (u : View). u.phase) t.rest in
+      let phase : q.view.phase ≡ p.view.phase = ap (λ (u : Knowledge). u.phase) t.rest in
       (λ i. time_in (inside_of (phase i)) - (config i).base)
 
   pub tried_goes_on : GoesOn (section_from p) (section_from q)
   tried_goes_on = record {
     continues = tried_continues;
-    mine = ap (λ (u : View). u.past.mine) t.rest;
-    rests = ap (λ (u : View). u.past.rests) t.rest;
+    mine = ap (λ (u : Knowledge). u.past.mine) t.rest;
+    rests = ap (λ (u : Knowledge). u.past.rests) t.rest;
     at = tried_at;
     names_no_commit = ap commit_exchanges (made p.view.trail q.view.trail t.trail.0 t.trail.1) ∙ none_named IsLockStep no_name t.trail.0 t.trail.3;
   }
@@ -72,11 +73,11 @@ module _ (p q : Placed) (before after : ℕ) (tried : List Step) (config : q.con
       → LocksWith (section_from p) (section_from q) o (unwrap_or given (words_at (state_of (section_from p)) o))
   tried_locks o given base past lacks own spare = record {
     continues = tried_continues;
-    mine = ap (λ (u : View). u.past.mine) t.rest;
-    rests = ap (λ (u : View). u.past.rests) t.rest;
+    mine = ap (λ (u : Knowledge). u.past.mine) t.rest;
+    rests = ap (λ (u : Knowledge). u.past.rests) t.rest;
     spare = spare;
     at = tried_at;
     own = ap (λ (d : Config). own_of d q.view.ring) config ∙ own
-        ∙ ap (λ ws. own_of p.config p.view.ring ++ (o, unwrap_or given ws) ∷ []) (snapshot_words p q o config (ap (λ (u : View). u.phase) t.rest)
+        ∙ ap (λ ws. own_of p.config p.view.ring ++ (o, unwrap_or given ws) ∷ []) (snapshot_words p q o config (ap (λ (u : Knowledge). u.phase) t.rest)
         tried_continues past ∙ below_words (section_from p) o lacks);
   }

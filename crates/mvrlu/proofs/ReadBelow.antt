@@ -7,13 +7,13 @@ use Rattle.mv_history.specs.Meaning.{IsSection, snapshot_of, words_at}
 use Rattle.mv_layout.specs.declared.Config.{Config}
 use Rattle.object_lock.specs.mv_core.declared.shared.Shared.{Shared}
 use Rattle.object_lock.specs.mv_core.declared.shared.Pass.{Pass}
-use Rattle.object_lock.specs.mv_core.declared.view.View.{View}
+use Rattle.object_lock.specs.mv_core.declared.view.Knowledge.{Knowledge}
 use Rattle.object_lock.specs.mv_core.Passes.{view, config_of, IsSame}
 use Rattle.object_lock.specs.version_chain.Walks.{Walks, MayWalk, snapshot_length}
 use Rattle.object_lock.specs.version_chain.Reads.{ReadsSome, words_in}
 use Rattle.object_lock.proofs.seat_log_lemmas.OwnSlots.{same_on}
 use Rattle.object_lock.proofs.seat_log_lemmas.PlainSteps.{LeavesLog}
-use Rattle.mvrlu.specs.declared.places.Place.{Place}
+use Rattle.mvrlu.specs.declared.places.SeatState.{SeatState}
 use Rattle.mvrlu.specs.Placed.{Placed, placed, section_from, seat_from, Fits, IsBusy}
 use Rattle.mvrlu.specs.Standing.{Stays}
 use Rattle.mvrlu.specs.Bounds.{MakesAtMost}
@@ -33,7 +33,7 @@ pub record HasReadBelow {P : Type 0} {g : Ghosts P} (s : Shared P) (old new : Pl
   pub aborts : new.log.aborts ≡ old.log.aborts
   pub bound : MakesAtMost (seat_from old) (seat_from new) (6 + n + 3 * (length new.view.past.seen - (section_from old).at))
 
-module _ {P : Type 0} {g : Ghosts P} {s : Shared P} {old : Placed} {i : Place P g} (l : Lent s (IsBusy g.start g.allowed) old i) (x : Pass P g)
+module _ {P : Type 0} {g : Ghosts P} {s : Shared P} {old : Placed} {i : SeatState P g} (l : Lent s (IsBusy g.start g.allowed) old i) (x : Pass P g)
     {before after : ℕ} (kept : IsSame i.pass x) (walks : Walks (view i.pass) (view x) before after)
     (few : after ≤ before + (6 + 3 * (length (view x).past.seen - snapshot_length (config_of s) (view i.pass)))) (kind : StepKind) (n : ℕ)
     (other : is_commit_exchange kind ≡ false) (alone : LeavesLog kind) (y : Pass P g) (same : IsSame x y) (may : MayWalk (view y))
@@ -57,7 +57,7 @@ module _ {P : Type 0} {g : Ghosts P} {s : Shared P} {old : Placed} {i : Place P 
   words_are : (object : ℕ) → words_in (config_of s) (view x) object ≡ words_at (snapshot_of (section_from p)) object
   words_are object =
       ap (λ (d : Config). words_in d (view x) object) l.config
-      ∙ snapshot_words p (placed x i.log) object kept.2 (ap (λ (u : View). u.phase) looks.rest)
+      ∙ snapshot_words p (placed x i.log) object kept.2 (ap (λ (u : Knowledge). u.phase) looks.rest)
       (look_continues p (placed x i.log) kept.2 kept.0 looks) (section_lawful g.start g.allowed g.one_start g.one_allowed p l.is).at
 
   pub read_below : HasReadBelow s old q x n

@@ -8,7 +8,7 @@ use Rattle.mv_history.specs.declared.StepKind.TheVariants.{LoadHead, LoadFirst, 
 use Rattle.mv_history.specs.Trail.{is_commit_exchange, commit_exchanges}
 use Rattle.mv_history.specs.Calls.{Continues}
 use Rattle.mv_layout.specs.declared.Config.{Config}
-use Rattle.object_lock.specs.mv_core.declared.view.View.{View}
+use Rattle.object_lock.specs.mv_core.declared.view.Knowledge.{Knowledge}
 use Rattle.object_lock.specs.mv_core.Views.{time_in}
 use Rattle.object_lock.specs.mv_core.Rings.{own_of, spare_count}
 use Rattle.object_lock.specs.mv_core.HistoryFacts.{BeginsWith}
@@ -40,7 +40,7 @@ leaves_log LoadPrev h = (refl, refl)
 leaves_log _ h = absurd h
 
 -- what a walk, and a read after it, leave of a view
-pub record Looks (v w : View) : Type 0 where
+pub record Looks (v w : Knowledge) : Type 0 where
   pub seen : BeginsWith w.past.seen v.past.seen
   pub steps : List Step
   pub trail : w.trail ≡ v.trail ++ steps
@@ -48,7 +48,7 @@ pub record Looks (v w : View) : Type 0 where
   pub leaves : All (λ s. LeavesLog s.kind) steps
   pub rest : w ≡ record v { past = record v.past { seen = w.past.seen }; walk = w.walk; empty = w.empty; trail = w.trail }
 
-pub walked : (v w : View) (before after : ℕ) → Walks v w before after → Looks v w
+pub walked : (v w : Knowledge) (before after : ℕ) → Walks v w before after → Looks v w
 walked v w before after k =
     record {
       seen = k.seen;
@@ -61,9 +61,9 @@ walked v w before after k =
     }
 
 -- and the load of so many words
-pub looked : (kind : StepKind) (n : ℕ) → is_commit_exchange kind ≡ false → LeavesLog kind → (v x w : View) → Looks v x → ReadsSome kind n x w → Looks v w
+pub looked : (kind : StepKind) (n : ℕ) → is_commit_exchange kind ≡ false → LeavesLog kind → (v x w : Knowledge) → Looks v x → ReadsSome kind n x w → Looks v w
 looked kind n other alone v x w k r = record {
-  seen = subst (λ h. BeginsWith h v.past.seen) (sym (ap (λ (u : View). u.past.seen) r.rest)) k.seen;
+  seen = subst (λ h. BeginsWith h v.past.seen) (sym (ap (λ (u : Knowledge). u.past.seen) r.rest)) k.seen;
   steps = k.steps ++ r.trail.0;
   trail = r.trail.1 ∙ ap (λ t. t ++ r.trail.0) k.trail ∙ append_assoc v.trail k.steps r.trail.0;
   none = filter-append (λ (s : Step). is_commit_exchange s.kind) k.steps r.trail.0 ∙ ap (λ t. t ++ commit_exchanges r.trail.0) k.none
@@ -71,20 +71,21 @@ looked kind n other alone v x w k r = record {
   leaves = All-append (λ (s : Step). LeavesLog s.kind) k.steps r.trail.0 k.leaves (All-weaker (λ (s : Step). s.kind ≡ kind) (λ s. LeavesLog s.kind)
       (λ s e. subst LeavesLog (sym e) alone) r.trail.0 r.trail.3);
   rest = r.rest ∙ (λ i. record (k.rest i) { trail = w.trail }) ∙ (let past : x.past.seen ≡ w.past.seen = sym (ap (λ
-      (u : View). u.past.seen) r.rest) in let walk : x.walk ≡ w.walk = sym (ap (λ (u : View). u.walk) r.rest) in let empty : x.empty ≡ w.empty = sym
-      (ap (λ (u : View). u.empty) r.rest) in
+      (u : Knowledge). u.past.seen) r.rest) in let walk : x.walk ≡ w.walk = sym (ap (λ (u : Knowledge). u.walk) r.rest) in let empty : x.empty ≡ w.empty = sym
+      (ap (λ (u : Knowledge). u.empty) r.rest) in
       (λ i. record v { past = record v.past { seen = past i }; walk = walk i; empty = empty i; trail = w.trail }));
 }
 
 module _ (p q : Placed) (config : q.config ≡ p.config) (table : q.table ≡ p.table) (t : Looks p.view q.view) where
   pub look_continues : Continues (seat_from p) (seat_from q)
   look_continues =
-      continues p q config table t.steps (ap (λ (u : View). u.number) t.rest) (ap (λ (u : View). u.start) t.rest) (ap (λ (u : View). u.base) t.rest)
+      continues p q config table t.steps (ap (λ (u : Knowledge). u.number) t.rest) (ap (λ (u : Knowledge). u.start) t.rest)
+      (ap (λ (u : Knowledge). u.base) t.rest)
       t.seen t.trail
 
   look_at : time_at q.view - q.config.base ≡ time_at p.view - p.config.base
   look_at =
-      let phase : q.view.phase ≡ p.view.phase = ap (λ (u : View). u.phase) t.rest in
+      let phase : q.view.phase ≡ p.view.phase = ap (λ (u : Knowledge). u.phase) t.rest in
       (λ i. time_in (inside_of (phase i)) - (config i).base)
 
   pub look_stays : Stays (section_from p) (section_from q)
@@ -92,18 +93,18 @@ module _ (p q : Placed) (config : q.config ≡ p.config) (table : q.table ≡ p.
     record {
       seat = record {
         continues = look_continues;
-        mine = ap (λ (u : View). u.past.mine) t.rest;
+        mine = ap (λ (u : Knowledge). u.past.mine) t.rest;
         rests = ap (λ
-            (u : View). u.past.rests) t.rest;
-        spare = ap (λ (u : View). spare_count u.ring) t.rest;
+            (u : Knowledge). u.past.rests) t.rest;
+        spare = ap (λ (u : Knowledge). spare_count u.ring) t.rest;
       };
       at = look_at;
-      own = ap (λ (d : Config). own_of d q.view.ring) config ∙ ap (λ (u : View). own_of p.config u.ring) t.rest;
+      own = ap (λ (d : Config). own_of d q.view.ring) config ∙ ap (λ (u : Knowledge). own_of p.config u.ring) t.rest;
     },
     record {
       continues = look_continues;
-      mine = ap (λ (u : View). u.past.mine) t.rest;
-      rests = ap (λ (u : View). u.past.rests) t.rest;
+      mine = ap (λ (u : Knowledge). u.past.mine) t.rest;
+      rests = ap (λ (u : Knowledge). u.past.rests) t.rest;
       at = look_at;
       names_no_commit = ap commit_exchanges (made p.view.trail q.view.trail t.steps t.trail) ∙ t.none;
     },
@@ -112,23 +113,23 @@ module _ (p q : Placed) (config : q.config ≡ p.config) (table : q.table ≡ p.
 pub look_busy : (starts : State → Type 0) (allows : List ℕ → State → Writes → Type 0) (p q : Placed) → q.config ≡ p.config → IsBusy starts allows p
     → Looks p.view q.view → ∥ Known starts allows q.view ∥₁ → MayWalk q.view → q.log ≡ p.log → IsBusy starts allows q
 look_busy starts allows p q config is t known may log =
-    let number : q.view.number ≡ p.view.number = ap (λ (u : View). u.number) t.rest in
-    let stands : Stands p.config q.view p.log = stands_left p.config p.view q.view p.log is.placed.stands number (ap (λ (u : View). u.ring) t.rest)
-    (ap (λ (u : View). u.past.mine) t.rest) (ap (λ (u : View). u.past.rests) t.rest) t.steps t.trail t.leaves in
-    busy_on starts allows p q config is number (ap (λ (u : View). u.base) t.rest) (ap (λ (u : View). u.scan) t.rest) known may
+    let number : q.view.number ≡ p.view.number = ap (λ (u : Knowledge). u.number) t.rest in
+    let stands : Stands p.config q.view p.log = stands_left p.config p.view q.view p.log is.placed.stands number (ap (λ (u : Knowledge). u.ring) t.rest)
+    (ap (λ (u : Knowledge). u.past.mine) t.rest) (ap (λ (u : Knowledge). u.past.rests) t.rest) t.steps t.trail t.leaves in
+    busy_on starts allows p q config is number (ap (λ (u : Knowledge). u.base) t.rest) (ap (λ (u : Knowledge). u.scan) t.rest) known may
     (subst (λ (d : Config). Stands d q.view q.log) (sym config) (subst (λ (m : Noted). Stands p.config q.view m) (sym log) stands))
     (ap (λ (m : Noted). m.built) log ∙ is.placed.unbuilt)
     (subst (λ (m : Noted). m.held ≤ q.config.write_max) (sym log) (subst (λ (d : Config). p.log.held ≤ d.write_max) (sym config) is.few))
 
 -- it makes as few steps as the walk may, and one for each word
-pub look_bound : (c : Config) (p q : Placed) (x : View) (kind : StepKind) (n most before after : ℕ) → c ≡ p.config → (k : Walks p.view x before after)
+pub look_bound : (c : Config) (p q : Placed) (x : Knowledge) (kind : StepKind) (n most before after : ℕ) → c ≡ p.config → (k : Walks p.view x before after)
     → after ≤ before + (6 + 3 * (length x.past.seen - snapshot_length c p.view)) → ReadsSome kind n x q.view → most ≡ 6 + n
     → MakesAtMost (seat_from p) (seat_from q) (most + 3 * (length q.view.past.seen - (section_from p).at))
 look_bound c p q x kind n most before after config k few r is =
     let all = k.trail.2 in
     let words = r.trail.2 in
     let long = length-append k.trail.0 r.trail.0 in
-    let seen : length q.view.past.seen ≡ length x.past.seen = ap (λ (u : View). length u.past.seen) r.rest in
+    let seen : length q.view.past.seen ≡ length x.past.seen = ap (λ (u : Knowledge). length u.past.seen) r.rest in
     let at : snapshot_length c p.view ≡ (section_from p).at = ap (λ (d : Config). snapshot_length d p.view) config in
     few_made p.view.trail q.view.trail (k.trail.0 ++ r.trail.0) _
     (r.trail.1 ∙ ap (λ (t : List Step). t ++ r.trail.0) k.trail.1 ∙ append_assoc p.view.trail k.trail.0 r.trail.0) (omega arith)

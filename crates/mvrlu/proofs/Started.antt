@@ -9,7 +9,7 @@ use Rattle.mv_history.specs.declared.Protocol.{Ghosts}
 use Rattle.mv_layout.specs.declared.Config.{Config}
 use Rattle.mv_layout.specs.Limits.{Checked}
 use Rattle.object_lock.specs.mv_core.declared.ring.Slot.TheVariants.{Free}
-use Rattle.object_lock.specs.mv_core.declared.view.View.{View}
+use Rattle.object_lock.specs.mv_core.declared.view.Knowledge.{Knowledge}
 use Rattle.object_lock.specs.mv_core.declared.shared.Shared.{Shared}
 use Rattle.object_lock.specs.mv_core.declared.shared.Pass.{Pass}
 use Rattle.object_lock.specs.mv_core.Rings.{is_spare, spare_count, empty_ring}
@@ -86,7 +86,7 @@ module _ {P : Type 0} {g : Ghosts P} (s : Shared P) (p : Pass P g) (log : Noted)
           range = subst (λ (e : Config). (view p).number < e.seats) (sym config_is) (subst (λ (n : ℕ). n < c.seats) p.numbered new.0.1);
           base = new.0.2 ∙ sym (ap (λ (e : Config). e.base) config_is);
           stands = subst (λ (e : Config). Stands e (view p) log) (sym config_is)
-              (subst (λ (v : View). Stands c v log) (sym new.2) (subst (Stands c (starting_view c (start_of s) number)) (sym noted) begun));
+              (subst (λ (v : Knowledge). Stands c v log) (sym new.2) (subst (Stands c (starting_view c (start_of s) number)) (sym noted) begun));
           unbuilt = ap (λ (l : Noted). l.built) noted;
         };
         outside = subst MayLoadLow (sym new.2) (begins_outside c (start_of s) number);

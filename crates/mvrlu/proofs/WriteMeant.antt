@@ -5,7 +5,7 @@ use Rattle.mv_history.specs.Trail.{is_commit_exchange, commit_exchanges}
 use Rattle.mv_history.specs.State.{rewritten}
 use Rattle.mv_history.specs.Calls.{GoesOn, Rewrites}
 use Rattle.mv_layout.specs.declared.Config.{Config}
-use Rattle.object_lock.specs.mv_core.declared.view.View.{View}
+use Rattle.object_lock.specs.mv_core.declared.view.Knowledge.{Knowledge}
 use Rattle.object_lock.specs.mv_core.Rings.{own_of, spare_count}
 use Rattle.object_lock.specs.mv_core.Views.{time_in}
 use Rattle.object_lock.specs.version_chain.Walks.{inside_of}
@@ -17,11 +17,11 @@ use Rattle.mvrlu.proofs.Continuing.{continues}
 module _ (p q : Placed) (n : ℕ) (config : q.config ≡ p.config) (table : q.table ≡ p.table) (t : Stores p.view q.view n) where
   pub wrote_goes_on : GoesOn (section_from p) (section_from q)
   wrote_goes_on =
-      let phase : q.view.phase ≡ p.view.phase = ap (λ (u : View). u.phase) t.rest in record {
-        continues = continues p q config table t.trail.0 (ap (λ (u : View). u.number) t.rest) (ap (λ (u : View). u.start) t.rest)
-            (ap (λ (u : View). u.base) t.rest) ([], ap (λ (u : View). u.past.seen) t.rest ∙ sym (append-nil p.view.past.seen)) t.trail.1;
-        mine = ap (λ (u : View). u.past.mine) t.rest;
-        rests = ap (λ (u : View). u.past.rests) t.rest;
+      let phase : q.view.phase ≡ p.view.phase = ap (λ (u : Knowledge). u.phase) t.rest in record {
+        continues = continues p q config table t.trail.0 (ap (λ (u : Knowledge). u.number) t.rest) (ap (λ (u : Knowledge). u.start) t.rest)
+            (ap (λ (u : Knowledge). u.base) t.rest) ([], ap (λ (u : Knowledge). u.past.seen) t.rest ∙ sym (append-nil p.view.past.seen)) t.trail.1;
+        mine = ap (λ (u : Knowledge). u.past.mine) t.rest;
+        rests = ap (λ (u : Knowledge). u.past.rests) t.rest;
         at = (λ i. time_in (inside_of (phase i)) - (config i).base);
         names_no_commit = ap commit_exchanges (made p.view.trail q.view.trail t.trail.0 t.trail.1)
             ∙ none_named (λ k. k ≡ StoreData) (λ k e. ap is_commit_exchange e) t.trail.0 t.trail.3;

@@ -3,7 +3,7 @@ use Rattle.std.specs.Prelude.{◌≡◌, ℕ, ◌+◌, ◌≤◌, List, length}
 use Rattle.mv_history.specs.State.{State, Writes}
 use Rattle.mv_history.specs.Calls.{Prepares}
 use Rattle.mv_layout.specs.declared.Config.{Config}
-use Rattle.object_lock.specs.mv_core.declared.view.View.{View}
+use Rattle.object_lock.specs.mv_core.declared.view.Knowledge.{Knowledge}
 use Rattle.object_lock.specs.mv_core.Times.{NotAboveAny}
 use Rattle.object_lock.specs.mv_core.Views.{parts_of}
 use Rattle.object_lock.specs.mv_core.Moves.{Moment, Moves}
@@ -23,7 +23,7 @@ abbrev pub NoSectionBelow : ℕ → Moment → Type 0
 NoSectionBelow time s = NotAboveAny time (parts_of s.seats).time
 
 -- It is so from now on: in each state of the rule in which the seat has this view, and in each that comes after.
-abbrev pub NeverBelow : (State → Type 0) → (List ℕ → State → Writes → Type 0) → Config → View → ℕ → Type 0
+abbrev pub NeverBelow : (State → Type 0) → (List ℕ → State → Writes → Type 0) → Config → Knowledge → ℕ → Type 0
 NeverBelow starts allows c v time =
     (start : State) (s t : Moment) → Holds starts allows c start s → s.seats v.number ≡ v → IsSince allows c s t → NoSectionBelow time t
 

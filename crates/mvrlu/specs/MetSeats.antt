@@ -6,7 +6,7 @@ use Rattle.mv_history.specs.declared.Step.{Step}
 use Rattle.mv_history.specs.declared.StepKind.{StepKind}
 use Rattle.mv_history.specs.declared.StepKind.TheVariants.{JoinSeat, LoadJoined, LoadData, LoadMaster}
 use Rattle.mv_history.specs.Meaning.{Seat}
-use Rattle.object_lock.specs.mv_core.declared.view.Note.{Note}
+use Rattle.object_lock.specs.mv_core.declared.view.JoinedSeat.{JoinedSeat}
 use Rattle.object_lock.specs.reader_marks.Sections.{IsEnterStep}
 use Rattle.object_lock.specs.version_chain.Walks.{IsWalkStep}
 
@@ -23,7 +23,7 @@ abbrev pub met_seat : Seat → MetSeat
 met_seat s = record { number = s.number; seen = s.seen; mine = s.mine; rests = s.rests; trail = s.trail }
 
 -- the seat that was joined, by the note that the core keeps of it
-abbrev pub noted_seat : Note → MetSeat
+abbrev pub noted_seat : JoinedSeat → MetSeat
 noted_seat n = record { number = n.number; seen = n.past.seen; mine = n.past.mine; rests = n.past.rests; trail = n.trail }
 
 -- a step of reading a closing: of a walk down a version chain, or a load of the words where it ends

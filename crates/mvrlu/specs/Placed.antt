@@ -5,7 +5,7 @@ use Rattle.mv_history.specs.State.{State, Writes}
 use Rattle.mv_history.specs.Meaning.{Seat, InSection}
 use Rattle.mv_history.specs.declared.Protocol.{Ghosts}
 use Rattle.mv_layout.specs.declared.Config.{Config}
-use Rattle.object_lock.specs.mv_core.declared.view.View.{View}
+use Rattle.object_lock.specs.mv_core.declared.view.Knowledge.{Knowledge}
 use Rattle.object_lock.specs.mv_core.Rings.{own_of}
 use Rattle.object_lock.specs.mv_core.Known.{Known}
 use Rattle.object_lock.specs.mv_core.declared.shared.Shared.{Shared}
@@ -20,7 +20,7 @@ use Rattle.object_lock.specs.version_chain.Walks.{time_at, MayWalk}
 pub record Placed : Type 0 where
   pub config : Config
   pub table : TableId
-  pub view : View
+  pub view : Knowledge
   pub log : Noted
 
 -- of a pass and its log, in the domain whose numbers the pass has

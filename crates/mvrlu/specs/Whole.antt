@@ -8,7 +8,7 @@ use Rattle.mv_history.specs.Legal.{AreWords, IsLegal}
 use Rattle.mv_history.specs.Meaning.{Seat}
 use Rattle.mv_history.specs.declared.history.TheConstants.{LAST}
 use Rattle.mv_layout.specs.declared.Config.{Config}
-use Rattle.object_lock.specs.mv_core.declared.view.View.{View}
+use Rattle.object_lock.specs.mv_core.declared.view.Knowledge.{Knowledge}
 use Rattle.object_lock.specs.mv_core.declared.shared.Shared.{Shared}
 use Rattle.object_lock.specs.mv_core.declared.shared.Pass.{Pass}
 use Rattle.mv_history.specs.declared.Protocol.{Ghosts}
@@ -70,7 +70,7 @@ pub record IsSound (w : Whole) : Type 0 where
 
 -- What the view of a seat in a section means, in a domain of these numbers, where its section reads the state after the whole history, and
 -- these are the tables of the seats that met.
-abbrev pub whole_from : Config → List LogTable → View → Whole
+abbrev pub whole_from : Config → List LogTable → Knowledge → Whole
 whole_from c tables v = record {
   config = c;
   start = v.start;

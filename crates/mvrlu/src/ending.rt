@@ -12,7 +12,7 @@ ghost use Rattle.mvrlu.specs.Meant.{aborts_with, count_after};
 ghost use Rattle.mvrlu.specs.Bounds.{MakesAtMost};
 ghost use Rattle.mvrlu.specs.Holding.{seats_of};
 
-use crate::places::{Busy, Idle, Place};
+use crate::places::{Busy, Idle, SeatState};
 use commit_abort::{Ended, abort, commit};
 use mv_history::{CommitAnswer, Protocol, Tag};
 use object_lock::mv_core::{Shared, Steps};
@@ -47,7 +47,7 @@ pub(crate) fn committed<P: Protocol, L: Ledger>(
 {
     let mut steps = Steps::<L>::open(blank);
     let Busy { mut place } = busy;
-    let Place { pass, log } = &mut *place;
+    let SeatState { pass, log } = &mut *place;
     match commit(shared, pass, log, tag, &mut steps) {
         Ended::Done(time) => CommitAnswer::Done(Idle { place }, time),
         Ended::Again(rival) => CommitAnswer::Again(Busy { place }, rival),
@@ -72,7 +72,7 @@ pub(crate) fn aborted<P: Protocol, L: Ledger>(
 {
     let mut steps = Steps::<L>::open(blank);
     let Busy { mut place } = busy;
-    let Place { pass, log } = &mut *place;
+    let SeatState { pass, log } = &mut *place;
     abort(shared, pass, log, &mut steps);
     Idle { place }
 }

@@ -5,7 +5,7 @@ ghost use Rattle.mvrlu.specs.Placed.{seat_from, Fits};
 ghost use Rattle.mvrlu.specs.Grace.{TellsGrace};
 
 use crate::handle::Handle;
-use crate::places::{Idle, Place};
+use crate::places::{Idle, SeatState};
 use mv_history::Protocol;
 use object_lock::mv_core::{Shared, Steps};
 use object_lock::reader_marks::scan;
@@ -27,7 +27,7 @@ pub(crate) fn scanned<P: Protocol, L: Ledger>(
     ensures grace { TellsGrace P.start P.allowed idle.old idle.new result }
 {
     let mut steps = Steps::<L>::open(blank);
-    let Place { pass, log: _ } = &mut *idle.place;
+    let SeatState { pass, log: _ } = &mut *idle.place;
     scan(shared, pass, &mut steps).time
 }
 

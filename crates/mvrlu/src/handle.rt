@@ -4,7 +4,7 @@ ghost use Rattle.mvrlu.specs.Placed.{Fits};
 use crate::domain::{Domain, Seat};
 use crate::entering::entered;
 use crate::reclaiming::{made_room, tidied};
-use crate::session::{Part, Session};
+use crate::session::{SectionState, Session};
 use log_reclaim::Tidy;
 use mv_history::{LogTable, Protocol, Room, Section, Store};
 use std::marker::Brand;
@@ -81,7 +81,7 @@ impl<'d, P: Protocol> Store for Handle<'d, P> {
         let Handle { domain, seat } = self;
         let Seat { idle } = seat;
         let busy = entered::<P, Brand>(&domain.shared, idle, Blank::new(1));
-        let part = Part { busy };
+        let part = SectionState { busy };
         Session { domain, part }
     }
 }

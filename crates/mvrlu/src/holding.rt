@@ -12,7 +12,7 @@ ghost use Rattle.mvrlu.specs.Causes.{FoundLocked};
 ghost use Rattle.mvrlu.specs.Bounds.{MakesAtMost};
 ghost use Rattle.mvrlu.specs.Holding.{seats_of};
 
-use crate::places::{Busy, Place};
+use crate::places::{Busy, SeatState};
 use mv_history::{LockAnswer, Protocol, Words};
 use object_lock::mv_core::{Shared, Steps};
 use object_lock::seat_log::{Log, Note, held, live, note};
@@ -79,7 +79,7 @@ pub(crate) fn locked<P: Protocol, L: Ledger>(
     ensures bound { MakesAtMost (section_from busy.old).seat (section_from busy.new).seat (most_to_lock given) }
 {
     let mut steps = Steps::<L>::open(blank);
-    let Place { pass, log } = &mut *busy.place;
+    let SeatState { pass, log } = &mut *busy.place;
     lock_new(shared, pass, log, object, given, &mut steps)
 }
 
@@ -103,6 +103,6 @@ pub(crate) fn written<P: Protocol, L: Ledger>(
     ensures bound { MakesAtMost (section_from busy.old).seat (section_from busy.new).seat 6 }
 {
     let mut steps = Steps::<L>::open(blank);
-    let Place { pass, log } = &mut *busy.place;
+    let SeatState { pass, log } = &mut *busy.place;
     write(shared, pass, log, object, words, &mut steps)
 }

@@ -11,7 +11,7 @@ ghost use Rattle.mvrlu.specs.Whole.{IsSound, AreApart, TellsTrails};
 
 use crate::closing::{Closing, Last};
 use crate::domain::{Domain, Seat};
-use crate::places::{Idle, Place};
+use crate::places::{Idle, SeatState};
 use mv_history::{LogTable, Protocol};
 use object_lock::mv_core::{Pass, Shared, Steps};
 use object_lock::reader_marks::enter;
@@ -28,7 +28,7 @@ fn pass_of<P: Protocol>(shared: &Shared<P>, seat: Seat<P>) -> Pass<P>
 {
     let Seat { idle } = seat;
     let Idle { place } = idle;
-    let Place { pass, log: _ } = Box::into_inner(place);
+    let SeatState { pass, log: _ } = Box::into_inner(place);
     pass
 }
 

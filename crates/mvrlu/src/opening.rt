@@ -7,7 +7,7 @@ ghost use Rattle.mvrlu.specs.Opened.{IsNewSeatOf, IsOpened, Refuses};
 ghost use Rattle.mvrlu.specs.Readiness.{IsReady, AreReady, AreSeats};
 
 use crate::domain::{Domain, Seat};
-use crate::places::{Idle, Place};
+use crate::places::{Idle, SeatState};
 use mv_history::{Protocol, Words};
 use mv_layout::{Config, ConfigFault};
 use object_lock::mv_core::{Pass, Shared};
@@ -27,7 +27,7 @@ pub enum OpenFault {
 // A seat's pass and its log, in the block that the seat hands on.
 #[derive(Drop)]
 struct Ready<P: Protocol> {
-    place: Box<Place<P>>,
+    place: Box<SeatState<P>>,
 }
 
 // These passes with a log each, from the last one on.
@@ -44,7 +44,7 @@ fn with_logs<P: Protocol>(
     let mut ready = Vec::new(alloc);
     while let Some(pass) = passes.pop() {
         let log = new_log(alloc, shared.config(), pass.seat())?;
-        let place = Box::new(alloc, Place { pass, log })?;
+        let place = Box::new(alloc, SeatState { pass, log })?;
         ready.push(Ready { place })?;
     }
     Ok(ready)

@@ -1,7 +1,7 @@
 // A section between two calls of a thread that can't keep a loan of its domain, and a seat that is let go.
 use crate::domain::{Domain, Seat};
 use crate::places::Idle;
-use crate::session::{Part, Session};
+use crate::session::{SectionState, Session};
 use mv_history::Protocol;
 
 /// A section without its loan of the domain: a value that borrows nothing, so that it can be kept beside
@@ -9,7 +9,7 @@ use mv_history::Protocol;
 /// mark and its locks, and with them the logs of all seats, so it must be spent: one that is let go
 /// doesn't compile.
 pub struct Parked<P: Protocol> {
-    pub(crate) part: Part<P>,
+    pub(crate) part: SectionState<P>,
 }
 
 impl<'d, P: Protocol> Session<'d, P> {

@@ -8,7 +8,7 @@ ghost use Rattle.mv_history.specs.Calls.{Prepares};
 ghost use Rattle.mvrlu.specs.Placed.{seat_from, IsIdle, Fits};
 ghost use Rattle.mvrlu.specs.Holding.{seats_of, IsEarly, HoldsBack, HoldsSeat, Tidies, TidiesAlone, Rounds, MakesRoom};
 
-use crate::places::{Idle, Place};
+use crate::places::{Idle, SeatState};
 use log_reclaim::{Tidy, round, tidy};
 use mv_history::{Protocol, Room};
 use object_lock::mv_core::{Shared, Steps};
@@ -32,7 +32,7 @@ pub(crate) fn tidied<P: Protocol, L: Ledger>(
     ensures alone { seats_of (seat_from idle.old) ≡ 1 → TidiesAlone (seat_from idle.old) result }
 {
     let mut steps = Steps::<L>::open(blank);
-    let Place { pass, log } = &mut *idle.place;
+    let SeatState { pass, log } = &mut *idle.place;
     tidy(shared, pass, log, &mut steps)
 }
 
@@ -51,7 +51,7 @@ pub(crate) fn rounded<P: Protocol, L: Ledger>(
     ensures rounds { Rounds idle.old idle.new result }
 {
     let mut steps = Steps::<L>::open(blank);
-    let Place { pass, log } = &mut *idle.place;
+    let SeatState { pass, log } = &mut *idle.place;
     round(shared, pass, log, true, &mut steps)
 }
 

@@ -14,7 +14,7 @@ use std::marker::Brand;
 use std::sync::ledger::Blank;
 
 // A section's pass and log, which mean a lawful section.
-pub(crate) struct Part<P: Protocol> {
+pub(crate) struct SectionState<P: Protocol> {
     pub(crate) busy: Busy<P>,
     pub ghost lawful: { IsSection P.start P.allowed (section_from busy) } by { IsSection-prop P.start P.allowed P.one_start P.one_allowed (section_from busy) },
 }
@@ -24,7 +24,7 @@ pub(crate) struct Part<P: Protocol> {
 /// doesn't compile.
 pub struct Session<'d, P: Protocol> {
     pub(crate) domain: &'d Domain<P>,
-    pub(crate) part: Part<P>,
+    pub(crate) part: SectionState<P>,
     pub ghost fits: { Fits domain.now.shared part.busy },
 }
 
@@ -244,18 +244,18 @@ impl<'d, P: Protocol> Section for Session<'d, P> {
         ensures bound { MakesAtMost (section_of self.entry).seat (seat_after handled section_of result) (8 + length (section_of self.entry).own) }
     {
         let Session { domain, part } = self;
-        let Part { busy } = part;
+        let SectionState { busy } = part;
         match committed::<P, Brand>(&domain.shared, busy, tag, Blank::new(1)) {
             CommitAnswer::Done(idle, time) => {
                 let seat = Seat { idle };
                 CommitAnswer::Done(Handle { domain, seat }, time)
             },
             CommitAnswer::Again(busy, rival) => {
-                let part = Part { busy };
+                let part = SectionState { busy };
                 CommitAnswer::Again(Session { domain, part }, rival)
             }
             CommitAnswer::End(busy) => {
-                let part = Part { busy };
+                let part = SectionState { busy };
                 CommitAnswer::End(Session { domain, part })
             }
         }
@@ -267,7 +267,7 @@ impl<'d, P: Protocol> Section for Session<'d, P> {
         ensures bound { MakesAtMost (section_of self.entry).seat (handled result) (length (section_of self.entry).own + 2) }
     {
         let Session { domain, part } = self;
-        let Part { busy } = part;
+        let SectionState { busy } = part;
         let idle = aborted::<P, Brand>(&domain.shared, busy, Blank::new(1));
         let seat = Seat { idle };
         Handle { domain, seat }
@@ -281,7 +281,7 @@ impl<'d, P: Protocol> Section for Session<'d, P> {
         ensures bound { MakesAtMost (section_of self.entry).seat (handled result) 1 }
     {
         let Session { domain, part } = self;
-        let Part { busy } = part;
+        let SectionState { busy } = part;
         let idle = left::<P, Brand>(&domain.shared, busy, Blank::new(1));
         let seat = Seat { idle };
         Handle { domain, seat }

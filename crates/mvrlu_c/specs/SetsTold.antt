@@ -1,7 +1,7 @@
 -- What a call on the sets leaves, by the number that it answers.
 use Rattle.std.specs.Prelude.{ℕ, ℤ}
 use Rattle.set_script.specs.declared.commands.Command.{Command}
-use Rattle.set_catalog.specs.declared.answer.Attempt.{Attempt}
+use Rattle.set_catalog.specs.declared.answer.CommandAttempt.{CommandAttempt}
 use Rattle.set_seats.specs.Calls.{Attempted, Replied, GoesOn}
 use Rattle.set_seats.specs.declared.seat.SetSeat.{SetSeat}
 use Rattle.mvrlu.specs.Meant.{seat_of}
@@ -16,7 +16,7 @@ use Rattle.mvrlu_c.specs.SetsOpening.{opened, seat_in}
 use Rattle.c_answers.specs.Statuses.{code_of}
 
 -- the command was attempted on the seat: what it leaves, that its reply is the catalogue's, and that it tried one commit at most
-abbrev pub Answers : Command → SetSeat → SetSeat → Attempt → Type 0
+abbrev pub Answers : Command → SetSeat → SetSeat → CommandAttempt → Type 0
 Answers command old new answer =
     Attempted (seat_of old.seat) (seat_of new.seat) command answer × Replied (seat_of new.seat) command answer × GoesOn old.seat new.seat
     × TriesOne (seat_of old.seat) (seat_of new.seat)

@@ -8,7 +8,7 @@ use crossbeam_utils::CachePadded;
 use std::alloc::Global;
 
 /// A seat in memory that C owns. Zeroed memory is a closed one.
-pub(crate) trait Handle: Sized + Drop {
+pub(crate) trait CHandle: Sized + Drop {
     ghost use Rattle.std.specs.Prelude.{Bool};
     ghost use Rattle.crossbeam_utils.specs.declared.cache_padded.CachePadded.{CachePadded as Padded};
     ghost use denote.RawPtr.{Ptr};
@@ -39,7 +39,7 @@ pub(crate) trait Handle: Sized + Drop {
 /// Makes a call on the seat of an open handle, in its place. None where the handle is closed; then nothing
 /// is done.
 #[inline(always)]
-pub(crate) fn on_open<H: Handle, X: Drop, R, F: FnOnce(H::Seat, X) -> (H::Seat, R) + Drop>(
+pub(crate) fn on_open<H: CHandle, X: Drop, R, F: FnOnce(H::Seat, X) -> (H::Seat, R) + Drop>(
     alloc: Global,
     handle: &mut H,
     argument: X,
@@ -72,7 +72,7 @@ pub(crate) fn on_open<H: Handle, X: Drop, R, F: FnOnce(H::Seat, X) -> (H::Seat, 
 }
 
 /// Closes an open handle, by a call that spends its seat. None where the handle is closed; then nothing is done.
-pub(crate) fn close_by<H: Handle, R, F: FnOnce(H::Seat) -> R + Drop>(
+pub(crate) fn close_by<H: CHandle, R, F: FnOnce(H::Seat) -> R + Drop>(
     alloc: Global,
     handle: &mut H,
     close: F,

@@ -4,7 +4,7 @@ ghost use Rattle.crossbeam_utils.specs.declared.cache_padded.CachePadded.{CacheP
 ghost use Rattle.object_seats.specs.declared.seat.ObjectSeat.{ObjectSeat};
 ghost use Rattle.mvrlu_c.specs.Held.{object_row};
 
-use crate::handle::Handle;
+use crate::handle::CHandle;
 use crate::loose::Loose;
 use crossbeam_utils::CachePadded;
 use object_seats::ObjectSeat;
@@ -26,7 +26,7 @@ impl Model for MvrluSeat {
     ghost also_owns = { λ h. held_if token object_row h.is_open h.at h.state };
 }
 
-impl Handle for MvrluSeat {
+impl CHandle for MvrluSeat {
     type Seat = ObjectSeat;
 
     ghost is_open = { λ h. h.is_open };

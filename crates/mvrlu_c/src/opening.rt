@@ -3,7 +3,7 @@ ghost use Rattle.std.specs.Prelude.{◌≡◌, length, map, true, false, All, If
 ghost use Rattle.crossbeam_utils.specs.Padded.{padded_value};
 ghost use Rattle.mvrlu_c.specs.Held.{boxed};
 
-use crate::handle::Handle;
+use crate::handle::CHandle;
 use crate::loose::Loose;
 use core::mem::replace_with;
 use crossbeam_utils::CachePadded;
@@ -13,7 +13,7 @@ use std::alloc::{AllocError, Global};
 pub(crate) const MOST_SEATS: usize = 64;
 
 // Whether the handle is open. It stays as it is.
-fn is_open<H: Handle>(alloc: Global, handle: &mut H) -> bool
+fn is_open<H: CHandle>(alloc: Global, handle: &mut H) -> bool
     ensures { (result ≡ H.is_open handle.old) × (handle.new ≡ handle.old) }
 {
     replace_with(
@@ -29,7 +29,7 @@ fn is_open<H: Handle>(alloc: Global, handle: &mut H) -> bool
 }
 
 /// Whether one of the handles is open. They stay as they are.
-pub(crate) fn any_is_open<H: Handle>(alloc: Global, handles: &mut [H]) -> bool
+pub(crate) fn any_is_open<H: CHandle>(alloc: Global, handles: &mut [H]) -> bool
     ensures none { result ≡ false → All (λ h. H.is_open h ≡ false) handles.old }
     ensures some { result ≡ true → ¬ All (λ h. H.is_open h ≡ false) handles.old }
     ensures as_before { handles.new ≡ handles.old }
@@ -55,7 +55,7 @@ fn in_blocks<S: Drop>(
 }
 
 // Gives each handle a block, in their order. There are as many.
-fn hand_out<H: Handle>(handles: &mut [H], mut blocks: Vec<Box<CachePadded<H::Seat>>>)
+fn hand_out<H: CHandle>(handles: &mut [H], mut blocks: Vec<Box<CachePadded<H::Seat>>>)
     requires many { length handles.old ≡ length blocks.items }
     ensures open { All (λ h. H.is_open h ≡ true) handles.new }
     ensures seats { map (λ h. padded_value (H.state h)) handles.new ≡ map boxed blocks.items }
@@ -70,7 +70,7 @@ fn hand_out<H: Handle>(handles: &mut [H], mut blocks: Vec<Box<CachePadded<H::Sea
 }
 
 /// Gives each handle a seat, in their order. There are as many.
-pub(crate) fn give_seats<H: Handle>(
+pub(crate) fn give_seats<H: CHandle>(
     alloc: Global,
     handles: &mut [H],
     seats: Vec<H::Seat>,

@@ -4,7 +4,7 @@ ghost use Rattle.crossbeam_utils.specs.declared.cache_padded.CachePadded.{CacheP
 ghost use Rattle.set_seats.specs.declared.seat.SetSeat.{SetSeat};
 ghost use Rattle.mvrlu_c.specs.Held.{sets_row};
 
-use crate::handle::Handle;
+use crate::handle::CHandle;
 use crate::loose::Loose;
 use crossbeam_utils::CachePadded;
 use set_seats::SetSeat;
@@ -26,7 +26,7 @@ impl Model for MvrluSets {
     ghost also_owns = { λ h. held_if token sets_row h.is_open h.at h.state };
 }
 
-impl Handle for MvrluSets {
+impl CHandle for MvrluSets {
     type Seat = SetSeat;
 
     ghost is_open = { λ h. h.is_open };

@@ -7,7 +7,7 @@ use crate::handle::on_open;
 use crate::sets_handle::MvrluSets;
 use c_answers::Status;
 use set_script::Name;
-use set_seats::{Entry, SetSeat, Walked};
+use set_seats::{KeyValue, SetSeat, Walked};
 use std::alloc::{AllocError, Global};
 
 /// What a walk over a set came to.
@@ -48,7 +48,7 @@ fn told(walked: Walked) -> MvrluWalk
 }
 
 // Memory of its own for entries, which holds the same.
-fn copy_of(alloc: Global, entries: &[Entry]) -> Result<Vec<Entry>, AllocError>
+fn copy_of(alloc: Global, entries: &[KeyValue]) -> Result<Vec<KeyValue>, AllocError>
     ensures { IfOk result (λ room. room.items ≡ entries.now) }
 {
     let mut room = Vec::with_capacity(alloc, entries.len())?;
@@ -65,7 +65,7 @@ pub extern "C" fn mvrlu_raw_sets_walk(
     sets: &mut MvrluSets,
     set: u32,
     from: u32,
-    entries: &mut [Entry],
+    entries: &mut [KeyValue],
     walk: &mut MvrluWalk,
 ) -> i32
     ensures bad { 30 ≤ set → IsNoWalk BadSet sets.old sets.new (entries.old, walk.old) (entries.new, walk.new) result }
@@ -81,7 +81,7 @@ pub extern "C" fn mvrlu_raw_sets_walk(
         alloc,
         sets,
         (name, from, room),
-        |seat: SetSeat, given: (Name, u32, Vec<Entry>)|
+        |seat: SetSeat, given: (Name, u32, Vec<KeyValue>)|
             ensures { Walks given.0 given.1 given.2.items result.1.1.items seat result.0 result.1.0 }
         {
             let (name, from, mut room) = given;

@@ -4,7 +4,7 @@ ghost use Rattle.crossbeam_utils.specs.declared.cache_padded.CachePadded.{CacheP
 ghost use Rattle.grow_seats.specs.declared.seat.GrowSeat.{GrowSeat};
 ghost use Rattle.mvrlu_c.specs.Held.{table_row};
 
-use crate::handle::Handle;
+use crate::handle::CHandle;
 use crate::loose::Loose;
 use crossbeam_utils::CachePadded;
 use grow_seats::GrowSeat;
@@ -26,7 +26,7 @@ impl Model for MvrluTable {
     ghost also_owns = { λ h. held_if token table_row h.is_open h.at h.state };
 }
 
-impl Handle for MvrluTable {
+impl CHandle for MvrluTable {
     type Seat = GrowSeat;
 
     ghost is_open = { λ h. h.is_open };

@@ -2,8 +2,8 @@
 use Rattle.std.proofs.Common.{inl, inr, ◌≡◌, ℕ, List, [], ◌∷◌, Option, Result, Ok, Err, refl, sym, ap, ◌∙◌, arith, subst}
 use Rattle.run_outside.specs.Outside.{Texts, Rose}
 use Rattle.run_words.specs.declared.request.Limit.{Limit as LimitOf}
-use Rattle.run_words.specs.declared.request.Refusal.{Refusal}
-use Rattle.run_words.specs.declared.request.Refusal.TheVariants.{Form, Beyond}
+use Rattle.run_words.specs.declared.request.BadWords.{BadWords}
+use Rattle.run_words.specs.declared.request.BadWords.TheVariants.{Form, Beyond}
 use Rattle.run_words.specs.Words.{Asks, run, gen, work, block, pool, grow, replay, asked}
 use Rattle.set_script.proofs.Times.{lawful_after}
 use Rattle.run_ends.proofs.set_blocks_lemmas.Remaining.{lawful_after as lawful_blocks}
@@ -11,7 +11,7 @@ use Rattle.run_ends.specs.script_files.declared.stop.Stop.{Stop}
 use Rattle.run_ends.specs.script_files.Reading.{AreTold}
 use Rattle.run_ends.specs.script_files.Scripts.{AllScripts, AnyStop, IsLong, IsRefused, KindOf, ScriptOf, StopsAt, grammar_of}
 use Rattle.run_ends.proofs.script_files_lemmas.Refused.{Spoils, ok_is_no_err, fault_spoils, length_spoils}
-use Rattle.run_ends.specs.declared.finish.Closed.{Closed}
+use Rattle.run_ends.specs.declared.finish.LeftDomain.{LeftDomain}
 use Rattle.run_ends.specs.declared.finish.Finish.{Finish}
 use Rattle.run_ends.specs.declared.finish.Finish.TheVariants.{Done, Usage, Limit, Stopped, Write}
 use Rattle.run_ends.specs.declared.finish.Ran.{Ran}
@@ -35,7 +35,7 @@ pub err_inj : {A E : Type 0} (a b : E) → ◌≡◌ {A = Result A E} (Err a) (E
 unfolding fault_of
 err_inj a b p = ap (fault_of a) p
 
-IsForm : Refusal → Type 0
+IsForm : BadWords → Type 0
 IsForm Form = Unit {0}
 IsForm (Beyond limit) = ⊥
 
@@ -49,14 +49,14 @@ ok_inj a b p = ap (value a) p
 
 -- the words ask for one thing alone
 same_asks : (words : List (List ℕ)) (a b : Asks) → asked words ≡ Ok a → asked words ≡ Ok b → a ≡ b
-same_asks words a b p q = ok_inj {E = Refusal} a b (sym p ∙ q)
+same_asks words a b p q = ok_inj {E = BadWords} a b (sym p ∙ q)
 
 -- words that are refused ask for nothing
-not_both : (words : List (List ℕ)) (a : Asks) (r : Refusal) → asked words ≡ Ok a → asked words ≡ Err r → ⊥
+not_both : (words : List (List ℕ)) (a : Asks) (r : BadWords) → asked words ≡ Ok a → asked words ≡ Err r → ⊥
 not_both words a r p q = ok_is_no_err a r (sym p ∙ q)
 
 -- the domain that is left of a run reads a lawful state
-text_reads : (asks : Asks) (texts : Option Texts) (closed : Closed) (text : List ℕ) → IsTextFor asks texts closed text → ReadsSets closed
+text_reads : (asks : Asks) (texts : Option Texts) (closed : LeftDomain) (text : List ℕ) → IsTextFor asks texts closed text → ReadsSets closed
 text_reads (run options names) texts closed text h =
     let run = h.2.printed.left.run.run in
     subst ReadsSets (sym h.1) (lawful_after h.0.last.start h.0.last.history run.opening run.allowed)
@@ -74,7 +74,7 @@ text_reads (work number) texts closed text h =
     subst ReadsSets (sym h.1) (lawful_after h.0.last.start h.0.last.history run.opening run.allowed)
 
 -- where there is the text, each file has a script
-all_read : (asks : Asks) (texts : Option Texts) (closed : Closed) (text : List ℕ) → IsTextFor asks texts closed text
+all_read : (asks : Asks) (texts : Option Texts) (closed : LeftDomain) (text : List ℕ) → IsTextFor asks texts closed text
     → (scripts : List (ScriptOf (reading_of asks))) × AllScripts (grammar_of (reading_of asks)) texts (files_of asks) scripts
 all_read (run options names) texts closed text h = (h.2.read, h.2.files)
 all_read (block names) texts closed text h = (h.2.read, h.2.files)
@@ -130,7 +130,7 @@ module _ (words : List (List ℕ)) (old new : Outside) where
       (fault : (text : List ℕ) (line : ℕ) (kind : KindOf (reading_of asks)) → IsRefused (grammar_of (reading_of asks)) line kind text → P text
       → kind_status (reading_of asks) kind ≡ status) (long : (text : List ℕ) → IsLong text → P text → 4 ≡ status) where
     -- there is no text
-    no_text : (closed : Closed) (text : List ℕ) → IsTextFor asks old.texts closed text → ⊥
+    no_text : (closed : LeftDomain) (text : List ℕ) → IsTextFor asks old.texts closed text → ⊥
     no_text closed text h =
         let all = all_read asks old.texts closed text h in
         nowhere old.texts old.steady old.file_faults new.file_faults (files_of asks) is files (grammar_of (reading_of asks)) all.0 place P all.1 at spoils

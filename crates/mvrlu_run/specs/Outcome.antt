@@ -4,13 +4,13 @@ use Rattle.std.specs.Io.KnownBytes.{Appends}
 use Rattle.grow_hash.specs.Grown.{IsGrown}
 use Rattle.run_outside.specs.Outside.{Faults, Texts, Rose}
 use Rattle.run_words.specs.declared.request.Limit.{Limit as LimitOf}
-use Rattle.run_words.specs.declared.request.Refusal.TheVariants.{Form, Beyond}
+use Rattle.run_words.specs.declared.request.BadWords.TheVariants.{Form, Beyond}
 use Rattle.run_words.specs.Words.{Asks, asked}
 use Rattle.set_script.specs.Lawful.{IsLawful}
 use Rattle.run_ends.specs.mvrlu.Meant.{whole_of}
 use Rattle.run_ends.specs.mvrlu.Whole.{last_state}
-use Rattle.run_ends.specs.declared.finish.Closed.{Closed}
-use Rattle.run_ends.specs.declared.finish.Closed.TheVariants.{No, Sets, Blocks, Grown}
+use Rattle.run_ends.specs.declared.finish.LeftDomain.{LeftDomain}
+use Rattle.run_ends.specs.declared.finish.LeftDomain.TheVariants.{No, Sets, Blocks, Grown}
 use Rattle.run_ends.specs.declared.finish.Finish.{Finish}
 use Rattle.run_ends.specs.declared.finish.Finish.TheVariants.{Done, Usage, Limit, Stopped, Write}
 use Rattle.run_ends.specs.declared.finish.Ran.{Ran}
@@ -38,14 +38,14 @@ outside texts steady file_faults files written out_faults out =
 
 -- What a call with status 0 prints: the text that is asked for. Where that is of a run over a domain, each line stands in the one history of
 -- the domain that is left.
-abbrev pub IsPrinted : Asks → Outside → Outside → Closed → Type 0
+abbrev pub IsPrinted : Asks → Outside → Outside → LeftDomain → Type 0
 IsPrinted asks old new closed = (text : List ℕ) × IsTextFor asks old.texts closed text × Appends old.out new.out text
 
 -- the cause of each way to end, where this is asked for
 abbrev pub AskedCause : Finish → Asks → Outside → Outside → Type 0
 AskedCause (Done closed) asks old new = IsPrinted asks old new closed
 AskedCause Write asks old new =
-    Rose old.out_faults new.out_faults × (closed : Closed) × (text : List ℕ) × IsTextFor asks old.texts closed text
+    Rose old.out_faults new.out_faults × (closed : LeftDomain) × (text : List ℕ) × IsTextFor asks old.texts closed text
     × Sent old.out new.out old.out_faults new.out_faults text
 AskedCause (Stopped stop) asks old new =
     (new.out ≡ old.out) × AnyStop stop (reading_of asks) old.texts (files_of asks) old.file_faults new.file_faults
@@ -81,7 +81,7 @@ pub record IsReadFault (words : List (List ℕ)) (old new : Outside) (err err_ne
   pub line : Sent err err_new err_faults err_faults_new (stop_line (Read script))
 
 -- what is left of a domain reads a lawful state, so the sets can be read from it
-abbrev pub ReadsSets : Closed → Type 0
+abbrev pub ReadsSets : LeftDomain → Type 0
 ReadsSets No = ⊤
 ReadsSets (Sets closing) = IsLawful (last_state (whole_of closing))
 ReadsSets (Blocks closing) = IsLawful (last_state (whole_of closing))

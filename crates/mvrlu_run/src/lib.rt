@@ -37,4 +37,4 @@ mod program;
 mod texts;
 
 pub use program::run_program;
-pub use run_ends::{Closed, Ran};
+pub use run_ends::{LeftDomain, Ran};

@@ -1,14 +1,14 @@
 // The top call.
 ghost use Rattle.std.specs.Prelude.{◌≡◌, ◌≢◌, ◌↔◌, map, string_bytes, Err, Ok};
 ghost use Rattle.run_outside.specs.Outside.{Rose};
-ghost use Rattle.run_words.specs.declared.request.Refusal.TheVariants.{Form};
+ghost use Rattle.run_words.specs.declared.request.BadWords.TheVariants.{Form};
 ghost use Rattle.run_words.specs.Words.{Asks, asked};
 ghost use Rattle.mvrlu_run.specs.Outcome.{outside, Cause, IsComplete, IsPrinted, IsReadFault, NeverRead, Outcome, ReadsSets};
 
 use crate::texts::{Made, make_text};
-use run_ends::{Closed, Finish, Ran, into_closed, report, send, status};
+use run_ends::{Finish, LeftDomain, Ran, into_closed, report, send, status};
 use run_outside::{Files, Gate, Sink};
-use run_words::{Refusal, read_words};
+use run_words::{BadWords, read_words};
 use std::alloc::Global;
 use std::sync::Wait;
 use std::thread::Threads;
@@ -66,7 +66,7 @@ pub fn run_program<R: Threads + Wait + Sync, F: Files, O: Sink, E: Sink, G: Gate
     ensures write { result.status ≡ 6 → Rose (O.faults out.old) (O.faults out.new) }
     ensures untouched { result.status ≢ 0 → result.status ≢ 6 → O.written out.new ≡ O.written out.old }
     ensures lawful { ReadsSets result.closed }
-    ensures none_closed { result.status ≢ 0 → result.closed ≡ Closed.No }
+    ensures none_closed { result.status ≢ 0 → result.closed ≡ LeftDomain.No }
 
     // Where the texts are told and nothing failed, the words and the scripts alone decide, but for want of memory.
     ensures complete { let old = outside F.texts F.steady F.faults files.old O.written O.faults out.old in
@@ -98,8 +98,8 @@ fn carry_out<R: Threads + Wait + Sync, F: Files, O: Sink, G: Gate>(
 {
     let request = match read_words(words) {
         Ok(request) => request,
-        Err(Refusal::Form) => return Finish::Usage,
-        Err(Refusal::Beyond(limit)) => return Finish::Limit(limit),
+        Err(BadWords::Form) => return Finish::Usage,
+        Err(BadWords::Beyond(limit)) => return Finish::Limit(limit),
     };
     let Made { text, closed } = match make_text(rt, alloc, request, files, gate) {
         Ok(made) => made,

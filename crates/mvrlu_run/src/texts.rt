@@ -8,7 +8,7 @@ use block_run::make_blocks;
 use grow_run::make_grown;
 use pool_run::make_pool;
 use replay_run::make_replay;
-use run_ends::Closed;
+use run_ends::LeftDomain;
 use run_ends::script_files::Stop;
 use run_outside::{Files, Gate};
 use run_words::Request;
@@ -22,7 +22,7 @@ use std::thread::Threads;
 #[derive(Drop)]
 pub struct Made {
     pub text: Vec<u8>,
-    pub closed: Closed,
+    pub closed: LeftDomain,
 }
 
 /// Makes the text that is asked for, whole. An error is why there is none: a file has no script, or there is no memory.
@@ -45,16 +45,16 @@ pub fn make_text<R: Threads + Wait + Sync, F: Files, G: Gate>(
             files: names,
         } => {
             let (text, closing) = make_run(rt, alloc, options, names, files, gate)?;
-            let closed = Closed::Sets(closing);
+            let closed = LeftDomain::Sets(closing);
             Ok(Made { text, closed })
         }
         Request::Gen { number, seat } => Ok(Made {
             text: text(alloc, number, seat)?,
-            closed: Closed::No,
+            closed: LeftDomain::No,
         }),
         Request::Block { files: names } => {
             let (text, closing) = make_blocks(rt, alloc, names, files, gate)?;
-            let closed = Closed::Blocks(closing);
+            let closed = LeftDomain::Blocks(closing);
             Ok(Made { text, closed })
         }
         Request::Pool {
@@ -62,21 +62,21 @@ pub fn make_text<R: Threads + Wait + Sync, F: Files, G: Gate>(
             files: names,
         } => {
             let (text, closing) = make_pool(rt, alloc, seats, names, files, gate)?;
-            let closed = Closed::Sets(closing);
+            let closed = LeftDomain::Sets(closing);
             Ok(Made { text, closed })
         }
         Request::Grow { files: names } => {
             let (text, closing) = make_grown(rt, alloc, names, files, gate)?;
-            let closed = Closed::Grown(closing);
+            let closed = LeftDomain::Grown(closing);
             Ok(Made { text, closed })
         }
         Request::Replay { files: names } => Ok(Made {
             text: make_replay(alloc, names, files)?,
-            closed: Closed::No,
+            closed: LeftDomain::No,
         }),
         Request::Work { number } => {
             let (text, closing) = work_text(rt, alloc, number, gate)?;
-            let closed = Closed::Sets(closing);
+            let closed = LeftDomain::Sets(closing);
             Ok(Made { text, closed })
         }
     }

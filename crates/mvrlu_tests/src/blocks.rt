@@ -1,7 +1,7 @@
 // Scripts of blocks: the text that they give, and what is no script of blocks.
 use crate::comparing::must;
 use crate::row::{PLAIN, REFUSED, Row, expect_print, run_refused, run_row, run_rows};
-use mvrlu_run::Closed;
+use mvrlu_run::LeftDomain;
 use std::test::Fail;
 
 // A run of a script of blocks.
@@ -167,7 +167,7 @@ fn two_seats_leave_the_domain_of_their_blocks(rt: HostRuntime) -> Result<(), Fai
     )?;
     must(
         &rt,
-        matches!(&closed, Closed::Blocks(_)),
+        matches!(&closed, LeftDomain::Blocks(_)),
         "a domain of blocks",
     );
     Ok(())

@@ -1,7 +1,7 @@
 // Scripts on a growing set: the text that they give, and what is no such script.
 use crate::comparing::must;
 use crate::row::{PLAIN, Row, expect_print, run_refused, run_rows};
-use mvrlu_run::Closed;
+use mvrlu_run::LeftDomain;
 use std::test::Fail;
 
 // A run on a growing set of one file.
@@ -89,7 +89,7 @@ fn two_seats_leave_the_domain_of_their_growing_set(rt: HostRuntime) -> Result<()
     )?;
     must(
         &rt,
-        matches!(&closed, Closed::Grown(_)),
+        matches!(&closed, LeftDomain::Grown(_)),
         "a domain of a growing set",
     );
     Ok(())

@@ -3,7 +3,7 @@ use crate::comparing::{assert_same, must};
 use crate::limits::USAGE;
 use crate::row::{PLAIN, REFUSED, Row, print_texts, run_refused, run_row};
 use crate::texts::{count_ends, count_starts, number_in, sum_after};
-use mvrlu_run::Closed;
+use mvrlu_run::LeftDomain;
 use run_outside::{Gate, OpenGate};
 use std::alloc::Global;
 use std::fmt::Write;
@@ -86,7 +86,7 @@ fn three_seats_do_300_commands_once(rt: HostRuntime) -> Result<(), Fail> {
     assert_same(&rt, &printed.status, &0, "the status");
     must(
         &rt,
-        matches!(&printed.closed, Closed::Sets(_)),
+        matches!(&printed.closed, LeftDomain::Sets(_)),
         "a domain of sets",
     );
     expect_300(&rt, printed.out.bytes(), &set);

@@ -4,7 +4,7 @@ use crate::limits::{USAGE, line_ends};
 use crate::row::{
     PLAIN, Printed, REFUSED, Row, named, owned, print, run_refused, run_rows, run_text,
 };
-use mvrlu_run::Closed;
+use mvrlu_run::LeftDomain;
 use run_outside::OpenGate;
 use std::alloc::{AllocError, Global};
 use std::process::Abort;
@@ -311,7 +311,7 @@ fn as_many_steps_as_may_be_are_replayed_on_no_domain(rt: HostRuntime) -> Result<
         err,
     } = print(&rt, alloc, &words, texts, &OpenGate)?;
     assert_same(&rt, &(status, err.bytes()), &(0, b"".as_slice()), "the end");
-    must(&rt, matches!(&closed, Closed::No), "no domain");
+    must(&rt, matches!(&closed, LeftDomain::No), "no domain");
     expect_idle(&rt, out.bytes());
     Ok(())
 }

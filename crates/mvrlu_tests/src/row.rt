@@ -4,7 +4,7 @@ ghost use Rattle.mvrlu_run.specs.Outcome.{ReadsSets};
 
 use crate::comparing::{assert_same, must};
 use memory_outside::{MemFiles, MemSink, MemText};
-use mvrlu_run::{Closed, Ran, run_program};
+use mvrlu_run::{LeftDomain, Ran, run_program};
 use run_outside::{Gate, OpenGate};
 use std::alloc::{AllocError, Global};
 use std::process::Abort;
@@ -177,7 +177,7 @@ pub fn named(alloc: Global, name: &str, bytes: &[u8]) -> Result<MemText, AllocEr
 #[derive(Drop)]
 pub struct Printed {
     pub status: u8,
-    pub closed: Closed,
+    pub closed: LeftDomain,
     pub out: MemSink,
     pub err: MemSink,
 }
@@ -249,7 +249,7 @@ pub fn expect_print<R: Abort + Threads + Wait + Sync>(
     status: u8,
     out: &[u8],
     err: &[u8],
-) -> Result<Closed, AllocError> {
+) -> Result<LeftDomain, AllocError> {
     let printed = print_texts(rt, alloc, words, texts, &OpenGate)?;
     let found = (printed.status, printed.out.bytes(), printed.err.bytes());
     assert_eq!(rt; found, (status, out, err), "of {words:?}");

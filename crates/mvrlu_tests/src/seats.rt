@@ -4,7 +4,7 @@ use crate::row::{PLAIN, Printed, named, owned, print, print_texts, print_well};
 use crate::texts::{count_ends, sum_after, time_of};
 use memory_outside::MemText;
 use mv_history::View;
-use mvrlu_run::Closed;
+use mvrlu_run::LeftDomain;
 use run_outside::OpenGate;
 use set_catalog::read_all;
 use set_script::Catalogue;
@@ -164,7 +164,7 @@ fn sixty_four_files_run_at_once(rt: HostRuntime) -> Result<(), Fail> {
 fn a_generated_script_has_its_lines(rt: HostRuntime) -> Result<(), Fail> {
     let printed = print_texts(&rt, rt.alloc(), &["gen", "1", "0"], &[], &OpenGate)?;
     assert_same(&rt, &printed.status, &0, "the status");
-    must(&rt, matches!(printed.closed, Closed::No), "no domain");
+    must(&rt, matches!(printed.closed, LeftDomain::No), "no domain");
     expect_generated(&rt, printed.out.bytes());
     Ok(())
 }
@@ -190,7 +190,7 @@ fn the_closing_is_that_of_the_run(rt: HostRuntime) -> Result<(), Fail> {
         err: _,
     } = print(&rt, alloc, &words, texts, &OpenGate)?;
     assert_same(&rt, &status, &0, "the status");
-    let Closed::Sets(mut closing) = closed else {
+    let LeftDomain::Sets(mut closing) = closed else {
         return Err(Fail::new("the domain was run"));
     };
     assert_same(&rt, &closing.time(), &1, "the last time");
@@ -213,7 +213,7 @@ fn expect_none_closed<R: Abort + Threads + Wait + Sync>(rt: &R, alloc: Global) -
     assert_same(rt, &none.status, &2, "the status of no words");
     must(
         rt,
-        matches!(none.closed, Closed::No),
+        matches!(none.closed, LeftDomain::No),
         "no domain of no words",
     );
     Ok(())

@@ -3,9 +3,9 @@ use Rattle.std.proofs.Common.{◌≡◌, ℕ, ◌+◌, ◌<◌, ◌≤◌, ◌==
 use Rattle.std.proofs.Common.{ap, ◌∙◌, subst, ⊎_elim, inl, inr, arith, Option, Some, None}
 use Rattle.mv_history.specs.declared.answers.LockAnswer.{LockAnswer}
 use Rattle.mv_layout.specs.declared.Config.{Config}
-use Rattle.seat_log.specs.mv_core.declared.view.View.{View}
+use Rattle.seat_log.specs.mv_core.declared.view.Knowledge.{Knowledge}
 use Rattle.seat_log.specs.mv_core.declared.view.Passed.TheVariants.{Nothing}
-use Rattle.seat_log.specs.mv_core.declared.view.Walk.TheVariants as place
+use Rattle.seat_log.specs.mv_core.declared.view.WalkStage.TheVariants as place
 use Rattle.seat_log.specs.mv_core.Times.{words_of}
 use Rattle.seat_log.specs.mv_core.Views.{time_in}
 use Rattle.seat_log.specs.mv_core.LockSteps.{StandsToLock, lock_lost}
@@ -21,22 +21,22 @@ use Rattle.object_lock.proofs.BuildTrails.{BuildsBy, builds_slot}
 use Rattle.object_lock.proofs.Holding.{Carries, own_kept, outcome_before, lost_tries, lost_carries, built_may, built_carries, built_tries, built_walk}
 
 -- the words that a section reads stay with its section and what was seen
-pub words_stay : (c : Config) (v w : View) (object : ℕ) → w.start ≡ v.start → w.past.seen ≡ v.past.seen → w.phase ≡ v.phase
+pub words_stay : (c : Config) (v w : Knowledge) (object : ℕ) → w.start ≡ v.start → w.past.seen ≡ v.past.seen → w.phase ≡ v.phase
     → words_in c w object ≡ words_in c v object
 words_stay c v w object start seen phase = λ i. words_of c (start i) (seen i) (time_in (inside_of (phase i))) object
 
 -- where a lock may be put
-pub lock_carried : (v w : View) (object previous : ℕ) → w.walk ≡ v.walk → w.phase ≡ v.phase → StandsToLock v (section_in v) object previous
+pub lock_carried : (v w : Knowledge) (object previous : ℕ) → w.walk ≡ v.walk → w.phase ≡ v.phase → StandsToLock v (section_in v) object previous
     → StandsToLock w (section_in w) object previous
 lock_carried v w object previous walk phase =
     let same : time_at w ≡ time_at v = ap (λ p. time_in (inside_of p)) phase in
     ⊎_elim (λ a. inl (walk ∙ a.0, a.1)) (λ a. inr (a.0, a.1, walk ∙ a.2, a.3, a.4, a.5, (let le = a.6 in omega arith)))
 
-module _ (c : Config) (v w : View) (l m : Noted) (object previous position : ℕ) (words : List ℕ) (may : MayWalk v) (s : Stands c v l) (t : Stands c w m)
+module _ (c : Config) (v w : Knowledge) (l m : Noted) (object previous position : ℕ) (words : List ℕ) (may : MayWalk v) (s : Stands c v l) (t : Stands c w m)
     (noted : m ≡ built_noted l (next_note l object previous words))
     (built : w ≡ slot_built c v (next_of l) (first_of l) previous words) (at : position ≡ next_of l) where
   stores : BuildsBy v w (build_cost (next_of l) (first_of l))
-  stores = subst (λ (u : View). BuildsBy v u (build_cost (next_of l) (first_of l))) (sym built) (builds_slot c (next_of l) v (first_of l) previous words)
+  stores = subst (λ (u : Knowledge). BuildsBy v u (build_cost (next_of l) (first_of l))) (sym built) (builds_slot c (next_of l) v (first_of l) previous words)
 
   pub first_may : MayWalk w
   first_may = built_may c v w (build_cost (next_of l) (first_of l)) stores may
@@ -65,7 +65,7 @@ module _ (c : Config) (v w : View) (l m : Noted) (object previous position : ℕ
   first_few most = subst (λ (q : Noted). q.held < most) (sym noted)
 
 -- HEAD was exchanged, and another came first
-module _ {words : List ℕ} (c : Config) (v w : View) (l : Noted) (object previous position : ℕ) (may : MayWalk v) (s : Stands c v l)
+module _ {words : List ℕ} (c : Config) (v w : Knowledge) (l : Noted) (object previous position : ℕ) (may : MayWalk v) (s : Stands c v l)
     (is : IsBuiltFor l position object previous words) (link : ℕ) (told : w ≡ lock_lost c v object link) where
   then_carries : Carries c v w
   then_carries = lost_carries c v w l object previous position may s is link told
@@ -74,10 +74,10 @@ module _ {words : List ℕ} (c : Config) (v w : View) (l : Noted) (object previo
   then_is = (previous, is)
 
   pub then_master : link ≡ 0 → w.walk ≡ place.Master object
-  then_master zero = ap (λ (u : View). u.walk) told ∙ sym (at_zero object link Nothing true zero)
+  then_master zero = ap (λ (u : Knowledge). u.walk) told ∙ sym (at_zero object link Nothing true zero)
 
   -- and it was tried once more, at a chain that was cut
-  pub then_again : (x : View) (q : Noted) (answer : LockAnswer) (first second last : ℕ) → second ≡ first + 1 → link ≡ 0
+  pub then_again : (x : Knowledge) (q : Noted) (answer : LockAnswer) (first second last : ℕ) → second ≡ first + 1 → link ≡ 0
       → OneOutcome c w x q object words answer second last → FewOutcome c v x q object words answer first last
   then_again x q answer first second last e zero o = (
     lost_step c object link ∷ o.0 ∷ [],
@@ -88,7 +88,7 @@ module _ {words : List ℕ} (c : Config) (v w : View) (l : Noted) (object previo
   )
 
 -- one exchange is few
-pub one_few : {words : List ℕ} (c : Config) (v w : View) (l : Noted) (object : ℕ) (answer : LockAnswer) (before after : ℕ)
+pub one_few : {words : List ℕ} (c : Config) (v w : Knowledge) (l : Noted) (object : ℕ) (answer : LockAnswer) (before after : ℕ)
     → OneOutcome c v w l object words answer before after → FewOutcome c v w l object words answer before after
 one_few c v w l object answer before after o = (o.0 ∷ [], o.1, o.2)
 

@@ -7,16 +7,16 @@ use Rattle.mv_history.specs.declared.StepKind.TheVariants.{LockHead}
 use Rattle.mv_history.specs.declared.answers.LockAnswer.{LockAnswer}
 use Rattle.mv_history.specs.declared.answers.LockAnswer.TheVariants.{Held, Busy, Stale, SetFull, LogFull}
 use Rattle.mv_layout.specs.declared.Config.{Config}
-use Rattle.mv_layout.specs.declared.Place.TheVariants.{Head}
+use Rattle.mv_layout.specs.declared.SharedWord.TheVariants.{Head}
 use Rattle.mv_layout.specs.Places.{place_of}
 use Rattle.mv_layout.specs.Words.{link_of, link_seat_of}
-use Rattle.seat_log.specs.mv_core.declared.view.View.{View}
+use Rattle.seat_log.specs.mv_core.declared.view.Knowledge.{Knowledge}
 use Rattle.seat_log.specs.mv_core.declared.view.Phase.{Phase}
 use Rattle.seat_log.specs.mv_core.declared.view.Phase.TheVariants.{Inside}
-use Rattle.seat_log.specs.mv_core.declared.view.Section.{Section}
+use Rattle.seat_log.specs.mv_core.declared.view.OwnSection.{OwnSection}
 use Rattle.seat_log.specs.mv_core.declared.view.LoadedClocks.{LoadedClocks}
 use Rattle.seat_log.specs.mv_core.declared.view.Passed.TheVariants.{Nothing}
-use Rattle.seat_log.specs.mv_core.declared.view.Walk.TheVariants as place
+use Rattle.seat_log.specs.mv_core.declared.view.WalkStage.TheVariants as place
 use Rattle.seat_log.specs.mv_core.Rings.{own_of, spare_count}
 use Rattle.seat_log.specs.mv_core.Views.{time_in}
 use Rattle.seat_log.specs.mv_core.declared.view.Stand.{Stand}
@@ -39,17 +39,18 @@ use Rattle.object_lock.proofs.OwnNotes.{note_write, held_notes, own_is}
 use Rattle.object_lock.proofs.Stood.{stands_on}
 
 -- a section may walk on where its phase, the clock words it loaded and its write-back stay
-pub may_same : (v w : View) → w.phase ≡ v.phase → w.clocks ≡ v.clocks → w.back ≡ v.back → MayWalk v → MayWalk w
+pub may_same : (v w : Knowledge) → w.phase ≡ v.phase → w.clocks ≡ v.clocks → w.back ≡ v.back → MayWalk v → MayWalk w
 may_same v w phase clocks back may =
     let inside : section_in w ≡ section_in v = ap inside_of phase in record {
       phase = phase ∙ may.phase ∙ sym (ap Inside inside);
-      open_is = ap (λ (s : Section). s.mode) inside ∙ may.open_is;
-      helped = subst (λ (s : Section). IsPastHelp w.clocks s) (sym inside) (subst (λ (h : LoadedClocks). IsPastHelp h (section_in v)) (sym clocks) may.helped);
+      open_is = ap (λ (s : OwnSection). s.mode) inside ∙ may.open_is;
+      helped = subst (λ (s : OwnSection). IsPastHelp w.clocks s) (sym inside)
+          (subst (λ (h : LoadedClocks). IsPastHelp h (section_in v)) (sym clocks) may.helped);
       no_back = back ∙ may.no_back;
     }
 
 -- logs with the same notes of what is live and held stand for passes that hold the same
-pub own_kept : (c : Config) (v w : View) (l m : Noted) → Stands c v l → Stands c w m → m.live ≡ l.live → m.held ≡ l.held → KeepsOwn c v w
+pub own_kept : (c : Config) (v w : Knowledge) (l m : Noted) → Stands c v l → Stands c w m → m.live ≡ l.live → m.held ≡ l.held → KeepsOwn c v w
 own_kept c v w l m s t live held =
     let same : held_notes m ≡ held_notes l = (λ i. drop (length (live i) - held i) (live i)) in
     let long = ap length live in
@@ -58,7 +59,7 @@ own_kept c v w l m s t live held =
     (own_is c w m t ∙ ap (map note_write) same ∙ sym (own_is c v l s), omega arith)
 
 -- what a step before the outcome leaves as it was
-pub record Carries (c : Config) (v w : View) : Type 0 where
+pub record Carries (c : Config) (v w : Knowledge) : Type 0 where
   pub number : w.number ≡ v.number
   pub start : w.start ≡ v.start
   pub seen : w.past.seen ≡ v.past.seen
@@ -87,7 +88,7 @@ found_before c object seat start next trail made at f = record {
 }
 
 -- what a lock makes from then on it makes in all
-pub makes_before : (c : Config) (v w x : View) (object : ℕ) (words : List ℕ) (answer : LockAnswer) (made : List Step) → w.trail ≡ v.trail ++ made
+pub makes_before : (c : Config) (v w x : Knowledge) (object : ℕ) (words : List ℕ) (answer : LockAnswer) (made : List Step) → w.trail ≡ v.trail ++ made
     → w.number ≡ v.number
     → w.phase ≡ v.phase → KeepsOwn c v w → LockMakes c w x object words answer
     → LockMakes c v x object words answer
@@ -98,7 +99,7 @@ makes_before c v w x object words (Stale time) made at number phase own makes = 
 makes_before c v w x object words SetFull made at number phase own makes = absurd makes
 makes_before c v w x object words LogFull made at number phase own makes = absurd makes
 
-pub outcome_before : {words : List ℕ} (c : Config) (v w x : View) (l : Noted) (object : ℕ) (answer : LockAnswer) (first second third : ℕ)
+pub outcome_before : {words : List ℕ} (c : Config) (v w x : Knowledge) (l : Noted) (object : ℕ) (answer : LockAnswer) (first second third : ℕ)
     {tried more : List Step} → Carries c v w → Tries v w first second tried → Outcome c w x l object words answer second third more
     → Outcome c v x l object words answer first third (tried ++ more)
 outcome_before {words} c v w x l object answer first second third k tries o = record {
@@ -112,7 +113,7 @@ outcome_before {words} c v w x l object answer first second third k tries o = re
 }
 
 -- an exchange of HEAD
-module _ {words : List ℕ} (c : Config) (v w : View) (l : Noted) (object previous position : ℕ) (may : MayWalk v) (s : Stands c v l)
+module _ {words : List ℕ} (c : Config) (v w : Knowledge) (l : Noted) (object previous position : ℕ) (may : MayWalk v) (s : Stands c v l)
     (is : IsBuiltFor l position object previous words) where
   -- won: the version is held
   module _ (told : w ≡ head_locked c v object previous position words) (own : OneMoreWrite c v object words w) where
@@ -121,8 +122,8 @@ module _ {words : List ℕ} (c : Config) (v w : View) (l : Noted) (object previo
 
     won_tries : (before : ℕ) → Tries v w before (before + 1) (step ∷ [])
     won_tries before = record {
-      seen = ([], ap (λ (u : View). u.past.seen) told ∙ sym (append-nil v.past.seen));
-      trail = (step ∷ [], ap (λ (u : View). u.trail) told, refl, All-cons IsLocks step [] tt (All-nil IsLocks));
+      seen = ([], ap (λ (u : Knowledge). u.past.seen) told ∙ sym (append-nil v.past.seen));
+      trail = (step ∷ [], ap (λ (u : Knowledge). u.trail) told, refl, All-cons IsLocks step [] tt (All-nil IsLocks));
       exchanges = refl;
       rest = ap (rest_of w) told;
     }
@@ -134,11 +135,11 @@ module _ {words : List ℕ} (c : Config) (v w : View) (l : Noted) (object previo
         let stands = stands_locked c v l is.0 s is.1 in (
           step,
           subst (λ (k : Noted). Outcome c v w k object words Held before after (step ∷ [])) (sym noted) (record {
-            may = may_same v w (ap (λ (u : View). u.phase) told) (ap (λ (u : View). u.clocks) told) (ap (λ (u : View). u.back) told) may;
-            stands = subst (λ (u : View). Stands c u (held_noted l)) at stands;
+            may = may_same v w (ap (λ (u : Knowledge). u.phase) told) (ap (λ (u : Knowledge). u.clocks) told) (ap (λ (u : Knowledge). u.back) told) may;
+            stands = subst (λ (u : Knowledge). Stands c u (held_noted l)) at stands;
             unbuilt = refl;
             makes = own;
-            sees = λ _. ap (λ (u : View). u.past.seen) told;
+            sees = λ _. ap (λ (u : Knowledge). u.past.seen) told;
             keeps = λ ne. absurd (ne refl);
             tries = subst (λ (n : ℕ). Tries v w before n (step ∷ [])) (sym e) (won_tries before);
           }),
@@ -152,49 +153,50 @@ module _ {words : List ℕ} (c : Config) (v w : View) (l : Noted) (object previo
 
     pub lost_tries : (before : ℕ) → Tries v w before (before + 1) (step_lost ∷ [])
     lost_tries before = record {
-      seen = ([], ap (λ (u : View). u.past.seen) told ∙ sym (append-nil v.past.seen));
-      trail = (step_lost ∷ [], ap (λ (u : View). u.trail) told, refl, All-cons IsLocks step_lost [] tt (All-nil IsLocks));
+      seen = ([], ap (λ (u : Knowledge). u.past.seen) told ∙ sym (append-nil v.past.seen));
+      trail = (step_lost ∷ [], ap (λ (u : Knowledge). u.trail) told, refl, All-cons IsLocks step_lost [] tt (All-nil IsLocks));
       exchanges = refl;
       rest = ap (rest_of w) told;
     }
 
     pub lost_carries : Carries c v w
     lost_carries = record {
-      number = ap (λ (u : View). u.number) told;
-      start = ap (λ (u : View). u.start) told;
-      seen = ap (λ (u : View). u.past.seen) told;
-      phase = ap (λ (u : View). u.phase) told;
-      own = (ap (λ (u : View). own_of c u.ring) told, ap (λ (u : View). spare_count u.ring) told);
+      number = ap (λ (u : Knowledge). u.number) told;
+      start = ap (λ (u : Knowledge). u.start) told;
+      seen = ap (λ (u : Knowledge). u.past.seen) told;
+      phase = ap (λ (u : Knowledge). u.phase) told;
+      own = (ap (λ (u : Knowledge). own_of c u.ring) told, ap (λ (u : Knowledge). spare_count u.ring) told);
     }
 
     pub lost_may : MayWalk w
-    lost_may = may_same v w (ap (λ (u : View). u.phase) told) (ap (λ (u : View). u.clocks) told) (ap (λ (u : View). u.back) told) may
+    lost_may = may_same v w (ap (λ (u : Knowledge). u.phase) told) (ap (λ (u : Knowledge). u.clocks) told) (ap (λ (u : Knowledge). u.back) told) may
 
     pub lost_stands : Stands c w l
     lost_stands =
-        stands_on c v w l (step_lost ∷ []) (ap (λ (u : View). u.number) told) (ap (λ (u : View). u.ring) told) (ap (λ (u : View). u.past.mine) told)
-        (ap (λ (u : View). u.past.rests) told) (ap (λ (u : View). u.trail) told)
+        stands_on c v w l (step_lost ∷ []) (ap (λ (u : Knowledge). u.number) told) (ap (λ (u : Knowledge). u.ring) told)
+        (ap (λ (u : Knowledge). u.past.mine) told)
+        (ap (λ (u : Knowledge). u.past.rests) told) (ap (λ (u : Knowledge). u.trail) told)
         (All-cons IsLocks step_lost [] tt (All-nil IsLocks))
         (All-cons (λ (t : Step). is_won_lock t ≡ false) step_lost [] refl (All-nil (λ (t : Step). is_won_lock t ≡ false))) s
 
     pub came_first : link ≢ 0 → IsLinkOf c link → link_seat_of link ≢ v.number → CameFirst c w object link
     came_first some packed other =
         let at : w.walk ≡ place.At (record { object = object; link = link; first = None; stamp = None; passed = Nothing; late = true }) =
-        ap (λ (u : View). u.walk) told ∙ sym (at_some object link Nothing true some) in
+        ap (λ (u : Knowledge). u.walk) told ∙ sym (at_some object link Nothing true some) in
         let stand = ap stand_of at in record {
           stands = record { stands = at ∙ ap place.At (sym stand); link_is = ap (λ (z : Stand). z.link) stand; packed = packed some };
           object_is = ap (λ (z : Stand). z.object) stand;
           late = ap (λ (z : Stand). z.late) stand;
-          other = λ e. other (e ∙ ap (λ (u : View). u.number) told);
+          other = λ e. other (e ∙ ap (λ (u : Knowledge). u.number) told);
         }
 
     -- the view after the exchange, with the trail of before
-    abbrev from : View
+    abbrev from : Knowledge
     from = record w { trail = v.trail }
 
     from_tries : (before : ℕ) → Tries v from before before []
     from_tries before = record {
-      seen = ([], ap (λ (u : View). u.past.seen) told ∙ sym (append-nil v.past.seen));
+      seen = ([], ap (λ (u : Knowledge). u.past.seen) told ∙ sym (append-nil v.past.seen));
       trail = ([], sym (append-nil v.trail), (omega arith), All-nil IsLocks);
       exchanges = refl;
       rest = ap (rest_of from) told;
@@ -206,11 +208,12 @@ module _ {words : List ℕ} (c : Config) (v w : View) (l : Noted) (object previo
         record { number = k.number; start = k.start; seen = k.seen; phase = k.phase; own = k.own }
 
     -- what came first was looked at
-    pub lost_all : (x : View) (q : Noted) (answer : LockAnswer) (first second last : ℕ) → second ≡ first + 1
+    pub lost_all : (x : Knowledge) (q : Noted) (answer : LockAnswer) (first second last : ℕ) → second ≡ first + 1
         → LostOutcome c w x q object link answer second last → OneOutcome c v x q object words answer first last
     lost_all x q answer first second last e o = (
       step_lost,
-      outcome_before c v from x q object answer first first last from_carries (from_tries first) (o words v.trail first (ap (λ (u : View). u.trail) told) e),
+      outcome_before c v from x q object answer first first last from_carries (from_tries first)
+          (o words v.trail first (ap (λ (u : Knowledge). u.trail) told) e),
       refl,
     )
 
@@ -232,17 +235,17 @@ cleared_for l m object previous position is e =
     )
 
 -- stores into the slot that is being built
-module _ (c : Config) (v w : View) (n : ℕ) (b : BuildsBy v w n) where
+module _ (c : Config) (v w : Knowledge) (n : ℕ) (b : BuildsBy v w n) where
   pub built_may : MayWalk v → MayWalk w
-  built_may may = may_same v w (ap (λ (u : View). u.phase) b.rest) (ap (λ (u : View). u.clocks) b.rest) (ap (λ (u : View). u.back) b.rest) may
+  built_may may = may_same v w (ap (λ (u : Knowledge). u.phase) b.rest) (ap (λ (u : Knowledge). u.clocks) b.rest) (ap (λ (u : Knowledge). u.back) b.rest) may
 
   pub built_carries : KeepsOwn c v w → Carries c v w
   built_carries own =
       record {
-        number = ap (λ (u : View). u.number) b.rest;
-        start = ap (λ (u : View). u.start) b.rest;
-        seen = ap (λ (u : View). u.past.seen) b.rest;
-        phase = ap (λ (u : View). u.phase) b.rest;
+        number = ap (λ (u : Knowledge). u.number) b.rest;
+        start = ap (λ (u : Knowledge). u.start) b.rest;
+        seen = ap (λ (u : Knowledge). u.past.seen) b.rest;
+        phase = ap (λ (u : Knowledge). u.phase) b.rest;
         own = own;
       }
 
@@ -251,21 +254,21 @@ module _ (c : Config) (v w : View) (n : ℕ) (b : BuildsBy v w n) where
       let s = b.steps in
       let long = s.2 in
       record {
-        seen = ([], ap (λ (u : View). u.past.seen) b.rest ∙ sym (append-nil v.past.seen));
+        seen = ([], ap (λ (u : Knowledge). u.past.seen) b.rest ∙ sym (append-nil v.past.seen));
         trail = (s.0, s.1, (omega arith), s.3);
         exchanges = b.none;
         rest = ap (rest_of w) b.rest;
       }
 
   pub built_walk : w.walk ≡ v.walk
-  built_walk = ap (λ (u : View). u.walk) b.rest
+  built_walk = ap (λ (u : Knowledge). u.walk) b.rest
 
 -- PREV of the built version was cleared, and HEAD exchanged once more
-module _ {words : List ℕ} (c : Config) (v w x : View) (l m : Noted) (object previous position : ℕ) (may : MayWalk v) (s : Stands c v l)
+module _ {words : List ℕ} (c : Config) (v w x : Knowledge) (l m : Noted) (object previous position : ℕ) (may : MayWalk v) (s : Stands c v l)
     (is : IsBuiltFor l position object previous words) (t : Stands c w m) (noted : m ≡ cleared l)
     (stored : w ≡ stored_next c v position 2 0) where
   stores : BuildsBy v w 1
-  stores = subst (λ (u : View). BuildsBy v u 1) (sym stored) (builds_next c position v 2 0)
+  stores = subst (λ (u : Knowledge). BuildsBy v u 1) (sym stored) (builds_next c position v 2 0)
 
   pub cleared_may : MayWalk w
   cleared_may = built_may c v w 1 stores may
@@ -300,7 +303,7 @@ module _ {words : List ℕ} (c : Config) (v w x : View) (l m : Noted) (object pr
     pub again_first : link ≢ 0 → IsLinkOf c link → link_seat_of link ≢ w.number → CameFirst c x object link
     again_first = came_first c w x m object 0 position cleared_may t cleared_is link told
 
-    pub again_lost : (y : View) (q : Noted) (answer : LockAnswer) (first second third last : ℕ) → second ≡ first + 1 → third ≡ second + 1
+    pub again_lost : (y : Knowledge) (q : Noted) (answer : LockAnswer) (first second third last : ℕ) → second ≡ first + 1 → third ≡ second + 1
         → LostOutcome c x y q object link answer third last → OneOutcome c v y q object words answer first last
     again_lost y q answer first second third last e f o =
         let all = subst (λ ws. OneOutcome c w y q object ws answer second last) (cleared_words l m object previous position is noted)

@@ -7,7 +7,7 @@ use Rattle.mv_history.specs.declared.Step.{Step}
 use Rattle.mv_history.specs.declared.answers.LockAnswer.{LockAnswer}
 use Rattle.mv_history.specs.declared.answers.LockAnswer.TheVariants.{Held, Busy, Stale, SetFull, LogFull}
 use Rattle.mv_layout.specs.declared.Config.{Config}
-use Rattle.seat_log.specs.mv_core.declared.view.View.{View}
+use Rattle.seat_log.specs.mv_core.declared.view.Knowledge.{Knowledge}
 use Rattle.seat_log.specs.mv_core.Rings.{own_of, spare_count}
 use Rattle.seat_log.proofs.mv_core_lemmas.logs.Written.{write_there, write_touches}
 use Rattle.seat_log.specs.declared.version.Note.{Note}
@@ -32,7 +32,7 @@ get-unmap [] i w e = absurd (cc)
 get-unmap (m ∷ ns) zero w e = (m, refl, (let f : Some (note_write m) ≡ Some w = e in cc))
 get-unmap (m ∷ ns) (suc i) w e = get-unmap ns i w e
 
-module _ (c : Config) (v : View) (l : Noted) (object : ℕ) (s : Stands c v l) where
+module _ (c : Config) (v : Knowledge) (l : Noted) (object : ℕ) (s : Stands c v l) where
   -- what is held is noted
   pub touched_is : touches (own_of c v.ring) object ≡ true → HoldsObject l object
   touched_is e =
@@ -71,12 +71,13 @@ module _ (c : Config) (v : View) (l : Noted) (object : ℕ) (s : Stands c v l) w
   spare_is room unbuilt e = let none : built_count l.built ≡ 0 = ap built_count unbuilt in let a = s.spare in let b = s.slots in omega arith
 
 -- the steps that looked at the top leave the log as it is
-module _ (c : Config) (v x : View) (l : Noted) (object before here : ℕ) (s : Stands c v l) (tries : Tries v x before here []) (ring : x.ring ≡ v.ring) where
+module _ (c : Config) (v x : Knowledge) (l : Noted) (object before here : ℕ) (s : Stands c v l) (tries : Tries v x before here [])
+    (ring : x.ring ≡ v.ring) where
   pub top_stands : Stands c x l
   top_stands =
       let t = tries.trail in
-      stands_on c v x l t.0 (ap (λ (u : View). u.number) tries.rest) ring (ap (λ (u : View). u.past.mine) tries.rest)
-      (ap (λ (u : View). u.past.rests) tries.rest) t.1 t.3 (none_won t.0 tries.exchanges) s
+      stands_on c v x l t.0 (ap (λ (u : Knowledge). u.number) tries.rest) ring (ap (λ (u : Knowledge). u.past.mine) tries.rest)
+      (ap (λ (u : Knowledge). u.past.rests) tries.rest) t.1 t.3 (none_won t.0 tries.exchanges) s
 
   pub top_keeps : KeepsOwn c v x
   top_keeps = (ap (own_of c) ring, ap spare_count ring)
@@ -90,12 +91,12 @@ module _ (c : Config) (v x : View) (l : Noted) (object before here : ℕ) (s : S
   top_answers LogFull room cause words = absurd cause
 
 -- what was done leaves what is held as it was
-module _ (c : Config) (v w : View) (keeps : KeepsOwn c v w) where
-  pub kept_too : (x : View) → KeepsOwn c w x → KeepsOwn c v x
+module _ (c : Config) (v w : Knowledge) (keeps : KeepsOwn c v w) where
+  pub kept_too : (x : Knowledge) → KeepsOwn c w x → KeepsOwn c v x
   kept_too x k = (k.0 ∙ keeps.0, k.1 ∙ keeps.1)
 
   -- what came of an exchange of HEAD
-  all_answers : (x : View) (object : ℕ) (words : List ℕ) (answer : LockAnswer) → HasRoom c v → LockMakes c v x object words answer
+  all_answers : (x : Knowledge) (object : ℕ) (words : List ℕ) (answer : LockAnswer) → HasRoom c v → LockMakes c v x object words answer
       → AnswersWith c v x object words answer
   all_answers x object words Held room makes = (room, makes)
   all_answers x object words (Busy seat) room makes = (room, makes)
@@ -103,13 +104,13 @@ module _ (c : Config) (v w : View) (keeps : KeepsOwn c v w) where
   all_answers x object words SetFull room makes = absurd makes
   all_answers x object words LogFull room makes = absurd makes
 
-  pub made_answers : (x : View) (object : ℕ) (words : List ℕ) (answer : LockAnswer) (made : List Step) → w.trail ≡ v.trail ++ made → w.number ≡ v.number
+  pub made_answers : (x : Knowledge) (object : ℕ) (words : List ℕ) (answer : LockAnswer) (made : List Step) → w.trail ≡ v.trail ++ made → w.number ≡ v.number
       → w.phase ≡ v.phase → HasRoom c v → LockMakes c w x object words answer → AnswersWith c v x object words answer
   made_answers x object words answer made at number phase room makes =
       all_answers x object words answer room (makes_before c v w x object words answer made at number phase keeps makes)
 
 -- the words of an answer that isn't `Held` don't matter
-pub answers_of : (c : Config) (v x : View) (object : ℕ) (words others : List ℕ) (answer : LockAnswer) → (answer ≡ Held → words ≡ others)
+pub answers_of : (c : Config) (v x : Knowledge) (object : ℕ) (words others : List ℕ) (answer : LockAnswer) → (answer ≡ Held → words ≡ others)
     → AnswersWith c v x object words answer → AnswersWith c v x object others answer
 answers_of c v x object words others Held same answers = subst (λ ws. AnswersWith c v x object ws Held) (same refl) answers
 answers_of c v x object words others (Busy seat) same answers = answers
@@ -118,7 +119,7 @@ answers_of c v x object words others SetFull same answers = answers
 answers_of c v x object words others LogFull same answers = answers
 
 -- the section holds no more than it may
-module _ (c : Config) (v w : View) (l m : Noted) (object : ℕ) (s : Stands c v l) (t : Stands c w m) (few : l.held < c.write_max) where
+module _ (c : Config) (v w : Knowledge) (l m : Noted) (object : ℕ) (s : Stands c v l) (t : Stands c w m) (few : l.held < c.write_max) where
   few_same : KeepsOwn c v w → m.held ≤ c.write_max
   few_same keeps =
       let long = ap length keeps.0 in

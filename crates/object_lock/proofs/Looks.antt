@@ -7,19 +7,19 @@ use Rattle.mv_history.specs.declared.StepKind.{StepKind}
 use Rattle.mv_history.specs.declared.StepKind.TheVariants.{LoadHead, LoadFirst, LoadStamp, LoadData}
 use Rattle.mv_history.specs.declared.answers.LockAnswer.TheVariants.{Stale}
 use Rattle.mv_layout.specs.declared.Config.{Config}
-use Rattle.mv_layout.specs.declared.Place.TheVariants.{Head, First, Stamp}
+use Rattle.mv_layout.specs.declared.SharedWord.TheVariants.{Head, First, Stamp}
 use Rattle.mv_layout.specs.Places.{place_of}
 use Rattle.mv_layout.specs.Words.{IsUnset, link_of, link_seat_of}
 use Rattle.seat_log.specs.mv_core.declared.ring.Slot.TheVariants.{Live}
-use Rattle.seat_log.specs.mv_core.declared.ring.Status.{Status}
-use Rattle.seat_log.specs.mv_core.declared.ring.Status.TheVariants.{Committed}
-use Rattle.seat_log.specs.mv_core.declared.view.View.{View}
-use Rattle.seat_log.specs.mv_core.declared.view.Section.{Section}
+use Rattle.seat_log.specs.mv_core.declared.ring.WriteSetStatus.{WriteSetStatus}
+use Rattle.seat_log.specs.mv_core.declared.ring.WriteSetStatus.TheVariants.{Committed}
+use Rattle.seat_log.specs.mv_core.declared.view.Knowledge.{Knowledge}
+use Rattle.seat_log.specs.mv_core.declared.view.OwnSection.{OwnSection}
 use Rattle.seat_log.specs.mv_core.declared.view.Phase.TheVariants.{Inside}
 use Rattle.seat_log.specs.mv_core.declared.view.Stand.{Stand}
 use Rattle.seat_log.specs.mv_core.declared.view.Passed.TheVariants.{Nothing}
-use Rattle.seat_log.specs.mv_core.declared.view.Walk as core
-use Rattle.seat_log.specs.mv_core.declared.view.Walk.TheVariants as place
+use Rattle.seat_log.specs.mv_core.declared.view.WalkStage as core
+use Rattle.seat_log.specs.mv_core.declared.view.WalkStage.TheVariants as place
 use Rattle.seat_log.specs.mv_core.Rings.{slot_at, index_of}
 use Rattle.seat_log.specs.mv_core.WalkSteps.{IsLinkOf, IsPackedOf, IsOwnTop, IsOwnTime, IsWriteOf, StampSays}
 use Rattle.seat_log.specs.mv_core.WalkSteps.{slot_named, head_loaded, first_loaded, stamp_loaded}
@@ -31,7 +31,7 @@ use Rattle.object_lock.specs.Tops.{IsUnheld, StandsOn, Looked, IsLockStep, is_lo
 use Rattle.object_lock.proofs.Exchanged.{none_exchanged, exchanged_on}
 
 -- the loads of FIRST and STAMP
-pub looked_at : (c : Config) (v w x : View) (link first found : ℕ) → StandsOn c v link → w ≡ first_loaded c v (stand_in v) first
+pub looked_at : (c : Config) (v w x : Knowledge) (link first found : ℕ) → StandsOn c v link → w ≡ first_loaded c v (stand_in v) first
     → x ≡ stamp_loaded c w (stand_in w) first found x.past.seen
     → StampSays c w (stand_in w) found x.past.seen → IsOwnTime c w link found → Looked c v x found
 looked_at c v w x link first found stands firsts stamps says own =
@@ -39,13 +39,13 @@ looked_at c v w x link first found stands firsts stamps says own =
     record {
       first = first;
       view = stamps ∙ (λ i. stamp_loaded c (firsts i) (at i) first found x.past.seen);
-      says = subst (λ (p : View × Stand). StampSays c p.0 p.1 found x.past.seen) (λ i. (firsts i, at i)) says;
+      says = subst (λ (p : Knowledge × Stand). StampSays c p.0 p.1 found x.past.seen) (λ i. (firsts i, at i)) says;
       own = subst (λ (l : ℕ). IsOwnTime c (first_loaded c v (stand_in v) first) l found) (sym stands.link_is)
-          (subst (λ (u : View). IsOwnTime c u link found) firsts own);
+          (subst (λ (u : Knowledge). IsOwnTime c u link found) firsts own);
     }
 
 -- the view z with all that a lock may change as it is in y
-abbrev pub rest_of : View → View → View
+abbrev pub rest_of : Knowledge → Knowledge → Knowledge
 rest_of y z = record z { past = record z.past { seen = y.past.seen }; walk = y.walk; empty = y.empty; ring = y.ring; trail = y.trail }
 
 -- a step of a lock
@@ -57,7 +57,7 @@ abbrev pub head_found : Config → StepKind → ℕ → ℕ → Step
 head_found c kind object link = record { kind = kind; word = place_of c (Head object); found = Some link; stored = None }
 
 -- HEAD was found to be a link, in a step of some kind, and then FIRST and STAMP of its version were loaded
-module _ (c : Config) (v w x : View) (kind : StepKind) (object link found : ℕ) (head : w.trail ≡ v.trail ++ head_found c kind object link ∷ [])
+module _ (c : Config) (v w x : Knowledge) (kind : StepKind) (object link found : ℕ) (head : w.trail ≡ v.trail ++ head_found c kind object link ∷ [])
     (there : (stand_in w).link ≡ link) (looked : Looked c w x found) where
   abbrev of_head : Step
   of_head = head_found c kind object link
@@ -72,7 +72,7 @@ module _ (c : Config) (v w x : View) (kind : StepKind) (object link found : ℕ)
   pub trail_is : x.trail ≡ v.trail ++ of_head ∷ of_first ∷ of_stamp ∷ []
   trail_is =
       let start : List Step = v.trail ++ of_head ∷ [] in
-      ap (λ (u : View). u.trail) looked.view
+      ap (λ (u : Knowledge). u.trail) looked.view
       ∙ (λ i. (head i ++ record {
         kind = LoadFirst;
         word = place_of c (First (link_seat_of (there i)) (slot_named c (there i)));
@@ -114,7 +114,7 @@ module _ (c : Config) (v w x : View) (kind : StepKind) (object link found : ℕ)
   )
 
 -- no step was made
-pub none_tried : (v : View) (before : ℕ) → Tries v v before before []
+pub none_tried : (v : Knowledge) (before : ℕ) → Tries v v before before []
 none_tried v before = record {
   seen = ([], sym (append-nil v.past.seen));
   trail = ([], sym (append-nil v.trail), (omega arith), All-nil IsLocks);
@@ -123,22 +123,22 @@ none_tried v before = record {
 }
 
 -- HEAD was loaded, and no more
-pub head_tries : (c : Config) (v w : View) (object link : ℕ) (inside : Section) → w ≡ head_loaded c v inside object link → (before : ℕ)
+pub head_tries : (c : Config) (v w : Knowledge) (object link : ℕ) (inside : OwnSection) → w ≡ head_loaded c v inside object link → (before : ℕ)
     → Tries v w before (before + 1) []
 head_tries c v w object link inside head before =
     let step : Step = head_found c LoadHead object link in
     record {
-      seen = ([], ap (λ (u : View). u.past.seen) head ∙ sym (append-nil v.past.seen));
-      trail = (step ∷ [], ap (λ (u : View). u.trail) head, refl, All-cons IsLocks step [] tt (All-nil IsLocks));
+      seen = ([], ap (λ (u : Knowledge). u.past.seen) head ∙ sym (append-nil v.past.seen));
+      trail = (step ∷ [], ap (λ (u : Knowledge). u.trail) head, refl, All-cons IsLocks step [] tt (All-nil IsLocks));
       exchanges = refl;
       rest = ap (rest_of w) head;
     }
 
 -- the walk stands at the version that HEAD named
-pub stands_top : (c : Config) (v w : View) (object link : ℕ) (inside : Section) → link ≢ 0 → w ≡ head_loaded c v inside object link
+pub stands_top : (c : Config) (v w : Knowledge) (object link : ℕ) (inside : OwnSection) → link ≢ 0 → w ≡ head_loaded c v inside object link
     → IsLinkOf c link → StandsOn c w link
 stands_top c v w object link inside some head packed =
-    let at = stands_here w object link Nothing some (ap (λ (u : View). u.walk) head) in
+    let at = stands_here w object link Nothing some (ap (λ (u : Knowledge). u.walk) head) in
     let stand = ap stand_of at in
     record { stands = at ∙ ap place.At (sym stand); link_is = ap (λ (s : Stand). s.link) stand; packed = packed some }
 
@@ -158,11 +158,11 @@ pub version_bound : (given : Option (List ℕ)) (a b d e : ℕ) → given ≡ No
 version_bound given a b d e none one two six = let nine = ap most_to_look none in omega arith
 
 -- HEAD was loaded
-module _ (c : Config) (v w x : View) (object link found : ℕ) (inside : Section) (some : link ≢ 0) (head : w ≡ head_loaded c v inside object link)
+module _ (c : Config) (v w x : Knowledge) (object link found : ℕ) (inside : OwnSection) (some : link ≢ 0) (head : w ≡ head_loaded c v inside object link)
     (looked : Looked c w x found) where
   -- where the walk stands
   stand_is : stand_in w ≡ record { object = object; link = link; first = None; stamp = None; passed = Nothing; late = false }
-  stand_is = ap stand_of (stands_here w object link Nothing some (ap (λ (u : View). u.walk) head))
+  stand_is = ap stand_of (stands_here w object link Nothing some (ap (λ (u : Knowledge). u.walk) head))
 
   link_there : (stand_in w).link ≡ link
   link_there = ap (λ (s : Stand). s.link) stand_is
@@ -170,9 +170,9 @@ module _ (c : Config) (v w x : View) (object link found : ℕ) (inside : Section
   -- what these steps leave
   pub looked_tries : (before : ℕ) → Tries v x before (before + 3) []
   looked_tries before =
-      let s = looked_steps c v w x LoadHead object link found (ap (λ (u : View). u.trail) head) link_there looked tt refl in
+      let s = looked_steps c v w x LoadHead object link found (ap (λ (u : Knowledge). u.trail) head) link_there looked tt refl in
       record {
-        seen = let more = looked.says.sees.more in (more.0, more.1 ∙ ap (λ (u : View). u.past.seen ++ more.0) head);
+        seen = let more = looked.says.sees.more in (more.0, more.1 ∙ ap (λ (u : Knowledge). u.past.seen ++ more.0) head);
         trail = (s.0, s.1, (let long = s.2 in omega arith), s.3);
         exchanges = s.4;
         rest = ap (rest_of x) looked.view ∙ ap (rest_of x) head;
@@ -185,19 +185,19 @@ module _ (c : Config) (v w x : View) (object link found : ℕ) (inside : Section
     λ seat.
         let top = own some seat in
         ⊎_elim
-        (λ held. unheld (slot_named c link) top.0 (subst (λ (st : Status). slot_at v.ring (slot_named c link) ≡ Live top.0 st) held top.2) top.3)
+        (λ held. unheld (slot_named c link) top.0 (subst (λ (st : WriteSetStatus). slot_at v.ring (slot_named c link) ≡ Live top.0 st) held top.2) top.3)
         (λ made.
         let committed : slot_at v.ring (slot_named c link) ≡ Live top.0 (Committed made.0) =
-        subst (λ (st : Status). slot_at v.ring (slot_named c link) ≡ Live top.0 st) made.1 top.2 in
+        subst (λ (st : WriteSetStatus). slot_at v.ring (slot_named c link) ≡ Live top.0 st) made.1 top.2 in
         let there : slot_at w.ring (slot_named c link) ≡ Live top.0 (Committed made.0) =
-        ap (λ (u : View). slot_at u.ring (slot_named c link)) head ∙ committed in
-        let phase : w.phase ≡ Inside (section_in v) = ap (λ (u : View). u.phase) head ∙ may.phase in
+        ap (λ (u : Knowledge). slot_at u.ring (slot_named c link)) head ∙ committed in
+        let phase : w.phase ≡ Inside (section_in v) = ap (λ (u : Knowledge). u.phase) head ∙ may.phase in
         let time : IsOwnTime c (first_loaded c w (stand_in w) looked.first) link found =
         subst (λ (l : ℕ). IsOwnTime c (first_loaded c w (stand_in w) looked.first) l found) link_there looked.own in
-        let low : found < 2 ^ 63 = time (seat ∙ sym (ap (λ (u : View). u.number) head)) top.0 made.0 there (section_in v) phase may.open_is in
+        let low : found < 2 ^ 63 = time (seat ∙ sym (ap (λ (u : Knowledge). u.number) head)) top.0 made.0 there (section_in v) phase may.open_is in
         omega arith)
         top.4,
-    found_held c v w x LoadHead object link found (ap (λ (u : View). u.trail) head) link_there looked (packed some).1 unset,
+    found_held c v w x LoadHead object link found (ap (λ (u : Knowledge). u.trail) head) link_there looked (packed some).1 unset,
   )
 
   -- a stamp that is a time above the section's is that of a later commit
@@ -208,11 +208,11 @@ module _ (c : Config) (v w x : View) (object link found : ℕ) (inside : Section
 
   -- where the walk stands then
   at_top : x.walk ≡ place.At (record { object = object; link = link; first = Some looked.first; stamp = Some found; passed = Nothing; late = false })
-  at_top = ap (λ (u : View). u.walk) looked.view ∙ ap (λ (s : Stand). place.At (record s { first = Some looked.first; stamp = Some found })) stand_is
+  at_top = ap (λ (u : Knowledge). u.walk) looked.view ∙ ap (λ (s : Stand). place.At (record s { first = Some looked.first; stamp = Some found })) stand_is
 
   -- the words read there are the object's
-  pub words_there : (y : View) → Reads LoadData x y → words_in c x (stand_in x).object ≡ words_in c y object
-  words_there y reads = ap (λ (k : core.Walk). words_in c x (stand_of k).object) at_top ∙ sym (ap (λ (u : View). words_in c u object) reads.rest)
+  pub words_there : (y : Knowledge) → Reads LoadData x y → words_in c x (stand_in x).object ≡ words_in c y object
+  words_there y reads = ap (λ (k : core.WalkStage). words_in c x (stand_of k).object) at_top ∙ sym (ap (λ (u : Knowledge). words_in c u object) reads.rest)
 
   -- a stamp that is a time not above the section's: the words of the version may be read
   pub version_there : IsPackedOf c link → (seat position : ℕ) → link ≡ link_of seat position → seat < 64 → position < 2 ^ 57 → found ≤ time_at x
@@ -237,13 +237,13 @@ module _ (c : Config) (v w x : View) (object link found : ℕ) (inside : Section
       let stand : Stand = record { object = object; link = link; first = Some looked.first; stamp = Some found; passed = Nothing; late = false } in
       inr (stand, found, at_top, refl, refl, refl, (let same = time_is in omega arith))
 
-  pub stands_to_lock : (y : View) → Reads LoadData x y → (time : ℕ) → time ≡ time_at x → found ≤ time → StandsToLock y (section_in y) object link
+  pub stands_to_lock : (y : Knowledge) → Reads LoadData x y → (time : ℕ) → time ≡ time_at x → found ≤ time → StandsToLock y (section_in y) object link
   stands_to_lock y reads time time_is le =
       let stand : Stand = record { object = object; link = link; first = Some looked.first; stamp = Some found; passed = Nothing; late = false } in
       inr (
         stand,
         found,
-        ap (λ (u : View). u.walk) reads.rest ∙ at_top,
+        ap (λ (u : Knowledge). u.walk) reads.rest ∙ at_top,
         refl,
         refl,
         refl,
@@ -251,7 +251,7 @@ module _ (c : Config) (v w x : View) (object link found : ℕ) (inside : Section
       )
 
 -- reading six words more leaves what a lock leaves
-pub tries_read : (kind : StepKind) → IsLockStep kind → is_lock_exchange kind ≡ false → (v x y : View) (before here : ℕ) → Tries v x before here []
+pub tries_read : (kind : StepKind) → IsLockStep kind → is_lock_exchange kind ≡ false → (v x y : Knowledge) (before here : ℕ) → Tries v x before here []
     → Reads kind x y → Tries v y before (here + 6) []
 tries_read kind is none v x y before here tries reads =
     let s = tries.trail in
@@ -260,7 +260,7 @@ tries_read kind is none v x y before here tries reads =
     let one = s.2 in
     let two = t.2 in
     record {
-      seen = (tries.seen.0, ap (λ (u : View). u.past.seen) reads.rest ∙ tries.seen.1);
+      seen = (tries.seen.0, ap (λ (u : Knowledge). u.past.seen) reads.rest ∙ tries.seen.1);
       trail = (
         s.0 ++ t.0,
         t.1 ∙ ap (λ (l : List Step). l ++ t.0) s.1 ∙ append_assoc v.trail s.0 t.0,

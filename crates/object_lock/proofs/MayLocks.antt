@@ -6,7 +6,7 @@ use Rattle.mv_layout.specs.Words.{unset_of}
 use Rattle.seat_log.specs.mv_core.declared.ring.Slot.{Slot}
 use Rattle.seat_log.specs.mv_core.declared.ring.Slot.TheVariants.{Built}
 use Rattle.seat_log.specs.mv_core.declared.ring.Build.{Build}
-use Rattle.seat_log.specs.mv_core.declared.view.View.{View}
+use Rattle.seat_log.specs.mv_core.declared.view.Knowledge.{Knowledge}
 use Rattle.seat_log.specs.mv_core.Rings.{slot_at, index_of, set_first}
 use Rattle.seat_log.specs.mv_core.LockSteps.{nothing_built, build_in, StandsToLock, MayLock}
 use Rattle.seat_log.proofs.Noting.{built_next}
@@ -23,7 +23,7 @@ some_words : (ws : List ℕ) → map (λ (word : Option ℕ). unwrap_or word 0) 
 some_words [] = refl
 some_words (w ∷ ws) = ap (λ l. w ∷ l) (some_words ws)
 
-module _ {words : List ℕ} (c : Config) (v : View) (l : Noted) (object previous position : ℕ) (s : Stands c v l)
+module _ {words : List ℕ} (c : Config) (v : Knowledge) (l : Noted) (object previous position : ℕ) (s : Stands c v l)
     (is : IsBuiltFor l position object previous words) where
   abbrev n : Note
   n = is.0

@@ -7,10 +7,10 @@ use Rattle.mv_history.specs.declared.StepKind.TheVariants.{LoadFirst, LoadStamp,
 use Rattle.mv_history.specs.declared.answers.LockAnswer.{LockAnswer}
 use Rattle.mv_history.specs.declared.answers.LockAnswer.TheVariants.{Held, Busy, Stale}
 use Rattle.mv_layout.specs.declared.Config.{Config}
-use Rattle.mv_layout.specs.declared.Place.TheVariants.{First, Stamp}
+use Rattle.mv_layout.specs.declared.SharedWord.TheVariants.{First, Stamp}
 use Rattle.mv_layout.specs.Places.{place_of}
 use Rattle.mv_layout.specs.Words.{IsUnset, link_seat_of}
-use Rattle.seat_log.specs.mv_core.declared.view.View.{View}
+use Rattle.seat_log.specs.mv_core.declared.view.Knowledge.{Knowledge}
 use Rattle.seat_log.specs.mv_core.Rings.{index_of, own_of, spare_count}
 use Rattle.seat_log.specs.mv_core.WalkSteps.{slot_named, IsWriteOf}
 use Rattle.seat_log.specs.Notes.{Noted, dropped}
@@ -25,7 +25,7 @@ use Rattle.object_lock.proofs.LockKinds.{none_won}
 use Rattle.object_lock.proofs.Stood.{stands_on}
 
 -- one after another
-pub tries_on : (u v w : View) (first second third : ℕ) {tried more : List Step} → Tries u v first second tried → Tries v w second third more
+pub tries_on : (u v w : Knowledge) (first second third : ℕ) {tried more : List Step} → Tries u v first second tried → Tries v w second third more
     → Tries u w first third (tried ++ more)
 tries_on u v w first second third a b =
     let s = a.trail in
@@ -40,7 +40,7 @@ tries_on u v w first second third a b =
     }
 
 -- An exchange was lost, and FIRST and STAMP of the version that came first were loaded.
-module _ (c : Config) (v x : View) (object link found : ℕ) (may : MayWalk v) (first : CameFirst c v object link) (looked : Looked c v x found)
+module _ (c : Config) (v x : Knowledge) (object link found : ℕ) (may : MayWalk v) (first : CameFirst c v object link) (looked : Looked c v x found)
     (start : List Step) (lost : v.trail ≡ start ++ lost_step c object link ∷ []) where
   abbrev of_first : Step
   of_first =
@@ -56,13 +56,13 @@ module _ (c : Config) (v x : View) (object link found : ℕ) (may : MayWalk v) (
       record { kind = LoadStamp; word = place_of c (Stamp (link_seat_of (stand_in v).link) (index_of c looked.first)); found = Some found; stored = None }
 
   two_steps : x.trail ≡ v.trail ++ of_first ∷ of_stamp ∷ []
-  two_steps = ap (λ (u : View). u.trail) looked.view ∙ append_assoc v.trail (of_first ∷ []) (of_stamp ∷ [])
+  two_steps = ap (λ (u : Knowledge). u.trail) looked.view ∙ append_assoc v.trail (of_first ∷ []) (of_stamp ∷ [])
 
   two_kinds : All IsLocks (of_first ∷ of_stamp ∷ [])
   two_kinds = All-cons IsLocks of_first (of_stamp ∷ []) tt (All-cons IsLocks of_stamp [] tt (All-nil IsLocks))
 
   -- the view before the exchange, but that the walk stands as after it
-  abbrev from : View
+  abbrev from : Knowledge
   from = record v { trail = start }
 
   three_steps : x.trail ≡ start ++ lost_step c object link ∷ of_first ∷ of_stamp ∷ []
@@ -96,11 +96,11 @@ module _ (c : Config) (v x : View) (object link found : ℕ) (may : MayWalk v) (
       → LockMakes c from x object words answer → after ≡ before + 3
       → Outcome c from x (dropped l) object words answer before after (lost_step c object link ∷ [])
   lost_outcome l words answer before after refused still s makes e =
-      let ring : x.ring ≡ v.ring = ap (λ (u : View). u.ring) looked.view in record {
+      let ring : x.ring ≡ v.ring = ap (λ (u : Knowledge). u.ring) looked.view in record {
         may = still;
         stands = stands_dropped c x l
-            (stands_on c v x l (of_first ∷ of_stamp ∷ []) (ap (λ (u : View). u.number) looked.view) ring (ap (λ (u : View). u.past.mine) looked.view)
-            (ap (λ (u : View). u.past.rests) looked.view) two_steps two_kinds (none_won (of_first ∷ of_stamp ∷ []) refl) s);
+            (stands_on c v x l (of_first ∷ of_stamp ∷ []) (ap (λ (u : Knowledge). u.number) looked.view) ring (ap (λ (u : Knowledge). u.past.mine) looked.view)
+            (ap (λ (u : Knowledge). u.past.rests) looked.view) two_steps two_kinds (none_won (of_first ∷ of_stamp ∷ []) refl) s);
         unbuilt = refl;
         makes = makes;
         sees = λ held. absurd (refused held);

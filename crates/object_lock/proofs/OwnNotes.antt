@@ -5,8 +5,8 @@ use Rattle.std.proofs.lemmas.List.{length-map}
 use Rattle.mv_layout.specs.declared.Config.{Config}
 use Rattle.seat_log.specs.mv_core.declared.ring.Ring.{Ring}
 use Rattle.seat_log.specs.mv_core.declared.ring.Version.{Version}
-use Rattle.seat_log.specs.mv_core.declared.ring.Status.TheVariants.{Held}
-use Rattle.seat_log.specs.mv_core.declared.view.View.{View}
+use Rattle.seat_log.specs.mv_core.declared.ring.WriteSetStatus.TheVariants.{Held}
+use Rattle.seat_log.specs.mv_core.declared.view.Knowledge.{Knowledge}
 use Rattle.seat_log.specs.mv_core.Rings.{slot_at, index_of, held_count, set_first, write_of, writes_from, own_of}
 use Rattle.seat_log.specs.declared.version.Note.{Note}
 use Rattle.seat_log.specs.Notes.{Noted, held_from}
@@ -38,7 +38,7 @@ writes_noted c r (n ∷ ns) p all =
     (λ i m at. ap (λ (q : ℕ). write_of (slot_at r (index_of c q))) (let e : p + 1 + i ≡ p + suc i = omega arith in e) ∙ all (suc i) m at) in
     (λ i. here i ∷ rest i)
 
-module _ (c : Config) (v : View) (l : Noted) (s : Stands c v l) where
+module _ (c : Config) (v : Knowledge) (l : Noted) (s : Stands c v l) where
   held_long : length (held_notes l) ≡ l.held
   held_long = let few = s.log.held in let d = length-drop (held_from l) l.live in omega arith
 

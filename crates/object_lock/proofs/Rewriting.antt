@@ -8,9 +8,9 @@ use Rattle.mv_history.specs.State.{rewritten}
 use Rattle.mv_history.specs.declared.Step.{Step}
 use Rattle.mv_history.specs.declared.StepKind.TheVariants.{StoreData}
 use Rattle.mv_layout.specs.declared.Config.{Config}
-use Rattle.seat_log.specs.mv_core.declared.view.View.{View}
+use Rattle.seat_log.specs.mv_core.declared.view.Knowledge.{Knowledge}
 use Rattle.seat_log.specs.mv_core.Rings.{index_of, own_of, spare_count}
-use Rattle.mv_layout.specs.declared.Place.TheVariants.{Data}
+use Rattle.mv_layout.specs.declared.SharedWord.TheVariants.{Data}
 use Rattle.mv_layout.specs.Places.{place_of}
 use Rattle.seat_log.specs.declared.version.Note.{Note}
 use Rattle.seat_log.specs.Notes.{Noted, held_from, IsHeld, at_place, with_words, words_noted}
@@ -44,12 +44,12 @@ drop-at f (suc d) zero (n ∷ ns) le = absurd (omega arith)
 drop-at f (suc d) (suc j) (n ∷ ns) le = drop-at f d j ns (omega arith) ∙ ap (λ i. at_place f i (drop d ns)) (let z : j - d ≡ suc j - suc d = omega arith in z)
 
 -- so many stores of a data word
-pub puts_store : (c : Config) (v : View) (position n : ℕ) (words : List ℕ) → Stores v (words_put c v position words n) n
+pub puts_store : (c : Config) (v : Knowledge) (position n : ℕ) (words : List ℕ) → Stores v (words_put c v position words n) n
 unfolding words_put
 puts_store c v position zero words = record { rest = refl; trail = ([], sym (append-nil v.trail), refl, All-nil (λ (s : Step). s.kind ≡ StoreData)) }
 puts_store c v position (suc n) words =
-    let w : View = words_put c v position words n in
-    let x : View = word_stored c w position n (slice_index words n) in
+    let w : Knowledge = words_put c v position words n in
+    let x : Knowledge = word_stored c w position n (slice_index words n) in
     let told : Step = record {
       kind = StoreData;
       word = place_of c (Data w.number (index_of c position) n);
@@ -61,7 +61,7 @@ puts_store c v position (suc n) words =
     let long = r.2 in
     let more = length-append r.0 (told ∷ []) in
     record {
-      rest = ap (λ (u : View). record u { ring = x.ring; trail = x.trail }) b.rest;
+      rest = ap (λ (u : Knowledge). record u { ring = x.ring; trail = x.trail }) b.rest;
       trail = (
         r.0 ++ told ∷ [],
         ap (λ (ts : List Step). ts ++ told ∷ []) r.1 ∙ append_assoc v.trail r.0 (told ∷ []),
@@ -71,7 +71,7 @@ puts_store c v position (suc n) words =
     }
 
 -- the version of an object that is held is stored, with all six words
-module _ (c : Config) (v : View) (l : Noted) (object position : ℕ) (s : Stands c v l) (at : IsHeldAt l object position) where
+module _ (c : Config) (v : Knowledge) (l : Noted) (object position : ℕ) (s : Stands c v l) (at : IsHeldAt l object position) where
   place_is : position ≡ l.freed + at.place
   place_is = sym at.position_is ∙ s.log.notes.position at.place at.note at.there
 
@@ -85,7 +85,7 @@ module _ (c : Config) (v : View) (l : Noted) (object position : ℕ) (s : Stands
       (omega arith, omega arith)
 
   -- what the section holds then
-  pub all_written : (w : View) (m : Noted) (words : List ℕ) → Stands c w m → m ≡ words_noted l position words
+  pub all_written : (w : Knowledge) (m : Noted) (words : List ℕ) → Stands c w m → m ≡ words_noted l position words
       → own_of c w.ring ≡ rewritten (own_of c v.ring) object words
   all_written w m words t noted =
       let d = held_from l in
@@ -103,7 +103,7 @@ module _ (c : Config) (v : View) (l : Noted) (object position : ℕ) (s : Stands
       ∙ ap (λ ws. rewritten ws object words) (sym (own_is c v l s))
 
 -- as many slots are free
-pub spare_stays : (c : Config) (v w : View) (l m : Noted) (position : ℕ) (words : List ℕ) → Stands c v l → Stands c w m
+pub spare_stays : (c : Config) (v w : Knowledge) (l m : Noted) (position : ℕ) (words : List ℕ) → Stands c v l → Stands c w m
     → m ≡ words_noted l position words → spare_count w.ring ≡ spare_count v.ring
 spare_stays c v w l m position words s t noted =
     let long : length m.live ≡ length l.live =

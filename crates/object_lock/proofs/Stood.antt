@@ -3,14 +3,14 @@ use Rattle.std.proofs.Common.{◌≡◌, false, List, ◌++◌, All}
 use Rattle.std.specs.Prelude.{get_or}
 use Rattle.mv_history.specs.declared.Step.{Step}
 use Rattle.mv_layout.specs.declared.Config.{Config}
-use Rattle.seat_log.specs.mv_core.declared.view.View.{View}
+use Rattle.seat_log.specs.mv_core.declared.view.Knowledge.{Knowledge}
 use Rattle.seat_log.specs.Notes.{Noted}
 use Rattle.seat_log.specs.Stands.{is_won_lock, Stands}
 use Rattle.seat_log.proofs.PlainSteps.{stands_plain}
 use Rattle.object_lock.specs.Tops.{IsLockStep}
 use Rattle.object_lock.proofs.LockKinds.{lock_plain}
 
-pub stands_on : (c : Config) (v w : View) (l : Noted) (steps : List Step) → w.number ≡ v.number → w.ring ≡ v.ring → w.past.mine ≡ v.past.mine
+pub stands_on : (c : Config) (v w : Knowledge) (l : Noted) (steps : List Step) → w.number ≡ v.number → w.ring ≡ v.ring → w.past.mine ≡ v.past.mine
     → w.past.rests ≡ v.past.rests → w.trail ≡ v.trail ++ steps → All (λ s. IsLockStep s.kind) steps
     → All (λ s. is_won_lock s ≡ false) steps → Stands c v l → Stands c w l
 stands_on c v w l steps number ring mine rests trail all unwon s =

@@ -6,11 +6,11 @@ use Rattle.mv_history.specs.State.{touches}
 use Rattle.mv_history.specs.declared.answers.LockAnswer.{LockAnswer}
 use Rattle.mv_history.specs.declared.answers.LockAnswer.TheVariants.{Held, Busy, Stale, SetFull, LogFull}
 use Rattle.mv_layout.specs.declared.Config.{Config}
-use Rattle.mv_layout.specs.declared.Place.TheVariants.{Head}
+use Rattle.mv_layout.specs.declared.SharedWord.TheVariants.{Head}
 use Rattle.mv_layout.specs.Places.{place_of}
 use Rattle.mv_layout.specs.Words.{IsUnset, link_seat_of}
 use Rattle.seat_log.specs.mv_core.declared.ring.Build.{Build}
-use Rattle.seat_log.specs.mv_core.declared.view.View.{View}
+use Rattle.seat_log.specs.mv_core.declared.view.Knowledge.{Knowledge}
 use Rattle.seat_log.specs.mv_core.LockSteps.{StandsToLock}
 use Rattle.seat_log.specs.mv_core.Rings.{own_of, spare_count}
 use Rattle.seat_log.specs.declared.version.Note.{Note}
@@ -55,34 +55,34 @@ AreFew c object (s ∷ t ∷ []) = (s ≡ lost_step c object 0) × (t.word ≡ p
 AreFew c object _ = ⊥
 
 -- what a lock leaves of a view, which tried few exchanges of HEAD
-abbrev pub TriesFew : Config → View → View → ℕ → ℕ → ℕ → Type 0
+abbrev pub TriesFew : Config → Knowledge → Knowledge → ℕ → ℕ → ℕ → Type 0
 TriesFew c v w object before after = (tried : List Step) × Tries v w before after tried × AreFew c object tried
 
 -- a lost exchange put the walk at another log's version of the object
-pub record CameFirst (c : Config) (v : View) (object link : ℕ) : Type 0 where
+pub record CameFirst (c : Config) (v : Knowledge) (object link : ℕ) : Type 0 where
   pub stands : StandsOn c v link
   pub object_is : (stand_in v).object ≡ object
   pub late : (stand_in v).late ≡ true
   pub other : link_seat_of link ≢ v.number
 
 -- what FIRST and STAMP of the version tell that came first
-abbrev pub RivalIs : Config → View → View → ℕ → LockAnswer → Type 0
+abbrev pub RivalIs : Config → Knowledge → Knowledge → ℕ → LockAnswer → Type 0
 RivalIs c v w link (Busy seat) = (found : ℕ) × Looked c v w found × IsUnset found × (seat ≡ link_seat_of link)
 RivalIs c v w link (Stale time) = Looked c v w time × (time < 2 ^ 63)
 RivalIs c v w link _ = ⊥
 
 -- what came of a lock: the object is held, with these words; or why not
-abbrev pub LockMakes : Config → View → View → ℕ → List ℕ → LockAnswer → Type 0
+abbrev pub LockMakes : Config → Knowledge → Knowledge → ℕ → List ℕ → LockAnswer → Type 0
 LockMakes c v w object words Held = (own_of c w.ring ≡ own_of c v.ring ++ (object, words) ∷ []) × (spare_count w.ring + 1 ≡ spare_count v.ring)
 LockMakes c v w object words answer = IsRefused c v w object answer
 
 -- nothing is held that wasn't before, and no slot was used
-abbrev pub KeepsOwn : Config → View → View → Type 0
+abbrev pub KeepsOwn : Config → Knowledge → Knowledge → Type 0
 KeepsOwn c v w = (own_of c w.ring ≡ own_of c v.ring) × (spare_count w.ring ≡ spare_count v.ring)
 
 -- What a call that exchanges or looks at what came first leaves of a pass and its log, and which exchanges of HEAD it tried. It sees nothing
 -- of the history where the lock is won.
-pub record Outcome (c : Config) (v w : View) (l : Noted) (object : ℕ) (words : List ℕ) (answer : LockAnswer) (before after : ℕ) (tried : List Step)
+pub record Outcome (c : Config) (v w : Knowledge) (l : Noted) (object : ℕ) (words : List ℕ) (answer : LockAnswer) (before after : ℕ) (tried : List Step)
     : Type 0 where
   pub may : MayWalk w
   pub stands : Stands c w l
@@ -93,42 +93,42 @@ pub record Outcome (c : Config) (v w : View) (l : Noted) (object : ℕ) (words :
   pub tries : Tries v w before after tried
 
 -- what comes of at most two exchanges
-abbrev pub FewOutcome : Config → View → View → Noted → ℕ → List ℕ → LockAnswer → ℕ → ℕ → Type 0
+abbrev pub FewOutcome : Config → Knowledge → Knowledge → Noted → ℕ → List ℕ → LockAnswer → ℕ → ℕ → Type 0
 FewOutcome c v w l object words answer before after =
     (tried : List Step) × Outcome c v w l object words answer before after tried × AreFew c object tried
 
 -- of one exchange
-abbrev pub OneOutcome : Config → View → View → Noted → ℕ → List ℕ → LockAnswer → ℕ → ℕ → Type 0
+abbrev pub OneOutcome : Config → Knowledge → Knowledge → Noted → ℕ → List ℕ → LockAnswer → ℕ → ℕ → Type 0
 OneOutcome c v w l object words answer before after =
     (step : Step) × Outcome c v w l object words answer before after (step ∷ []) × (step.word ≡ place_of c (Head object))
 
 -- of a lost exchange that was the last step, told from before it on; whatever words were built, they aren't held
-abbrev pub LostOutcome : Config → View → View → Noted → ℕ → ℕ → LockAnswer → ℕ → ℕ → Type 0
+abbrev pub LostOutcome : Config → Knowledge → Knowledge → Noted → ℕ → ℕ → LockAnswer → ℕ → ℕ → Type 0
 LostOutcome c v w l object link answer before after =
     (words : List ℕ) (start : List Step) (first : ℕ) → v.trail ≡ start ++ lost_step c object link ∷ [] → before ≡ first + 1
     → Outcome c (record v { trail = start }) w l object words answer first after (lost_step c object link ∷ [])
 
 -- the section holds as many objects as it may
-abbrev pub IsSetFull : Config → View → Type 0
+abbrev pub IsSetFull : Config → Knowledge → Type 0
 IsSetFull c v = length (own_of c v.ring) ≡ c.write_max
 
 -- it may hold one more, and the log has a slot for it
-abbrev pub HasRoom : Config → View → Type 0
+abbrev pub HasRoom : Config → Knowledge → Type 0
 HasRoom c v = (¬ (IsSetFull c v)) × (spare_count v.ring ≢ 0)
 
 -- what a lock with these words answers for an object that the section doesn't hold
-abbrev pub AnswersWith : Config → View → View → ℕ → List ℕ → LockAnswer → Type 0
+abbrev pub AnswersWith : Config → Knowledge → Knowledge → ℕ → List ℕ → LockAnswer → Type 0
 AnswersWith c v w object words SetFull = IsSetFull c v
 AnswersWith c v w object words LogFull = (¬ (IsSetFull c v)) × (spare_count v.ring ≡ 0)
 AnswersWith c v w object words answer = HasRoom c v × LockMakes c v w object words answer
 
 -- what `lock` answers: its words are those that the section reads
-abbrev pub LockAnswers : Config → View → View → ℕ → LockAnswer → Type 0
+abbrev pub LockAnswers : Config → Knowledge → Knowledge → ℕ → LockAnswer → Type 0
 LockAnswers c v w object answer = AnswersWith c v w object (words_in c w object) answer
 
 -- between the two parts of a lock: a version of the object is built over what is on top of its chain, in a section that doesn't
 -- hold the object and may hold one more
-pub record IsStarted (c : Config) (v : View) (l : Noted) (lock : StartedLock) : Type 0 where
+pub record IsStarted (c : Config) (v : Knowledge) (l : Noted) (lock : StartedLock) : Type 0 where
   pub may : MayWalk v
   pub range : lock.object < c.objects
   pub stands : Stands c v l
@@ -138,7 +138,7 @@ pub record IsStarted (c : Config) (v : View) (l : Noted) (lock : StartedLock) : 
   pub few : l.held < c.write_max
 
 -- a lock of an object that wasn't held was begun, with these words
-pub record Starts (c : Config) (v w : View) (l : Noted) (object : ℕ) (words : List ℕ) (lock : StartedLock) : Type 0 where
+pub record Starts (c : Config) (v w : Knowledge) (l : Noted) (object : ℕ) (words : List ℕ) (lock : StartedLock) : Type 0 where
   pub lacks : touches (own_of c v.ring) object ≡ false
   pub room : HasRoom c v
   pub object_is : lock.object ≡ object

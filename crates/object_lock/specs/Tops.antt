@@ -7,14 +7,14 @@ use Rattle.mv_history.specs.declared.StepKind.TheVariants.{LoadHead, LoadFirst, 
 use Rattle.mv_history.specs.declared.answers.LockAnswer.{LockAnswer}
 use Rattle.mv_history.specs.declared.answers.LockAnswer.TheVariants.{Busy, Stale}
 use Rattle.mv_layout.specs.declared.Config.{Config}
-use Rattle.mv_layout.specs.declared.Place.TheVariants.{Head, First, Stamp}
+use Rattle.mv_layout.specs.declared.SharedWord.TheVariants.{Head, First, Stamp}
 use Rattle.mv_layout.specs.Places.{place_of}
 use Rattle.mv_layout.specs.Words.{IsUnset, link_seat_of}
 use Rattle.seat_log.specs.mv_core.declared.ring.Slot.TheVariants.{Live}
 use Rattle.seat_log.specs.mv_core.declared.ring.Version.{Version}
-use Rattle.seat_log.specs.mv_core.declared.ring.Status.TheVariants.{Held as held_status}
-use Rattle.seat_log.specs.mv_core.declared.view.View.{View}
-use Rattle.seat_log.specs.mv_core.declared.view.Walk.TheVariants as place
+use Rattle.seat_log.specs.mv_core.declared.ring.WriteSetStatus.TheVariants.{Held as held_status}
+use Rattle.seat_log.specs.mv_core.declared.view.Knowledge.{Knowledge}
+use Rattle.seat_log.specs.mv_core.declared.view.WalkStage.TheVariants as place
 use Rattle.seat_log.specs.mv_core.Rings.{slot_at, index_of}
 use Rattle.seat_log.specs.mv_core.HistoryFacts.{BeginsWith}
 use Rattle.seat_log.specs.mv_core.WalkSteps.{IsPackedOf, IsLinkOf, IsWriteOf, IsOwnTime, slot_named, first_loaded}
@@ -23,17 +23,17 @@ use Rattle.version_chain.specs.Walks.{section_in, time_at, stand_in, version_loo
 use Rattle.version_chain.specs.Reads.{words_in}
 
 -- the section doesn't hold the object
-abbrev pub IsUnheld : View → ℕ → Type 0
+abbrev pub IsUnheld : Knowledge → ℕ → Type 0
 IsUnheld v object = (k : ℕ) (x : Version) → slot_at v.ring k ≡ Live x held_status → x.object ≢ object
 
 -- the walk stands at the version that this link names
-pub record StandsOn (c : Config) (v : View) (link : ℕ) : Type 0 where
+pub record StandsOn (c : Config) (v : Knowledge) (link : ℕ) : Type 0 where
   pub stands : v.walk ≡ place.At (stand_in v)
   pub link_is : (stand_in v).link ≡ link
   pub packed : IsPackedOf c link
 
 -- FIRST and STAMP of that version were loaded, the second with this found
-pub record Looked (c : Config) (v w : View) (found : ℕ) : Type 0 where
+pub record Looked (c : Config) (v w : Knowledge) (found : ℕ) : Type 0 where
   pub first : ℕ
   pub view : w ≡ version_looked_at c v first found w.past.seen
   pub says : LookSays c v first found w.past.seen
@@ -62,7 +62,7 @@ lock_exchanges steps = filter (λ s. is_lock_exchange s.kind) steps
 -- What a lock leaves of a view, with the counter of steps before and after: what was seen is only longer, the trail has a record
 -- for each step and each is of a lock, of which `tried` are the exchanges of HEAD, and nothing else changes but the log, where the
 -- walk stands, and which HEADs were found empty.
-pub record Tries (v w : View) (before after : ℕ) (tried : List Step) : Type 0 where
+pub record Tries (v w : Knowledge) (before after : ℕ) (tried : List Step) : Type 0 where
   pub seen : BeginsWith w.past.seen v.past.seen
   pub trail : (steps : List Step) × (w.trail ≡ v.trail ++ steps) × (after ≡ before + length steps) × All (λ s. IsLockStep s.kind) steps
   pub exchanges : lock_exchanges trail.0 ≡ tried
@@ -87,13 +87,13 @@ pub record FoundHeld (c : Config) (object seat : ℕ) (start trail : List Step) 
   pub unset : IsUnset word
 
 -- the causes of a refusal: another seat was found holding the object, in steps of this call; or a commit after the section's time writes it, and was seen
-abbrev pub IsRefused : Config → View → View → ℕ → LockAnswer → Type 0
+abbrev pub IsRefused : Config → Knowledge → Knowledge → ℕ → LockAnswer → Type 0
 IsRefused c v w object (Busy seat) = (seat ≢ v.number) × FoundHeld c object seat v.trail w.trail
 IsRefused c v w object (Stale time) = (time_at v < time) × IsWriteOf c w.past.seen object time
 IsRefused c v w object _ = ⊥
 
 -- what is on top for the section: a link at which a lock may be put, with the words that are given, or else those that the section reads there; or why not
-abbrev pub TopAnswers : Config → View → View → ℕ → Option (List ℕ) → Result (ℕ × List ℕ) LockAnswer → Type 0
+abbrev pub TopAnswers : Config → Knowledge → Knowledge → ℕ → Option (List ℕ) → Result (ℕ × List ℕ) LockAnswer → Type 0
 TopAnswers c v w object given (Ok top) =
     StandsToLock w (section_in w) object top.0 × (top.1 ≡ unwrap_or given (words_in c w object)) × IsLinkOf c top.0
 TopAnswers c v w object given (Err answer) = IsRefused c v w object answer

@@ -2,7 +2,7 @@
 ghost use Rattle.std.specs.Prelude.{◌≡◌, ◌≢◌, ℕ, ◌+◌, ◌<◌, ◌≤◌, ◌^◌, true, false, List, [], length, None, unwrap_or, Err, IfOk, IfErr, OnErr};
 ghost use Rattle.mv_history.specs.State.{touches};
 ghost use Rattle.mv_layout.specs.Words.{link_seat_of};
-ghost use Rattle.seat_log.specs.mv_core.declared.view.Walk.TheVariants.{Master};
+ghost use Rattle.seat_log.specs.mv_core.declared.view.WalkStage.TheVariants.{Master};
 ghost use Rattle.seat_log.specs.mv_core.Rings.{own_of};
 ghost use Rattle.seat_log.specs.mv_core.Passes.{view, IsOf, IsSame, config_of};
 ghost use Rattle.seat_log.specs.mv_core.WalkSteps.{IsLinkOf};

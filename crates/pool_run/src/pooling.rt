@@ -7,7 +7,7 @@ ghost use Rattle.script_files.specs.declared.scripts.Grammar.TheVariants.{Sets};
 ghost use Rattle.script_files.specs.Scripts.{AnyStop, NoneFails, commands as by_command};
 
 use pool_domain::run_pool_domain;
-use run_kinds::{FromRun, Told, USUAL, WRITE_MAX, open_run, ran_or_met, tell};
+use run_kinds::{FromRun, RunAnswer, USUAL, WRITE_MAX, open_run, ran_or_met, tell};
 use run_outside::{Files, Gate};
 use run_words::Options;
 use script_files::{Grammar, Stop, read_scripts};
@@ -48,7 +48,7 @@ fn pool_sets<R: Threads + Wait + Sync, G: Gate>(
     seats: u32,
     commands: &[Command],
     gate: &G,
-) -> Result<Told<SetRules, Catalogue>, AllocError>
+) -> Result<RunAnswer<SetRules, Catalogue>, AllocError>
     requires fit { FitOptions options }
     requires some { 1 ≤ seats }
     requires few { seats ≤ 8 }
@@ -60,7 +60,7 @@ fn pool_sets<R: Threads + Wait + Sync, G: Gate>(
         rt, alloc, domain, seats, commands, gate,
     ))?;
     let end = read_all(alloc, &mut closing)?;
-    Ok(Told {
+    Ok(RunAnswer {
         closing,
         lines,
         end,

@@ -9,10 +9,10 @@ use Rattle.mv_history.specs.declared.StepKind.{StepKind}
 use Rattle.mv_history.specs.declared.StepKind.TheVariants.{LoadLow, StoreMark, LoadTime}
 use Rattle.mv_layout.specs.declared.Config.{Config}
 use Rattle.mv_layout.specs.Words.{clock_time_of, clock_slot_of}
-use Rattle.commit_clock.specs.mv_core.declared.view.View.{View}
+use Rattle.commit_clock.specs.mv_core.declared.view.Knowledge.{Knowledge}
 use Rattle.commit_clock.specs.mv_core.declared.view.Past.{Past}
 use Rattle.commit_clock.specs.mv_core.declared.view.Phase.TheVariants.{Inside}
-use Rattle.commit_clock.specs.mv_core.declared.view.Section.{Section}
+use Rattle.commit_clock.specs.mv_core.declared.view.OwnSection.{OwnSection}
 use Rattle.commit_clock.specs.mv_core.declared.view.Mode.TheVariants.{Open}
 use Rattle.commit_clock.specs.mv_core.Rings.{HoldsNothing}
 use Rattle.commit_clock.specs.mv_core.HistoryFacts.{BeginsWith}
@@ -28,13 +28,13 @@ help_enters LoadTime x = tt
 help_enters _ x = x
 
 -- the view once the time was taken
-abbrev entered : Config → View → ℕ → ℕ → List Entry → View
+abbrev entered : Config → Knowledge → ℕ → ℕ → List Entry → Knowledge
 entered c v low word h = time_loaded c (mark_stored c (low_loaded c v low) (clock_time_of low)) word h
 
-module _ (c : Config) (v : View) (low word : ℕ) (h : List Entry) (w : View) (last : Option ℕ) (whole : IsWhole c v word h)
+module _ (c : Config) (v : Knowledge) (low word : ℕ) (h : List Entry) (w : Knowledge) (last : Option ℕ) (whole : IsWhole c v word h)
     (helps : Helps c (entered c v low word h) w word) (finds : FindsClock c (entered c v low word h) w last)
     (none : clock_slot_of word ≡ 8191 → w ≡ entered c v low word h) where
-  abbrev inside : Section
+  abbrev inside : OwnSection
   inside = record { low = clock_time_of low; word = word; mode = Open }
 
   -- what the help found is no less than the history at the time taken
@@ -63,7 +63,8 @@ module _ (c : Config) (v : View) (low word : ℕ) (h : List Entry) (w : View) (l
         few = omega arith;
         three = λ e.
             let trail : List Step = (entered c v low word h).trail in
-            let same : length trail ≡ length trail + length t.0 = ap (λ (u : View). length u.trail) (sym (none e)) ∙ ap length t.1 ∙ length-append trail t.0 in
+            let same : length trail ≡ length trail + length t.0 = ap (λ (u : Knowledge). length u.trail) (sym (none e)) ∙ ap length t.1
+            ∙ length-append trail t.0 in
             omega arith;
         kinds = All-append (λ s. IsEnterStep s.kind) first t.0
             (All-cons (λ s. IsEnterStep s.kind) a (b ∷ d ∷ []) tt
@@ -81,8 +82,8 @@ module _ (c : Config) (v : View) (low word : ℕ) (h : List Entry) (w : View) (l
         phase = phase_is;
         open_is = refl;
         past_help = helps.helped;
-        nothing = subst (λ (u : View). HoldsNothing u.ring) (sym helps.rest) nothing;
-        no_back = ap (λ (u : View). u.back) helps.rest;
+        nothing = subst (λ (u : Knowledge). HoldsNothing u.ring) (sym helps.rest) nothing;
+        no_back = ap (λ (u : Knowledge). u.back) helps.rest;
         at = length h;
         time_is = whole.1;
         word_is = refl;
@@ -93,19 +94,19 @@ module _ (c : Config) (v : View) (low word : ℕ) (h : List Entry) (w : View) (l
       }
 
 -- the time of all that is seen is the greatest that was found
-pub last_found : (c : Config) (v w : View) (word : ℕ) (last : Option ℕ) → clock_time_of word ≡ c.base + length v.past.seen → FindsClock c v w last
+pub last_found : (c : Config) (v w : Knowledge) (word : ℕ) (last : Option ℕ) → clock_time_of word ≡ c.base + length v.past.seen → FindsClock c v w last
     → (x : ℕ) → x ≡ unwrap_or last word → clock_time_of x ≡ c.base + length w.past.seen
 last_found c v w word None time finds x is = ap clock_time_of is ∙ time ∙ ap (λ (p : Past). c.base + length p.seen) (sym finds)
 last_found c v w word (Some y) time finds x is = ap clock_time_of is ∙ finds.1.1 ∙ ap (λ (p : Past). c.base + length p.seen) (sym finds.2)
 
 -- the section that the four calls of an `enter` begin
-pub begins : (c : Config) (v v1 v2 v3 w : View) (low mark word time : ℕ) (h : List Entry) (last : Option ℕ) → v1 ≡ low_loaded c v low
+pub begins : (c : Config) (v v1 v2 v3 w : Knowledge) (low mark word time : ℕ) (h : List Entry) (last : Option ℕ) → v1 ≡ low_loaded c v low
     → mark ≡ clock_time_of low → v2 ≡ mark_stored c v1 mark → IsWhole c v2 word h → v3 ≡ time_loaded c v2 word h
     → HoldsNothing v3.ring → Helps c v3 w word → FindsClock c v3 w last → (clock_slot_of word ≡ 8191 → w ≡ v3) → time ≡ clock_time_of word → Begins c v w time
 begins c v v1 v2 v3 w low mark word time h last is1 marks is2 whole is3 nothing helps finds none times =
     let marked : v2 ≡ mark_stored c (low_loaded c v low) (clock_time_of low) =
-    is2 ∙ ap (λ (u : View). mark_stored c u mark) is1 ∙ ap (mark_stored c (low_loaded c v low)) marks in
-    let same : v3 ≡ entered c v low word h = is3 ∙ ap (λ (u : View). time_loaded c u word h) marked in
+    is2 ∙ ap (λ (u : Knowledge). mark_stored c u mark) is1 ∙ ap (mark_stored c (low_loaded c v low)) marks in
+    let same : v3 ≡ entered c v low word h = is3 ∙ ap (λ (u : Knowledge). time_loaded c u word h) marked in
     subst (Begins c v w) (sym times)
-    (begins_go c v low word h w last (subst (λ (u : View). IsWhole c u word h) marked whole) (subst (λ (u : View). Helps c u w word) same helps)
-    (subst (λ (u : View). FindsClock c u w last) same finds) (λ e. none e ∙ same) (subst (λ (u : View). HoldsNothing u.ring) same nothing))
+    (begins_go c v low word h w last (subst (λ (u : Knowledge). IsWhole c u word h) marked whole) (subst (λ (u : Knowledge). Helps c u w word) same helps)
+    (subst (λ (u : Knowledge). FindsClock c u w last) same finds) (λ e. none e ∙ same) (subst (λ (u : Knowledge). HoldsNothing u.ring) same nothing))

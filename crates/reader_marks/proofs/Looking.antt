@@ -8,7 +8,7 @@ use Rattle.mv_history.specs.declared.Entry.{Entry}
 use Rattle.mv_history.specs.declared.Step.{Step}
 use Rattle.mv_layout.specs.declared.Config.{Config}
 use Rattle.mv_layout.specs.Words.{clock_time_of}
-use Rattle.commit_clock.specs.mv_core.declared.view.View.{View}
+use Rattle.commit_clock.specs.mv_core.declared.view.Knowledge.{Knowledge}
 use Rattle.commit_clock.specs.mv_core.declared.view.Scan.{Scan}
 use Rattle.commit_clock.specs.mv_core.EnterSteps.{IsWhole}
 use Rattle.commit_clock.specs.mv_core.ReclaimSteps.{other_from, scan_on, grace_on, scan_loaded, MayLoadMark, least_with, mark_loaded}
@@ -156,9 +156,10 @@ least_is l n (suc low) =
     subst (λ (b : Bool). let x : Lowest = cond b (record { low = low; seat = Some n }) l in least_with l.low (suc low) ≡ x.low) (sym e) (least ∙ m))
     (cases_lt low l.low)
 
-module _ (c : Config) (v : View) where
+module _ (c : Config) (v : Knowledge) where
   -- the load of CLOCK begins it
-  pub looks_first : (w : View) (word clock before after : ℕ) (h : List Entry) → IsWhole c v word h → w ≡ scan_loaded c v word h → clock ≡ clock_time_of word
+  pub looks_first : (w : Knowledge) (word clock before after : ℕ) (h : List Entry) → IsWhole c v word h → w ≡ scan_loaded c v word h
+      → clock ≡ clock_time_of word
       → after ≡ before + 1 → Looks c v w clock 0 (record { low = clock; seat = None }) before after
   looks_first w word clock before after h whole is clock_is count = record {
     word = word;
@@ -172,7 +173,7 @@ module _ (c : Config) (v : View) where
     count = count;
   }
 
-  module _ (w : View) (clock n : ℕ) (l : Lowest) (before after : ℕ) (k : Looks c v w clock n l before after) where
+  module _ (w : Knowledge) (clock n : ℕ) (l : Lowest) (before after : ℕ) (k : Looks c v w clock n l before after) where
     -- the mark of this seat may be loaded
     pub may_look : n < c.seats → n ≢ v.number → (scan : Scan) × MayLoadMark c w n scan
     may_look lt ne =
@@ -181,7 +182,8 @@ module _ (c : Config) (v : View) where
         let in_range : nat_lt n c.seats ≡ true = grind (arith, nat_tests) in (
           scan,
           record {
-            running = ap (λ (u : View). u.scan) k.view ∙ ap (scan_on c (clock_time_of k.word) l.low) on ∙ ap (λ (b : Bool). cond b (Some scan) None) in_range;
+            running = ap (λ (u : Knowledge). u.scan) k.view ∙ ap (scan_on c (clock_time_of k.word) l.low) on
+                ∙ ap (λ (b : Bool). cond b (Some scan) None) in_range;
             next = refl;
             in_range = lt;
           },
@@ -210,7 +212,7 @@ module _ (c : Config) (v : View) where
         }
 
     -- another is
-    pub looks_other : (u : View) (mark count : ℕ) (scan : Scan) → n < c.seats → n ≢ v.number → w.scan ≡ Some scan → u ≡ mark_loaded c w n scan mark
+    pub looks_other : (u : Knowledge) (mark count : ℕ) (scan : Scan) → n < c.seats → n ≢ v.number → w.scan ≡ Some scan → u ≡ mark_loaded c w n scan mark
         → count ≡ after + 1 → Looks c v u clock (n + 1) (lowered l n mark) before count
     unfolding may_look
     looks_other u mark count scan lt ne running is step =
@@ -235,7 +237,7 @@ module _ (c : Config) (v : View) where
           marks = more k.marks n mark;
           own = more_else k.marks n mark v.number (λ e. ne (sym e)) ∙ k.own;
           lowest = lowest_more clock k.marks n l mark k.lowest;
-          view = is ∙ ap (λ (z : View). mark_loaded c z n scan mark) k.view
+          view = is ∙ ap (λ (z : Knowledge). mark_loaded c z n scan mark) k.view
               ∙ ap (λ (z : Scan). mark_loaded c (looking c v k.word k.h k.marks n l.low) n z mark) scan_is ∙ (λ i. record v {
                 past = record v.past { seen = k.h };
                 scan = scan_on c (clock_time_of k.word) (least i) next;
@@ -271,7 +273,7 @@ few c own marks (suc n) =
     let one : length here ≤ 1 = at_most_one (n == own) (mark_step c n (marks n)) in
     let was = few c own marks n in omega arith
 
-module _ (c : Config) (v w u : View) (clock : ℕ) (l : Lowest) (before after count : ℕ) (k : Looks c v w clock c.seats l before after)
+module _ (c : Config) (v w u : Knowledge) (clock : ℕ) (l : Lowest) (before after count : ℕ) (k : Looks c v w clock c.seats l before after)
     (lt : v.number < c.seats) (none : v.scan ≡ None) (found : ℕ) (mark : Watermark) where
   -- where a scan is past the last seat, it is finished
   past_last : other_from v.number c.seats ≡ c.seats
@@ -302,7 +304,7 @@ module _ (c : Config) (v w u : View) (clock : ℕ) (l : Lowest) (before after co
         unmarked = named.1;
         found = found;
         time = time ∙ ap (λ (t : ℕ). max t found) (sym low);
-        view = is ∙ ap (λ (z : View). grace_raised c z l.low found) k.view ∙ (λ i. record v {
+        view = is ∙ ap (λ (z : Knowledge). grace_raised c z l.low found) k.view ∙ (λ i. record v {
           past = record v.past { seen = k.h };
           scan = scan_is i;
           grace = max (grace_is i) found;
@@ -313,7 +315,8 @@ module _ (c : Config) (v w u : View) (clock : ℕ) (l : Lowest) (before after co
       }
 
 -- the steps of a scan
-pub scan_cost : (c : Config) (v w : View) (mark : Watermark) (clock before after : ℕ) → Scans c v w mark clock before after → after ≤ before + (c.seats + 3)
+pub scan_cost : (c : Config) (v w : Knowledge) (mark : Watermark) (clock before after : ℕ) → Scans c v w mark clock before after
+    → after ≤ before + (c.seats + 3)
 scan_cost c v w mark clock before after s =
     let loads : List Step = mark_steps c v.number s.marks c.seats in
     let last : List Step = grace_step c mark.low s.found ∷ [] in
@@ -322,7 +325,7 @@ scan_cost c v w mark clock before after s =
     let count = s.count in omega arith
 
 -- the time that it found is known
-pub scan_known : (c : Config) (v w : View) (mark : Watermark) (clock before after : ℕ) → Scans c v w mark clock before after → IsKnown w mark
+pub scan_known : (c : Config) (v w : Knowledge) (mark : Watermark) (clock before after : ℕ) → Scans c v w mark clock before after → IsKnown w mark
 scan_known c v w mark clock before after s =
     let time = s.time in
-    let grace : w.grace ≡ max (max v.grace mark.low) s.found = ap (λ (u : View). u.grace) s.view in omega arith
+    let grace : w.grace ≡ max (max v.grace mark.low) s.found = ap (λ (u : Knowledge). u.grace) s.view in omega arith

@@ -3,7 +3,7 @@ use Rattle.std.specs.Prelude.{◌≡◌, ℕ, zero, suc, ◌+◌, nat_lt, if◌t
 use Rattle.mv_history.specs.declared.Entry.{Entry}
 use Rattle.mv_layout.specs.declared.Config.{Config}
 use Rattle.mv_layout.specs.Words.{clock_time_of}
-use Rattle.commit_clock.specs.mv_core.declared.view.View.{View}
+use Rattle.commit_clock.specs.mv_core.declared.view.Knowledge.{Knowledge}
 use Rattle.commit_clock.specs.mv_core.EnterSteps.{IsWhole}
 use Rattle.commit_clock.specs.mv_core.ReclaimSteps.{other_from, scan_on, grace_on}
 use Rattle.reader_marks.specs.declared.scanning.Lowest.{Lowest}
@@ -15,7 +15,7 @@ lowered l seat zero = l
 lowered l seat (suc low) = if nat_lt low l.low then record { low = low; seat = Some seat } else l
 
 -- the view of a scan that has come to the seat n
-abbrev pub looking : Config → View → ℕ → List Entry → (ℕ → ℕ) → ℕ → ℕ → View
+abbrev pub looking : Config → Knowledge → ℕ → List Entry → (ℕ → ℕ) → ℕ → ℕ → Knowledge
 looking c v word h marks n low = record v {
   past = record v.past { seen = h };
   scan = scan_on c (clock_time_of word) low (other_from v.number n);
@@ -24,7 +24,7 @@ looking c v word h marks n low = record v {
 }
 
 -- a scan has come to the seat n
-pub record Looks (c : Config) (v w : View) (clock n : ℕ) (l : Lowest) (before after : ℕ) : Type 0 where
+pub record Looks (c : Config) (v w : Knowledge) (clock n : ℕ) (l : Lowest) (before after : ℕ) : Type 0 where
   pub word : ℕ
   pub clock_is : clock ≡ clock_time_of word
   pub h : List Entry

@@ -5,10 +5,10 @@ use Rattle.mv_history.specs.declared.Entry.{Entry}
 use Rattle.mv_history.specs.declared.Step.{Step}
 use Rattle.mv_history.specs.declared.StepKind.TheVariants.{LoadScan, LoadMark, RaiseGrace}
 use Rattle.mv_layout.specs.declared.Config.{Config}
-use Rattle.mv_layout.specs.declared.Place.TheVariants.{Clock, Grace, Mark}
+use Rattle.mv_layout.specs.declared.SharedWord.TheVariants.{Clock, Grace, Mark}
 use Rattle.mv_layout.specs.Places.{place_of}
 use Rattle.mv_layout.specs.Words.{clock_time_of}
-use Rattle.commit_clock.specs.mv_core.declared.view.View.{View}
+use Rattle.commit_clock.specs.mv_core.declared.view.Knowledge.{Knowledge}
 use Rattle.commit_clock.specs.mv_core.EnterSteps.{IsWhole}
 use Rattle.reader_marks.specs.declared.scanning.Watermark.{Watermark}
 
@@ -52,7 +52,7 @@ abbrev pub scan_steps : Config → ℕ → ℕ → (ℕ → ℕ) → ℕ → ℕ
 scan_steps c own word marks low found = scan_step c word ∷ mark_steps c own marks c.seats ++ grace_step c low found ∷ []
 
 -- the view that a scan leaves
-abbrev pub scanned : Config → View → ℕ → List Entry → (ℕ → ℕ) → ℕ → ℕ → View
+abbrev pub scanned : Config → Knowledge → ℕ → List Entry → (ℕ → ℕ) → ℕ → ℕ → Knowledge
 scanned c v word h marks low found = record v {
   past = record v.past { seen = h };
   scan = None;
@@ -62,7 +62,7 @@ scanned c v word h marks low found = record v {
 
 -- A scan found this watermark, and this time in CLOCK: it loaded CLOCK and the mark of each other seat, and raised GRACE by the
 -- least time of them. The whole history at its first step is seen. The counter of steps grew by as many as were made.
-pub record Scans (c : Config) (v w : View) (mark : Watermark) (clock before after : ℕ) : Type 0 where
+pub record Scans (c : Config) (v w : Knowledge) (mark : Watermark) (clock before after : ℕ) : Type 0 where
   pub word : ℕ
   pub clock_is : clock ≡ clock_time_of word
   pub h : List Entry
@@ -77,5 +77,5 @@ pub record Scans (c : Config) (v w : View) (mark : Watermark) (clock before afte
   pub count : after ≡ before + length (scan_steps c v.number word marks mark.low found)
 
 -- the mark is known: its time is not above the watermark of the pass
-abbrev pub IsKnown : View → Watermark → Type 0
+abbrev pub IsKnown : Knowledge → Watermark → Type 0
 IsKnown v mark = mark.time ≤ v.grace

@@ -5,12 +5,12 @@ use Rattle.mv_history.specs.declared.StepKind.{StepKind}
 use Rattle.mv_history.specs.declared.StepKind.TheVariants.{LoadLow, StoreMark, LoadTime}
 use Rattle.mv_layout.specs.declared.Config.{Config}
 use Rattle.mv_layout.specs.Words.{clock_time_of, clock_slot_of}
-use Rattle.commit_clock.specs.mv_core.declared.view.View.{View}
+use Rattle.commit_clock.specs.mv_core.declared.view.Knowledge.{Knowledge}
 use Rattle.commit_clock.specs.mv_core.declared.view.Phase.{Phase}
 use Rattle.commit_clock.specs.mv_core.declared.view.Phase.TheVariants.{Inside}
-use Rattle.commit_clock.specs.mv_core.declared.view.Section.{Section}
+use Rattle.commit_clock.specs.mv_core.declared.view.OwnSection.{OwnSection}
 use Rattle.commit_clock.specs.mv_core.declared.view.Mode.TheVariants.{Open}
-use Rattle.commit_clock.specs.mv_core.declared.view.Walk.TheVariants.{Nowhere}
+use Rattle.commit_clock.specs.mv_core.declared.view.WalkStage.TheVariants.{Nowhere}
 use Rattle.commit_clock.specs.mv_core.Rings.{HoldsNothing}
 use Rattle.commit_clock.specs.mv_core.HistoryFacts.{BeginsWith}
 use Rattle.commit_clock.specs.mv_core.SectionFacts.{IsPastHelp}
@@ -34,8 +34,8 @@ pub record EntersBy (before after : List Step) (word : ℕ) : Type 0 where
 
 -- A section begins: it is open and past its help, holds nothing, walks nowhere and writes nothing back. Its time is base and the length of its
 -- snapshot, which begins with all that was seen before and is the first part of what is seen now. Nothing else changes.
-pub record Begins (c : Config) (v w : View) (time : ℕ) : Type 0 where
-  pub inside : Section
+pub record Begins (c : Config) (v w : Knowledge) (time : ℕ) : Type 0 where
+  pub inside : OwnSection
   pub phase : w.phase ≡ Inside inside
   pub open_is : inside.mode ≡ Open
   pub past_help : IsPastHelp w.clocks inside
@@ -50,17 +50,17 @@ pub record Begins (c : Config) (v w : View) (time : ℕ) : Type 0 where
   pub rest : w ≡ record v { past = record v.past { seen = w.past.seen }; phase = w.phase; clocks = w.clocks; walk = Nowhere; back = None; trail = w.trail }
 
 -- the section of a phase; it tells nothing of a phase outside one
-abbrev pub inside_of : Phase → Section
+abbrev pub inside_of : Phase → OwnSection
 inside_of (Inside inside) = inside
 inside_of _ = record { low = 0; word = 0; mode = Open }
 
 -- the section that a view is in
-abbrev pub section_in : View → Section
+abbrev pub section_in : Knowledge → OwnSection
 section_in v = inside_of v.phase
 
 -- an open section that holds nothing
-pub record IsOpen (v : View) : Type 0 where
-  pub inside : Section
+pub record IsOpen (v : Knowledge) : Type 0 where
+  pub inside : OwnSection
   pub phase : v.phase ≡ Inside inside
   pub open_is : inside.mode ≡ Open
   pub nothing : HoldsNothing v.ring

@@ -2,7 +2,8 @@
 use Rattle.std.proofs.Common.{◌≡◌, ℕ, zero, suc, ◌-◌, ◌<◌, List, [], ◌∷◌, length, get_or, arith, replicate, set, refl, sym, ap, ◌∙◌, subst, Option, Some, None}
 use Rattle.std.proofs.lemmas.List.{get_or-replicate, length-replicate}
 use Rattle.mv_layout.proofs.InCells.{in_cells, shows_put}
-use Rattle.mv_core.proofs.Terms.{Config, Checked, Place, Clock, Grace, Mark, Head, Master, First, Stamp, Prev, Super, Data, IsPlace, Memory, put, Shows, cells}
+use Rattle.mv_core.proofs.Terms.{Config, Checked, SharedWord, Clock, Grace, Mark, Head, Master, First, Stamp, Prev, Super, Data, IsPlace, Memory, put, Shows}
+use Rattle.mv_core.proofs.Terms.{cells}
 use Rattle.mv_core.proofs.Terms.{cell_of, clock_of}
 use Rattle.mv_core.specs.Start.{opening_memory}
 use Rattle.mv_core.specs.Moves.{memory_after, opening_of, IsStorable}
@@ -10,15 +11,15 @@ use Rattle.replay_rules.specs.States.{zeros, opened, Made, may_in, place_in, wri
 use Rattle.replay_rules.proofs.Replays.{memory_made, zero_words}
 
 -- words that show a memory show each one that is equal to it
-shows_same : (c : Config) (words : List ℕ) (m n : Memory) → ((p : Place) → m p ≡ n p) → Shows c words m → Shows c words n
+shows_same : (c : Config) (words : List ℕ) (m n : Memory) → ((p : SharedWord) → m p ≡ n p) → Shows c words m → Shows c words n
 shows_same c words m n same s = record { wide = s.wide; each = λ p range. s.each p range ∙ same p }
 
 -- the words after a write, if there is one
-abbrev pub words_after : Config → List ℕ → Place → Option ℕ → List ℕ
+abbrev pub words_after : Config → List ℕ → SharedWord → Option ℕ → List ℕ
 words_after c words place None = words
 words_after c words place (Some new) = set words (cell_of c place) new
 
-shows_after : (c : Config) (words : List ℕ) (m : Memory) (place : Place) (o : Option ℕ) → Checked c → Shows c words m → IsPlace c place
+shows_after : (c : Config) (words : List ℕ) (m : Memory) (place : SharedWord) (o : Option ℕ) → Checked c → Shows c words m → IsPlace c place
     → Shows c (words_after c words place o) (memory_after m place o)
 shows_after c words m place None k s range = s
 shows_after c words m place (Some new) k s range = shows_put c words m place new k s range
@@ -32,7 +33,7 @@ module _ (c : Config) (k : Checked c) where
   abbrev laid : Memory
   laid = put (put (λ p. 0) Clock (clock_of c.base 0 8191)) Grace c.base
 
-  laid_is : (p : Place) → laid p ≡ opening_memory c (zeros c) p
+  laid_is : (p : SharedWord) → laid p ≡ opening_memory c (zeros c) p
   laid_is Clock = refl
   laid_is Grace = refl
   laid_is (Mark s) = refl
@@ -52,14 +53,14 @@ module _ (c : Config) (k : Checked c) where
       (shows_same c _ laid (opened c).memory
       (λ p. laid_is p ∙ sym (ap (λ (m : Memory). m p) (memory_made c (c.seats - 1) (opening_of c (zeros c))))) both)
 
-  module _ (words : List ℕ) (made : List Made) (step : Made) (place : Place) (writes : ℕ → Option ℕ)
+  module _ (words : List ℕ) (made : List Made) (step : Made) (place : SharedWord) (writes : ℕ → Option ℕ)
       (shows : Shows c words (state_of c made).memory)
       (place_is : place_in c (state_of c made) step ≡ place) (range : IsPlace c place)
       (writes_are : (found : ℕ) → writes_in c (state_of c made) step found ≡ writes found) where
     abbrev m : Memory
     m = (state_of c made).memory
 
-    abbrev at : Place
+    abbrev at : SharedWord
     at = place_in c (state_of c made) step
 
     -- what is written
@@ -83,14 +84,14 @@ same_element (w ∷ words) zero d e lt = refl
 same_element (w ∷ words) (suc i) d e lt = same_element words i d e (omega (arith, lt))
 
 -- what is found at a word's cell
-pub found_is : (c : Config) (k : Checked c) (words : List ℕ) (m : Memory) (place : Place) (index found : ℕ) → Shows c words m → IsPlace c place
+pub found_is : (c : Config) (k : Checked c) (words : List ℕ) (m : Memory) (place : SharedWord) (index found : ℕ) → Shows c words m → IsPlace c place
     → index ≡ cell_of c place → found ≡ get_or words index found → found ≡ m place
 found_is c k words m place index found s range is e =
     e ∙ same_element words index found 0 (let lt = in_cells c place k range in let wide = s.wide in omega (arith, is, lt, wide))
     ∙ ap (λ i. get_or words i 0) is ∙ s.each place range
 
 -- what is found at a word's cell is the word there
-pub word_is : (c : Config) (k : Checked c) (words : List ℕ) (place : Place) (index found : ℕ) → length words ≡ cells c → IsPlace c place
+pub word_is : (c : Config) (k : Checked c) (words : List ℕ) (place : SharedWord) (index found : ℕ) → length words ≡ cells c → IsPlace c place
     → index ≡ cell_of c place → found ≡ get_or words index found → found ≡ get_or words (cell_of c place) 0
 word_is c k words place index found wide range is e =
     e ∙ same_element words index found 0 (let lt = in_cells c place k range in omega (arith, is, lt, wide)) ∙ ap (λ i. get_or words i 0) is

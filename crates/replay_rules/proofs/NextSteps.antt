@@ -1,7 +1,7 @@
 -- A turn behind steps of the core is behind one more of them, where its step is one that may come next.
 use Rattle.std.proofs.Common.{◌≡◌, ℕ, List, ◌∷◌, Option, Some, None, refl, sym, ap, subst, arith}
-use Rattle.mv_core.proofs.Terms.{Config, Checked, Place, Shows}
-use Rattle.replay_rules.specs.declared.seats.Task.{Task}
+use Rattle.mv_core.proofs.Terms.{Config, Checked, SharedWord, Shows}
+use Rattle.replay_rules.specs.declared.seats.NextStep.{NextStep}
 use Rattle.replay_rules.specs.States.{Made, state_of}
 use Rattle.replay_rules.specs.Words.{word_at, words_with}
 use Rattle.replay_rules.specs.Tasks.{place_in_task, access_in_task, written_by}
@@ -13,7 +13,7 @@ use Rattle.replay_rules.proofs.Machines.{words_after, shows_next}
 use Rattle.replay_rules.proofs.OneStep.{turn_is}
 
 -- both say which words are there after a write
-same_words : (c : Config) (words : List ℕ) (place : Place) (o : Option ℕ) → words_after c words place o ≡ words_with c words place o
+same_words : (c : Config) (words : List ℕ) (place : SharedWord) (o : Option ℕ) → words_after c words place o ≡ words_with c words place o
 same_words c words place None = refl
 same_words c words place (Some new) = refl
 
@@ -21,9 +21,9 @@ same_words c words place (Some new) = refl
 pub lined : (c : Config) (t : TapeOf) (made : List Made) (line : List ℕ) → IsTapeBehind c t made → IsTapeBehind c (with_line t line) made
 lined c t made line b = record { each = b.each; shows = b.shows; count = b.count }
 
-module _ (c : Config) (k : Checked c) (made : List Made) (t : TapeOf) (b : IsTapeBehind c t made) (step : Made) (seat : ℕ) (task : Task)
+module _ (c : Config) (k : Checked c) (made : List Made) (t : TapeOf) (b : IsTapeBehind c t made) (step : Made) (seat : ℕ) (task : NextStep)
     (is : IsStepOf c made step seat task) where
-  abbrev place : Place
+  abbrev place : SharedWord
   place = place_in_task c seat task
 
   abbrev writes : ℕ → Option ℕ

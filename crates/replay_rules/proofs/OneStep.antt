@@ -4,7 +4,7 @@ use Rattle.std.proofs.lemmas.List.{append-nil}
 use Rattle.mv_layout.specs.declared.config.Config.{Config}
 use Rattle.replay_rules.specs.declared.plan.Call.{Call}
 use Rattle.replay_rules.specs.declared.plan.CallOf.{CallOf}
-use Rattle.replay_rules.specs.declared.seats.Task.{Task}
+use Rattle.replay_rules.specs.declared.seats.NextStep.{NextStep}
 use Rattle.replay_rules.specs.declared.seats.Then.{Then}
 use Rattle.replay_rules.specs.declared.seats.Then.TheVariants.{Goes, Ends}
 use Rattle.replay_rules.specs.Tasks.{place_in_task}
@@ -54,7 +54,7 @@ one_prints c call x =
     either_prints (call.seat == x.seat.state.seat) x.tape (call_looked c call.call x) (record { scene = x; task = None }) (call_prints c call.call x)
     ([], no_lines x.tape)
 
-on_prints : (task : Option Task) (t : TapeOf) (this next : Looked) → Prints t this.scene.tape → Prints this.scene.tape next.scene.tape
+on_prints : (task : Option NextStep) (t : TapeOf) (this next : Looked) → Prints t this.scene.tape → Prints this.scene.tape next.scene.tape
     → Prints t (looked_on task this next).scene.tape
 on_prints (Some task) t this next p q = p
 on_prints None t this next p q = prints_more t this.scene.tape next.scene.tape p q
@@ -67,25 +67,25 @@ looked_prints c (call ∷ calls) x =
     (looked_prints c calls this.scene)
 
 -- a step is made of a word of the domain, or none is
-after_is : (c : Config) (seat : ℕ) (task : Task) (old t new : TapeOf) (b : Bool) → is_place c (place_in_task c seat task) ≡ b → Prints old t
+after_is : (c : Config) (seat : ℕ) (task : NextStep) (old t new : TapeOf) (b : Bool) → is_place c (place_in_task c seat task) ≡ b → Prints old t
     → Prints (if b then tape_stepped c seat task (place_in_task c seat task) t else t) new → IsTurn c old new
 after_is c seat task old t new true there p q =
     one_step seat task p.0 q.0 there (q.1 ∙ ap (λ u. with_line (tape_stepped c seat task (place_in_task c seat task) u) q.0) p.1)
 after_is c seat task old t new false there p q = let both = prints_more old t new p q in no_step both.0 both.1
 
-made_is : (c : Config) (task : Task) (old : TapeOf) (x : Scene) → Prints old x.tape → IsTurn c old (step_made c task x).tape
+made_is : (c : Config) (task : NextStep) (old : TapeOf) (x : Scene) → Prints old x.tape → IsTurn c old (step_made c task x).tape
 made_is c task old x p =
     let found = found_in c x.seat.state.seat task x.tape in
     let seat = learned task found x.seat in
     after_is c x.seat.state.seat task old x.tape (step_made c task x).tape (is_place c (place_in_task c x.seat.state.seat task)) refl p
     (went_prints (then_after task c seat.log seat.state found) (record { seat = seat; tape = tape_after c x.seat.state.seat task x.tape }))
 
-begun_is_turn : (c : Config) (task : Option Task) (old : TapeOf) (x : Scene) → Prints old x.tape → IsTurn c old (turn_begun c task x).tape
+begun_is_turn : (c : Config) (task : Option NextStep) (old : TapeOf) (x : Scene) → Prints old x.tape → IsTurn c old (turn_begun c task x).tape
 begun_is_turn c (Some task) old x p = made_is c task old x p
 begun_is_turn c None old x p =
     let both = prints_more old x.tape (with_line x.tape (idle_line x.seat.state.seat)) p (idle_line x.seat.state.seat, refl) in no_step both.0 both.1
 
-turn_from : (c : Config) (task : Option Task) (x : Scene) → IsTurn c x.tape (turned_from c task x).tape
+turn_from : (c : Config) (task : Option NextStep) (x : Scene) → IsTurn c x.tape (turned_from c task x).tape
 turn_from c (Some task) x = made_is c task x.tape x ([], no_lines x.tape)
 turn_from c None x =
     let l = looked c x.seat.left x in

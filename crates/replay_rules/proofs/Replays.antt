@@ -6,7 +6,7 @@ use Rattle.std.proofs.lemmas.List.Elements.{All-replicate}
 use Rattle.std.proofs.lemmas.Bool.{cases_lt}
 use Rattle.mv_history.specs.Meaning.{words_at}
 use Rattle.mv_history.specs.Legal.{IsWords}
-use Rattle.mv_core.specs.declared.view.View.{View}
+use Rattle.mv_core.specs.declared.view.Knowledge.{Knowledge}
 use Rattle.mv_core.proofs.Terms.{Config, Checked, set_at}
 use Rattle.mv_core.specs.SeatSteps.{made_one, newly_made}
 use Rattle.mv_core.specs.Moves.{Moment, Act, act, IsSeat, Reached, moved, makes, steps, opening_of}
@@ -19,21 +19,21 @@ use Rattle.mv_core.proofs.moves.Notes.{seat_is}
 use Rattle.replay_rules.specs.States.{any_commit, any_start, zeros, with_made, opened, Made, state_of, AreMade}
 
 -- a seat that isn't joined and has no note; the first one has made so many, and no other one any
-abbrev pub IsUnjoined : ℕ → ℕ → View → Type 0
+abbrev pub IsUnjoined : ℕ → ℕ → Knowledge → Type 0
 IsUnjoined made n v = (n ≡ 0 → v.made ≡ made) × (n ≢ 0 → v.made ≡ 0) × (v.spent ≡ false) × (v.notes ≡ [])
 
-abbrev pub AreUnjoined : ℕ → (ℕ → View) → Type 0
+abbrev pub AreUnjoined : ℕ → (ℕ → Knowledge) → Type 0
 AreUnjoined made seats = (n : ℕ) → IsUnjoined made n (seats n)
 
 -- a step of a seat leaves that
-unjoined_after : (made : ℕ) (seats : ℕ → View) (n : ℕ) (w : View) → AreUnjoined made seats → w.made ≡ (seats n).made → w.notes ≡ (seats n).notes
+unjoined_after : (made : ℕ) (seats : ℕ → Knowledge) (n : ℕ) (w : Knowledge) → AreUnjoined made seats → w.made ≡ (seats n).made → w.notes ≡ (seats n).notes
     → w.spent ≡ (seats n).spent → AreUnjoined made (set_at seats n w)
 unjoined_after made seats n w u m notes spent =
     set_at_all (IsUnjoined made) seats n w (λ e. m ∙ (u n).0 e, λ ne. m ∙ (u n).1 ne, spent ∙ (u n).2, notes ∙ (u n).3) (λ t ne. u t)
 
 module _ (c : Config) where
   -- the making of a seat makes one more
-  unjoined_made : (made : ℕ) (seats : ℕ → View) → 0 < made → AreUnjoined made seats
+  unjoined_made : (made : ℕ) (seats : ℕ → Knowledge) → 0 < made → AreUnjoined made seats
       → AreUnjoined (made + 1) (set_at (set_at seats 0 (made_one c (seats 0))) (seats 0).made (newly_made c (seats 0)))
   unjoined_made made seats pos u =
       let first : (seats 0).made ≡ made = (u 0).0 refl in

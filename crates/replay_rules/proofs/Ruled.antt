@@ -5,7 +5,7 @@ use Rattle.std.proofs.lemmas.List.Elements.{All-nil}
 use mathlib.Core.Option.{some}
 use lib.ListN.{get_elem?}
 use Rattle.mv_core.proofs.Terms.{dite, ℕ_discrete, some-ne-none, Config, Checked, new_view, parts_of}
-use Rattle.mv_core.specs.declared.view.View.{View}
+use Rattle.mv_core.specs.declared.view.Knowledge.{Knowledge}
 use Rattle.mv_core.proofs.frames.SectionBounds.{none_in}
 use Rattle.mv_core.specs.Moves.{Reached}
 use Rattle.mv_core.specs.declared.shared.Opening.{Opening}
@@ -17,7 +17,8 @@ use Rattle.replay_rules.specs.ReplayLaws.{IsRuled}
 use Rattle.replay_rules.proofs.Replays.{AreUnjoined, made_behind, holds_behind}
 
 -- what stands in a list of views, and where
-element : (seats : ℕ → View) (first count id : ℕ) (v : View) → get_elem? (views_from seats first count) id ≡ some v → (id < count) × (v ≡ seats (first + id))
+element : (seats : ℕ → Knowledge) (first count id : ℕ) (v : Knowledge) → get_elem? (views_from seats first count) id ≡ some v → (id < count)
+    × (v ≡ seats (first + id))
 element seats first zero id v e = absurd (cc)
 element seats first (suc count) zero v e =
     let s : some (seats first) ≡ some v = e in
@@ -27,7 +28,7 @@ element seats first (suc count) (suc id) v e =
     let r = element seats (first + 1) count id v e in
     (omega (arith, r.0), r.1 ∙ ap seats (omega arith))
 
-stands : (seats : ℕ → View) (first count id : ℕ) → id < count → get_elem? (views_from seats first count) id ≡ some (seats (first + id))
+stands : (seats : ℕ → Knowledge) (first count id : ℕ) → id < count → get_elem? (views_from seats first count) id ≡ some (seats (first + id))
 stands seats first zero id lt = absurd (omega (arith, lt))
 stands seats first (suc count) zero lt = ap (λ n. some (seats n)) (omega arith)
 stands seats first (suc count) (suc id) lt = stands seats (first + 1) count id (omega (arith, lt)) ∙ ap (λ n. some (seats n)) (omega arith)
@@ -38,7 +39,7 @@ module _ (key : Opening) (k : Checked key.config) (from : key.start.value.items 
   abbrev c : Config
   c = key.config
 
-  abbrev seats : ℕ → View
+  abbrev seats : ℕ → Knowledge
   seats = (state_of key.config made).seats
 
   h : Holds any_start any_commit c (zeros c) (state_of c made)
@@ -47,22 +48,22 @@ module _ (key : Opening) (k : Checked key.config) (from : key.start.value.items 
   unjoined : AreUnjoined c.seats seats
   unjoined = (made_behind c k made all).0
 
-  view_at : (id : ℕ) (v : View) → get_elem? (views_from seats 0 c.seats) id ≡ some v → (id < c.seats) × (v ≡ seats id)
+  view_at : (id : ℕ) (v : Knowledge) → get_elem? (views_from seats 0 c.seats) id ≡ some v → (id < c.seats) × (v ≡ seats id)
   view_at id v e = let r = element seats 0 c.seats id v e in (r.0, r.1 ∙ ap seats (omega arith))
 
-  number_at : (id : ℕ) (v : View) → get_elem? (views_from seats 0 c.seats) id ≡ some v → v.number ≡ id
-  number_at id v e = ap (λ (u : View). u.number) (view_at id v e).1 ∙ (h.seats.own id).0
+  number_at : (id : ℕ) (v : Knowledge) → get_elem? (views_from seats 0 c.seats) id ≡ some v → v.number ≡ id
+  number_at id v e = ap (λ (u : Knowledge). u.number) (view_at id v e).1 ∙ (h.seats.own id).0
 
-  no_note : (id : ℕ) (v : View) → get_elem? (views_from seats 0 c.seats) id ≡ some v → v.notes ≡ []
-  no_note id v e = ap (λ (u : View). u.notes) (view_at id v e).1 ∙ (unjoined id).3
+  no_note : (id : ℕ) (v : Knowledge) → get_elem? (views_from seats 0 c.seats) id ≡ some v → v.notes ≡ []
+  no_note id v e = ap (λ (u : Knowledge). u.notes) (view_at id v e).1 ∙ (unjoined id).3
 
   first_made : (seats 0).made ≡ c.seats
   first_made = (unjoined 0).0 refl
 
-  maker_is : (id : ℕ) (v : View) → get_elem? (views_from seats 0 c.seats) id ≡ some v → 0 < v.made → id ≡ 0
+  maker_is : (id : ℕ) (v : Knowledge) → get_elem? (views_from seats 0 c.seats) id ≡ some v → 0 < v.made → id ≡ 0
   maker_is id v e pos =
       dite (ℕ_discrete id 0) (λ is. is)
-      (λ ne. let m = ap (λ (u : View). u.made) (view_at id v e).1 ∙ (unjoined id).1 ne in absurd (omega (arith, pos, m)))
+      (λ ne. let m = ap (λ (u : Knowledge). u.made) (view_at id v e).1 ∙ (unjoined id).1 ne in absurd (omega (arith, pos, m)))
 
   seated : Seated c (zeros c) (views_from seats 0 c.seats) seats
   seated = record {
@@ -75,11 +76,11 @@ module _ (key : Opening) (k : Checked key.config) (from : key.start.value.items 
     maker = λ id v e unspent pos.
         let first = maker_is id v e pos in (
           number_at id v e ∙ first,
-          λ s le. h.seats.later s (let m = ap (λ (u : View). u.made) (view_at id v e).1 ∙ ap (λ n. (seats n).made) first in omega (arith, m, le)),
+          λ s le. h.seats.later s (let m = ap (λ (u : Knowledge). u.made) (view_at id v e).1 ∙ ap (λ n. (seats n).made) first in omega (arith, m, le)),
         );
     made = λ i j v w a b p q pos.
         let first = maker_is i v a pos in
-        let m : v.made ≡ c.seats = ap (λ (u : View). u.made) (view_at i v a).1 ∙ ap (λ n. (seats n).made) first ∙ first_made in (
+        let m : v.made ≡ c.seats = ap (λ (u : Knowledge). u.made) (view_at i v a).1 ∙ ap (λ n. (seats n).made) first ∙ first_made in (
           (let n = number_at j w b in let lt = (view_at j w b).0 in omega (arith, m, n, lt)),
           subst (All (λ n. n.number < v.made)) (sym (no_note j w b)) (All-nil (λ n. n.number < v.made)),
         );

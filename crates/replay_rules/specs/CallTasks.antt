@@ -5,8 +5,8 @@ use Rattle.replay_rules.specs.declared.plan.Call.TheVariants as calls
 use Rattle.replay_rules.specs.declared.seats.Leaving.TheVariants.{Plainly, WithCommit, WithAbort}
 use Rattle.replay_rules.specs.declared.seats.Ending.{Ending}
 use Rattle.replay_rules.specs.declared.seats.Ending.TheVariants.{LoadNow, Name, StampOwn, StoreSuper, Unlock, LoadDeath, Leave}
-use Rattle.replay_rules.specs.declared.seats.Task.{Task}
-use Rattle.replay_rules.specs.declared.seats.Task.TheVariants.{Enters, Helps, Walks, Locks, Writes, EndsSection, Tidies}
+use Rattle.replay_rules.specs.declared.seats.NextStep.{NextStep}
+use Rattle.replay_rules.specs.declared.seats.NextStep.TheVariants.{Enters, Helps, Walks, Locks, Writes, EndsSection, Tidies}
 
 -- of a commit
 abbrev pub IsCommitEnding : Ending → Type 0
@@ -37,7 +37,7 @@ IsRestEnding _ = ⊥
 
 -- The step is one of the call: an enter and a tidy enter sections, and help clock words as a commit does; a read and a lock walk over their object, and
 -- a lock builds and locks a version of it; a write stores its words.
-abbrev pub IsTaskOf : Call → Task → Type 0
+abbrev pub IsTaskOf : Call → NextStep → Type 0
 IsTaskOf calls.Enter (Enters step) = Unit {0}
 IsTaskOf calls.Enter (Helps step) = Unit {0}
 IsTaskOf (calls.Read object) (Walks other next) = other ≡ object

@@ -7,7 +7,7 @@ use Rattle.mv_history.specs.declared.answers.LockAnswer.TheVariants as refusals
 use Rattle.commit_abort.specs.declared.committing.Ended.TheVariants as ends
 use Rattle.replay_rules.specs.declared.plan.Call.{Call}
 use Rattle.replay_rules.specs.declared.plan.Call.TheVariants.{Enter, Read, Lock, Write, Commit, Abort, Leave, Tidy}
-use Rattle.replay_rules.specs.declared.seats.Version.{Version}
+use Rattle.replay_rules.specs.declared.seats.NotedVersion.{NotedVersion}
 use Rattle.replay_rules.specs.declared.seats.State.{State}
 use Rattle.replay_rules.specs.declared.seats.Entering.{Entering}
 use Rattle.replay_rules.specs.declared.seats.Entering.TheVariants.{LoadLow, StoreMark, LoadTime}
@@ -23,8 +23,8 @@ use Rattle.replay_rules.specs.declared.seats.Leaving.{Leaving}
 use Rattle.replay_rules.specs.declared.seats.Leaving.TheVariants.{Plainly, WithCommit, WithAbort}
 use Rattle.replay_rules.specs.declared.seats.Sweeping.TheVariants.{LoadGrace, LoadTop}
 use Rattle.replay_rules.specs.declared.seats.Sweeping.TheVariants.{NameRest}
-use Rattle.replay_rules.specs.declared.seats.Task.TheVariants.{Enters, Helps, Walks, Locks, Writes, EndsSection, Tidies}
-use Rattle.replay_rules.specs.declared.seats.Answer.TheVariants.{Silent, AtTime, SixWords, Locked, Committed}
+use Rattle.replay_rules.specs.declared.seats.NextStep.TheVariants.{Enters, Helps, Walks, Locks, Writes, EndsSection, Tidies}
+use Rattle.replay_rules.specs.declared.seats.CallAnswer.TheVariants.{Silent, AtTime, SixWords, Locked, Committed}
 use Rattle.replay_rules.specs.declared.seats.Then.{Then}
 use Rattle.replay_rules.specs.declared.seats.Then.TheVariants.{Goes, Ends}
 use Rattle.replay_rules.specs.declared.seats.Test.TheVariants.{IsLinked}
@@ -48,14 +48,14 @@ name c s word =
 
 -- What a tidy does once a word is helped: in a section it looks at HEAD of the object that it writes back, and outside it tries a
 -- rest, but at the last time.
-abbrev pub helped_in_tidy : List Version → State → ℕ → Then
+abbrev pub helped_in_tidy : List NotedVersion → State → ℕ → Then
 helped_in_tidy log s word =
     if is_inside s then Goes (Tidies (LoadTop s.sweep.at (version_at log s.sweep.at).object))
     else (if is_last (clock_time_of word) then Goes (Tidies (LoadGrace true))
     else Goes (Tidies (NameRest word (next_clock word s.seat 8191))))
 
 -- what a call does once a word is helped
-abbrev pub helped_in : Call → Config → List Version → State → ℕ → Then
+abbrev pub helped_in : Call → Config → List NotedVersion → State → ℕ → Then
 helped_in Enter c log s word = Ends (AtTime (clock_time_of word))
 helped_in (Read object) c log s word = Ends (AtTime (clock_time_of word))
 helped_in (Lock object) c log s word = Ends (AtTime (clock_time_of word))
@@ -66,17 +66,17 @@ helped_in Leave c log s word = Ends (AtTime (clock_time_of word))
 helped_in Tidy c log s word = helped_in_tidy log s word
 
 -- a word that names no commit is helped
-abbrev pub help : Config → List Version → State → ℕ → Then
+abbrev pub help : Config → List NotedVersion → State → ℕ → Then
 help c log s word = if clock_slot_of word == 8191 then helped_in s.call c log s word else Goes (Helps (LoadNamed word))
 
 -- behind a step of an entering: MARK gets 1 more than CLOCK's time, and the word that CLOCK has then is helped
-abbrev pub after_entering : Entering → Config → List Version → State → ℕ → Then
+abbrev pub after_entering : Entering → Config → List NotedVersion → State → ℕ → Then
 after_entering LoadLow c log s found = Goes (Enters (StoreMark (1 + clock_time_of found)))
 after_entering (StoreMark mark) c log s found = Goes (Enters LoadTime)
 after_entering LoadTime c log s found = help c log s found
 
 -- behind a step of a help: an unset stamp is exchanged for the word's time if CLOCK still has the word; then the call goes on
-abbrev pub after_helping : Helping → Config → List Version → State → ℕ → Then
+abbrev pub after_helping : Helping → Config → List NotedVersion → State → ℕ → Then
 after_helping (LoadNamed word) c log s found = if is_unset found then Goes (Helps (LoadCheck word found)) else helped_in s.call c log s word
 after_helping (LoadCheck word unset) c log s found = if found == word then Goes (Helps (SwapStamp word unset)) else helped_in s.call c log s word
 after_helping (SwapStamp word unset) c log s found = helped_in s.call c log s word
@@ -108,17 +108,17 @@ after_stamp s object link stamp =
     else Goes (Walks object (LoadPrev link)))
 
 -- the version that a lock builds, over a link
-abbrev pub new_version : State → ℕ → ℕ → List ℕ → Version
+abbrev pub new_version : State → ℕ → ℕ → List ℕ → NotedVersion
 new_version s object link words =
     record { first = s.from; object = object; previous = link; words = words; time = 0; dead = 0; above = None }
 
 -- a lock builds a version once the words are read, and a read answers them
-abbrev pub after_words : List Version → State → ℕ → ℕ → List ℕ → Then
+abbrev pub after_words : List NotedVersion → State → ℕ → ℕ → List ℕ → Then
 after_words log s object link words =
     if is_lock s.call then Goes (Locks (new_version s object link words) (length log) (Build 0)) else Ends (SixWords words)
 
 -- behind a step of a walk over an object: from HEAD along the chain to the words that are read, then these one after another
-abbrev pub after_walking : Walking → Config → List Version → State → ℕ → ℕ → Then
+abbrev pub after_walking : Walking → Config → List NotedVersion → State → ℕ → ℕ → Then
 after_walking LoadHead c log s object found = stand object found
 after_walking (LoadFirst link) c log s object found = Goes (Walks object (LoadStamp link found))
 after_walking (LoadStamp link first) c log s object found = after_stamp s object link found
@@ -128,21 +128,21 @@ after_walking (LoadWord link words word) c log s object found =
     else after_words log s object link (slice_set words word found)
 
 -- the field behind one; only the first slot of a write set has a stamp
-abbrev pub after_field : Version → ℕ → ℕ → Then
+abbrev pub after_field : NotedVersion → ℕ → ℕ → Then
 after_field version at field =
     if (field == 0) && not (version.first == at) then Goes (Locks version at (Build 2))
     else (if ltb field 9 then Goes (Locks version at (Build (field + 1)))
     else Goes (Locks version at LockHead))
 
 -- a lost exchange looks at the version that it found, or tries once more where the chain was cut
-abbrev pub after_lock_head : Version → ℕ → ℕ → Then
+abbrev pub after_lock_head : NotedVersion → ℕ → ℕ → Then
 after_lock_head version at found =
     if found == version.previous then Ends (Locked refusals.Held)
     else (if found == 0 then Goes (Locks (record version { previous = 0 }) at ClearPrevious)
     else Goes (Locks version at (FoundFirst found)))
 
 -- behind a step of a lock past its walk: the slot is built, HEAD is exchanged, and a version that a lost exchange found refuses the lock
-abbrev pub after_locking : Locking → Version → ℕ → ℕ → Then
+abbrev pub after_locking : Locking → NotedVersion → ℕ → ℕ → Then
 after_locking (Build field) version at found = after_field version at field
 after_locking LockHead version at found = after_lock_head version at found
 after_locking ClearPrevious version at found = Goes (Locks version at LockHead)
@@ -154,7 +154,7 @@ abbrev pub after_writing : ℕ → List ℕ → ℕ → Then
 after_writing at words word = if ltb word 5 then Goes (Writes at words (word + 1)) else Ends Silent
 
 -- the store of SUPER below the version at a position, and behind the last one the leave
-abbrev pub store_super : List Version → ℕ → ℕ → Then
+abbrev pub store_super : List NotedVersion → ℕ → ℕ → Then
 store_super log at time =
     if ltb at (length log) then Goes (EndsSection (StoreSuper at (version_at log at).previous time))
     else Goes (EndsSection (Leave (WithCommit time)))
@@ -166,7 +166,7 @@ after_name s word found =
     else Ends (Committed (ends.Again (record { seat = clock_seat_of found; time = clock_time_of found })))
 
 -- behind an unlock of HEAD: that of the next held version, and behind the last one CLOCK is loaded for the time of death
-abbrev pub after_unlock : List Version → ℕ → Then
+abbrev pub after_unlock : List NotedVersion → ℕ → Then
 after_unlock log at = if ltb (at + 1) (length log) then Goes (unlock log (at + 1)) else Goes (EndsSection LoadDeath)
 
 -- behind the leave of a section: a commit answers its time, and a plain leave and an abort answer nothing
@@ -176,7 +176,7 @@ after_leaving (WithCommit time) = Ends (Committed (ends.Done time))
 after_leaving (WithAbort dead) = Ends Silent
 
 -- a commit at the last time ends; before a rest the word is helped all the same
-abbrev pub after_now : Call → Config → List Version → State → ℕ → Then
+abbrev pub after_now : Call → Config → List NotedVersion → State → ℕ → Then
 after_now Enter c log s found = help c log s found
 after_now (Read object) c log s found = help c log s found
 after_now (Lock object) c log s found = help c log s found
@@ -187,7 +187,7 @@ after_now Leave c log s found = help c log s found
 after_now Tidy c log s found = help c log s found
 
 -- behind a step of a commit, an abort or a leave, or of the rest of a tidy
-abbrev pub after_ending : Ending → Config → List Version → State → ℕ → Then
+abbrev pub after_ending : Ending → Config → List NotedVersion → State → ℕ → Then
 after_ending LoadNow c log s found = after_now s.call c log s found
 after_ending (Name word new) c log s found = after_name s word found
 after_ending (StampOwn first time) c log s found = store_super log (first_from log first IsLinked) time

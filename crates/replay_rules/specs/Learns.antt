@@ -2,7 +2,7 @@
 use Rattle.std.specs.Prelude.{ℕ, ◌+◌, ◌-◌, ◌==◌, ltb, leb, max, List, length, slice_index, Option, Some, None, true, false, not}
 use Rattle.std.specs.Prelude.{◌&&◌, if◌then◌else◌}
 use Rattle.mv_layout.specs.Words.{clock_time_of, link_seat_of}
-use Rattle.replay_rules.specs.declared.seats.Version.{Version}
+use Rattle.replay_rules.specs.declared.seats.NotedVersion.{NotedVersion}
 use Rattle.replay_rules.specs.declared.seats.Scanned.{Scanned}
 use Rattle.replay_rules.specs.declared.seats.Sweep.{Sweep}
 use Rattle.replay_rules.specs.declared.seats.State.{State}
@@ -16,13 +16,13 @@ use Rattle.replay_rules.specs.declared.seats.Ending.{Ending}
 use Rattle.replay_rules.specs.declared.seats.Ending.TheVariants.{LoadNow, Name, StampOwn, StoreSuper, Unlock, LoadDeath, Leave}
 use Rattle.replay_rules.specs.declared.seats.Leaving.{Leaving}
 use Rattle.replay_rules.specs.declared.seats.Leaving.TheVariants.{Plainly, WithCommit, WithAbort}
-use Rattle.replay_rules.specs.declared.seats.Back.{Back}
-use Rattle.replay_rules.specs.declared.seats.Back.TheVariants.{WasCut, WasGone, WasAbove}
+use Rattle.replay_rules.specs.declared.seats.WriteBackEnd.{WriteBackEnd}
+use Rattle.replay_rules.specs.declared.seats.WriteBackEnd.TheVariants.{WasCut, WasGone, WasAbove}
 use Rattle.replay_rules.specs.declared.seats.Sweeping.{Sweeping}
 use Rattle.replay_rules.specs.declared.seats.Sweeping.TheVariants.{LoadGrace, Free, LoadScan, LoadMark, RaiseGrace, LoadSuper, LoadTop, StoreMaster}
 use Rattle.replay_rules.specs.declared.seats.Sweeping.TheVariants.{CutHead, LoadCutDeath, LeaveBack, LoadSuperAgain, NameRest}
-use Rattle.replay_rules.specs.declared.seats.Task.{Task}
-use Rattle.replay_rules.specs.declared.seats.Task.TheVariants.{Enters, Helps, Walks, Locks, Writes, EndsSection, Tidies}
+use Rattle.replay_rules.specs.declared.seats.NextStep.{NextStep}
+use Rattle.replay_rules.specs.declared.seats.NextStep.TheVariants.{Enters, Helps, Walks, Locks, Writes, EndsSection, Tidies}
 use Rattle.replay_rules.specs.declared.seats.Edit.{Edit}
 use Rattle.replay_rules.specs.declared.seats.Edit.TheVariants.{Kept, Pushed, WordPut, CommittedFrom, AbortedFrom, Retired, AboveNoted}
 
@@ -43,7 +43,7 @@ helped (LoadCheck word unset) s found = with_clock s found
 helped (SwapStamp word unset) s found = s
 
 -- a section ends with a leave, when nothing is held any more
-abbrev pub ended : Ending → List Version → State → State
+abbrev pub ended : Ending → List NotedVersion → State → State
 ended LoadNow log s = s
 ended (Name word new) log s = s
 ended (StampOwn first time) log s = s
@@ -80,11 +80,11 @@ scanned w found =
     }
 
 -- one version more was freed
-abbrev pub freed_one : List Version → State → State
+abbrev pub freed_one : List NotedVersion → State → State
 freed_one log s = if ltb s.freed (length log) then record s { freed = s.freed + 1 } else s
 
 -- what a step of a tidy changes of what its seat is at: how far the tidy is, what is freed, and the section of a write-back
-abbrev pub swept : Sweeping → List Version → State → ℕ → State
+abbrev pub swept : Sweeping → List NotedVersion → State → ℕ → State
 swept (LoadGrace again) log s found = record s { sweep = record s.sweep { again = again; swept = false; bound = found } }
 swept (Free at left) log s found = freed_one log s
 swept LoadScan log s found = scanning s found
@@ -100,7 +100,7 @@ swept (LoadSuperAgain at) log s found = s
 swept (NameRest word new) log s found = s
 
 -- what a seat is at behind a step that found this, by the notes before it
-abbrev pub state_after : Task → List Version → State → ℕ → State
+abbrev pub state_after : NextStep → List NotedVersion → State → ℕ → State
 state_after (Enters step) log s found = entered step s found
 state_after (Helps step) log s found = helped step s found
 state_after (Walks object next) log s found = s
@@ -130,7 +130,7 @@ abbrev pub edit_of_super : ℕ → ℕ → Edit
 edit_of_super at found = if found == 0 then Kept else Retired at found
 
 -- a write-back has cut the chain, or found a newer version
-abbrev pub edit_of_back : ℕ → Back → Edit
+abbrev pub edit_of_back : ℕ → WriteBackEnd → Edit
 edit_of_back at (WasCut dead) = Retired at dead
 edit_of_back at WasGone = Kept
 edit_of_back at (WasAbove seat) = AboveNoted at seat
@@ -152,7 +152,7 @@ edit_of_sweep (LoadSuperAgain at) s found = edit_of_super at found
 edit_of_sweep (NameRest word new) s found = Kept
 
 -- a won exchange of HEAD puts the version among those that are held
-abbrev pub edit_of_lock : Locking → Version → ℕ → Edit
+abbrev pub edit_of_lock : Locking → NotedVersion → ℕ → Edit
 edit_of_lock (Build field) version found = Kept
 edit_of_lock LockHead version found = if found == version.previous then Pushed version else Kept
 edit_of_lock ClearPrevious version found = Kept
@@ -160,7 +160,7 @@ edit_of_lock (FoundFirst link) version found = Kept
 edit_of_lock (FoundStamp link first) version found = Kept
 
 -- what the step changes in the notes
-abbrev pub edit_of : Task → State → ℕ → Edit
+abbrev pub edit_of : NextStep → State → ℕ → Edit
 edit_of (Enters step) s found = Kept
 edit_of (Helps step) s found = Kept
 edit_of (Walks object next) s found = Kept

@@ -10,8 +10,8 @@ use Rattle.replay_rules.specs.declared.plan.Call.{Call}
 use Rattle.replay_rules.specs.declared.plan.Call.TheVariants as calls
 use Rattle.replay_rules.specs.declared.seats.Access.{Access}
 use Rattle.replay_rules.specs.declared.seats.Access.TheVariants.{Load, Store, Swap, Raise}
-use Rattle.replay_rules.specs.declared.seats.Answer.{Answer}
-use Rattle.replay_rules.specs.declared.seats.Answer.TheVariants.{Silent, AtTime, SixWords, Locked, Committed, Tidied}
+use Rattle.replay_rules.specs.declared.seats.CallAnswer.{CallAnswer}
+use Rattle.replay_rules.specs.declared.seats.CallAnswer.TheVariants.{Silent, AtTime, SixWords, Locked, Committed, Tidied}
 
 -- a number behind a blank
 abbrev pub spaced : ℕ → List ℕ
@@ -85,7 +85,7 @@ text_of_held None = []
 text_of_held (Some holder) = text_of_holder holder
 
 -- what is written of an answer
-abbrev pub text_of_answer : Answer → List ℕ
+abbrev pub text_of_answer : CallAnswer → List ℕ
 text_of_answer Silent = []
 text_of_answer (AtTime time) = spaced time
 text_of_answer (SixWords words) = text_of_words words
@@ -94,5 +94,5 @@ text_of_answer (Committed ended) = text_of_commit ended
 text_of_answer (Tidied tidy) = spaced tidy.freed ++ spaced tidy.live ++ text_of_held tidy.held
 
 -- a call that ends
-abbrev pub answer_line : ℕ → Call → Answer → List ℕ
+abbrev pub answer_line : ℕ → Call → CallAnswer → List ℕ
 answer_line seat call answer = decimal seat ++ codes " " ++ name_of call ++ text_of_answer answer ++ codes "\n"

@@ -3,14 +3,14 @@ use Rattle.std.specs.Prelude.{◌≡◌, ℕ, List, ◌∷◌}
 use Rattle.mv_layout.specs.declared.config.Config.{Config}
 use Rattle.mv_layout.specs.Limits.{Checked}
 use Rattle.mv_layout.specs.Places.{IsPlace}
-use Rattle.replay_rules.specs.declared.seats.Task.{Task}
+use Rattle.replay_rules.specs.declared.seats.NextStep.{NextStep}
 use Rattle.replay_rules.specs.States.{Made, MayMake, place_in, writes_in, state_of}
 use Rattle.replay_rules.specs.Tasks.{place_in_task, access_in_task, written_by}
 use Rattle.replay_rules.specs.Runs.{TapeOf, Scene, with_line, tape_stepped, turned}
 use Rattle.replay_rules.specs.Behind.{IsTapeBehind}
 
 -- A step of the core is the one that a seat comes to: it may be made, is of the same word, and writes the same of what it finds there.
-pub record IsStepOf (c : Config) (made : List Made) (step : Made) (seat : ℕ) (task : Task) : Type 0 where
+pub record IsStepOf (c : Config) (made : List Made) (step : Made) (seat : ℕ) (task : NextStep) : Type 0 where
   pub seat_is : step.seat ≡ seat
   pub may : MayMake c (state_of c made) step
   pub place_is : place_in c (state_of c made) step ≡ place_in_task c seat task
@@ -21,7 +21,7 @@ pub record IsStepOf (c : Config) (made : List Made) (step : Made) (seat : ℕ) (
 -- each step of the core that is this one.
 pub data IsTurnBehind (c : Config) (made : List Made) (old new : TapeOf) : Type 0 where
   stays : IsTapeBehind c new made → IsTurnBehind c made old new
-  moves_on : (seat : ℕ) (task : Task) (before behind : List ℕ)
+  moves_on : (seat : ℕ) (task : NextStep) (before behind : List ℕ)
       → new ≡ with_line (tape_stepped c seat task (place_in_task c seat task) (with_line old before)) behind
       → ((step : Made) → IsStepOf c made step seat task → IsTapeBehind c new (step ∷ made)) → IsTurnBehind c made old new
 

@@ -4,7 +4,7 @@ use Rattle.mv_layout.specs.declared.Config.{Config}
 use Rattle.mv_core.specs.declared.shared.Opening.{Opening}
 use Rattle.mv_core.specs.Rule.{Ruled}
 use Rattle.replay_rules.specs.States.{any_start, any_commit, Made, state_of, views_from}
-use Rattle.replay_rules.specs.declared.seats.Task.{Task}
+use Rattle.replay_rules.specs.declared.seats.NextStep.{NextStep}
 use Rattle.replay_rules.specs.Tasks.{place_in_task}
 use Rattle.replay_rules.specs.Runs.{TapeOf, Scene, is_place, with_line, tape_stepped, turned}
 
@@ -20,7 +20,7 @@ pub record IsRuled (key : Opening) (c : Config) (words : List ℕ) (made : List 
 -- step has the word that is at its place just before, and the words after it are those with what the step writes there.
 pub data IsTurn (c : Config) (old new : TapeOf) : Type 0 where
   no_step : (lines : List ℕ) → new ≡ with_line old lines → IsTurn c old new
-  one_step : (seat : ℕ) (task : Task) (before behind : List ℕ) → is_place c (place_in_task c seat task) ≡ true
+  one_step : (seat : ℕ) (task : NextStep) (before behind : List ℕ) → is_place c (place_in_task c seat task) ≡ true
       → new ≡ with_line (tape_stepped c seat task (place_in_task c seat task) (with_line old before)) behind → IsTurn c old new
 
 -- so is each turn of each seat

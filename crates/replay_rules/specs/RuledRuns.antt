@@ -2,10 +2,10 @@
 -- contract of the same call of the runtime says.
 use Rattle.std.specs.Prelude.{◌≡◌, ◌<◌, ℕ, List, [], ◌∷◌, ◌++◌, All, Option, Some, None}
 use Rattle.mv_layout.specs.declared.config.Config.{Config}
-use Rattle.mv_core.specs.declared.view.View.{View}
+use Rattle.mv_core.specs.declared.view.Knowledge.{Knowledge}
 use Rattle.replay_rules.specs.declared.plan.Call.{Call}
-use Rattle.replay_rules.specs.declared.seats.Answer.{Answer}
-use Rattle.replay_rules.specs.declared.seats.Task.{Task}
+use Rattle.replay_rules.specs.declared.seats.CallAnswer.{CallAnswer}
+use Rattle.replay_rules.specs.declared.seats.NextStep.{NextStep}
 use Rattle.replay_rules.specs.Plans.{PlanOf}
 use Rattle.replay_rules.specs.FitPlans.{IsFitPlan}
 use Rattle.replay_rules.specs.States.{Made, state_of}
@@ -21,15 +21,15 @@ use Rattle.replay_rules.specs.CallTasks.{IsTaskOf}
 use Rattle.replay_rules.specs.Answers.{AnswersSo}
 
 -- what a seat knows behind these steps
-abbrev pub view_behind : Config → List Made → ℕ → View
+abbrev pub view_behind : Config → List Made → ℕ → Knowledge
 view_behind c made seat = (state_of c made).seats seat
 
 -- calls that a seat looks at and that need no step, and their lines: each may not begin, or is answered by what the seat knows
-pub data AreStepless (c : Config) (seat : ℕ) (v : View) : List Call → List ℕ → Type 0 where
+pub data AreStepless (c : Config) (seat : ℕ) (v : Knowledge) : List Call → List ℕ → Type 0 where
   no_call : AreStepless c seat v [] []
   skips : (call : Call) (calls : List Call) (lines : List ℕ) → MayNotBegin c v call → AreStepless c seat v calls lines
       → AreStepless c seat v (call ∷ calls) (skip_line seat call ++ lines)
-  answers : (call : Call) (answer : Answer) (calls : List Call) (lines : List ℕ) → AnswersSo c call v v answer → AreStepless c seat v calls lines
+  answers : (call : Call) (answer : CallAnswer) (calls : List Call) (lines : List ℕ) → AnswersSo c call v v answer → AreStepless c seat v calls lines
       → AreStepless c seat v (call ∷ calls) (answer_line seat call answer ++ lines)
 
 -- The call whose step is made, the calls behind it, and the lines before the step: it is the one that the seat is in; or it is of the calls that were
@@ -40,9 +40,9 @@ IsCallOf c seat made None calls call left lines =
 IsCallOf c seat made (Some running) calls call left lines = (call ≡ running) × (left ≡ calls) × (lines ≡ [])
 
 -- behind its step the call goes on; or it has ended, and its answer stands in the text
-pub data GoesOrEnds (c : Config) (seat : ℕ) (call : Running) (w : View) (now : Option Running) (lines : List ℕ) : Type 0 where
+pub data GoesOrEnds (c : Config) (seat : ℕ) (call : Running) (w : Knowledge) (now : Option Running) (lines : List ℕ) : Type 0 where
   goes_on : now ≡ Some call → lines ≡ [] → GoesOrEnds c seat call w now lines
-  has_ended : (answer : Answer) → now ≡ None → lines ≡ answer_line seat call.call answer
+  has_ended : (answer : CallAnswer) → now ≡ None → lines ≡ answer_line seat call.call answer
       → AnswersSo c call.call (view_behind c call.before seat) w answer → GoesOrEnds c seat call w now lines
 
 -- A turn of this seat leads from the steps made before it to those behind it. Either they are the same ones: the seat was in no call, none of those
@@ -52,7 +52,7 @@ pub data IsTurnOf (c : Config) (seat : ℕ) (made next : List Made) (calls after
   prints_only : (lines : List ℕ) → (calls seat).now ≡ None → AreStepless c seat (view_behind c made seat) (calls seat).left lines
       → new ≡ with_line old (lines ++ idle_line seat) → next ≡ made → after ≡ with_call calls seat (record { now = None; left = [] })
       → IsTurnOf c seat made next calls after old new
-  makes_one : (step : Made) (task : Task) (call : Running) (left : List Call) (now : Option Running) (before behind : List ℕ)
+  makes_one : (step : Made) (task : NextStep) (call : Running) (left : List Call) (now : Option Running) (before behind : List ℕ)
       → IsCallOf c seat made (calls seat).now (calls seat).left call left before
       → IsTaskOf call.call task → IsStepOf c made step seat task → IsKindOf task step.kind → next ≡ step ∷ made
       → GoesOrEnds c seat call (view_behind c next seat) now behind → after ≡ with_call calls seat (record { now = now; left = left })

@@ -2,16 +2,16 @@
 use Rattle.std.specs.Prelude.{ℕ, zero, suc, ◌+◌, ◌==◌, ◌&&◌, ltb, List, [], ◌∷◌, ◌++◌, slice_index_or, slice_set, Option}
 use Rattle.std.specs.Prelude.{Some, None, Bool, true, if◌then◌else◌}
 use Rattle.mv_layout.specs.declared.config.Config.{Config}
-use Rattle.mv_layout.specs.declared.places.Place.{Place}
-use Rattle.mv_layout.specs.declared.places.Place.TheVariants.{Clock, Grace, Mark, Head, Master, First, Stamp, Prev, Super, Data}
+use Rattle.mv_layout.specs.declared.places.SharedWord.{SharedWord}
+use Rattle.mv_layout.specs.declared.places.SharedWord.TheVariants.{Clock, Grace, Mark, Head, Master, First, Stamp, Prev, Super, Data}
 use Rattle.mv_layout.specs.Places.{place_of}
 use Rattle.mv_layout.specs.Words.{clock_time_of}
 use Rattle.replay_rules.specs.declared.plan.Call.{Call}
 use Rattle.replay_rules.specs.declared.plan.Call.TheVariants.{Enter}
 use Rattle.replay_rules.specs.declared.plan.CallOf.{CallOf}
-use Rattle.replay_rules.specs.declared.seats.Version.{Version}
+use Rattle.replay_rules.specs.declared.seats.NotedVersion.{NotedVersion}
 use Rattle.replay_rules.specs.declared.seats.State.{State}
-use Rattle.replay_rules.specs.declared.seats.Task.{Task}
+use Rattle.replay_rules.specs.declared.seats.NextStep.{NextStep}
 use Rattle.replay_rules.specs.declared.seats.Then.{Then}
 use Rattle.replay_rules.specs.declared.seats.Then.TheVariants.{Goes, Ends}
 use Rattle.replay_rules.specs.Plans.{PlanOf}
@@ -26,9 +26,9 @@ use Rattle.replay_rules.specs.Lines.{idle_line, skip_line, end_line, step_line, 
 -- What is kept of a seat: the versions of its log, what it is at, its next step where a call is under way, and which calls of the plan
 -- are still before it.
 pub record SeatOf : Type 0 where
-  pub log : List Version
+  pub log : List NotedVersion
   pub state : State
-  pub task : Option Task
+  pub task : Option NextStep
   pub left : List CallOf
 
 -- the words of the domain's table, how many steps were made, and the text so far
@@ -43,7 +43,7 @@ pub record Scene : Type 0 where
   pub tape : TapeOf
 
 -- whether a word is one of the domain
-abbrev pub is_place : Config → Place → Bool
+abbrev pub is_place : Config → SharedWord → Bool
 is_place c Clock = true
 is_place c Grace = true
 is_place c (Mark s) = ltb s c.seats
@@ -60,11 +60,11 @@ abbrev pub with_line : TapeOf → List ℕ → TapeOf
 with_line t line = record t { text = t.text ++ line }
 
 -- what a step of this seat finds
-abbrev pub found_in : Config → ℕ → Task → TapeOf → ℕ
+abbrev pub found_in : Config → ℕ → NextStep → TapeOf → ℕ
 found_in c seat task t = if is_place c (place_in_task c seat task) then word_at c t.words (place_in_task c seat task) else 0
 
 -- the tape after a step of this seat: one word, and the line that says it, with what was found there just before
-abbrev pub tape_stepped : Config → ℕ → Task → Place → TapeOf → TapeOf
+abbrev pub tape_stepped : Config → ℕ → NextStep → SharedWord → TapeOf → TapeOf
 tape_stepped c seat task place t = record {
   words = words_with c t.words place (written_by (access_in_task seat task) (word_at c t.words place));
   made = t.made + 1;
@@ -72,7 +72,7 @@ tape_stepped c seat task place t = record {
 }
 
 -- no step is made of a word that isn't one of the domain
-abbrev pub tape_after : Config → ℕ → Task → TapeOf → TapeOf
+abbrev pub tape_after : Config → ℕ → NextStep → TapeOf → TapeOf
 tape_after c seat task t =
     if is_place c (place_in_task c seat task) then tape_stepped c seat task (place_in_task c seat task) t else t
 
@@ -85,11 +85,11 @@ went (Ends answer) x = record {
 }
 
 -- what is kept of a seat behind a step that found this
-abbrev pub learned : Task → ℕ → SeatOf → SeatOf
+abbrev pub learned : NextStep → ℕ → SeatOf → SeatOf
 learned task found s = record s { log = applied (edit_of task s.state found) s.log; state = state_after task s.log s.state found }
 
 -- the step that comes next is made, and the call goes on or ends
-abbrev pub step_made : Config → Task → Scene → Scene
+abbrev pub step_made : Config → NextStep → Scene → Scene
 step_made c task x =
     let found = found_in c x.seat.state.seat task x.tape in
     let seat = learned task found x.seat in
@@ -98,7 +98,7 @@ step_made c task x =
 -- a seat that has looked at calls, and the first step of the call that it has begun
 pub record Looked : Type 0 where
   pub scene : Scene
-  pub task : Option Task
+  pub task : Option NextStep
 
 -- a call that begins: its first step comes, or it is answered at once
 abbrev pub begun_so : Then → Call → Scene → Looked
@@ -114,7 +114,7 @@ call_looked c call x =
     else record { scene = record x { tape = with_line x.tape (skip_line x.seat.state.seat call) }; task = None }
 
 -- the next call is looked at where this one needs no step
-abbrev pub looked_on : Option Task → Looked → Looked → Looked
+abbrev pub looked_on : Option NextStep → Looked → Looked → Looked
 looked_on (Some task) this next = this
 looked_on None this next = next
 
@@ -130,12 +130,12 @@ looked c (call ∷ calls) x =
     looked_on this.task this (looked c calls this.scene)
 
 -- a seat with no call left is idle
-abbrev pub turn_begun : Config → Option Task → Scene → Scene
+abbrev pub turn_begun : Config → Option NextStep → Scene → Scene
 turn_begun c (Some task) x = step_made c task x
 turn_begun c None x = record x { tape = with_line x.tape (idle_line x.seat.state.seat) }
 
 -- a turn of a seat: at most one step is made
-abbrev pub turned_from : Config → Option Task → Scene → Scene
+abbrev pub turned_from : Config → Option NextStep → Scene → Scene
 turned_from c (Some task) x = step_made c task x
 turned_from c None x = let l = looked c x.seat.left x in turn_begun c l.task l.scene
 

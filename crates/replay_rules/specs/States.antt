@@ -2,9 +2,9 @@
 use Rattle.std.specs.Prelude.{ℕ, zero, suc, ◌+◌, ◌-◌, ◌<◌, List, [], ◌∷◌, ⊤, Option, replicate}
 use Rattle.mv_history.specs.State.{State, Writes}
 use Rattle.mv_layout.specs.declared.Config.{Config}
-use Rattle.mv_layout.specs.declared.Place.{Place}
-use Rattle.mv_core.specs.declared.view.View.{View}
-use Rattle.mv_core.specs.Moves.{Moment, Kind, act, stepped, seat_made, opening_of, IsStorable}
+use Rattle.mv_layout.specs.declared.SharedWord.{SharedWord}
+use Rattle.mv_core.specs.declared.view.Knowledge.{Knowledge}
+use Rattle.mv_core.specs.Moves.{Moment, MoveKind, act, stepped, seat_made, opening_of, IsStorable}
 
 -- every commit is allowed
 abbrev pub any_commit : List ℕ → State → Writes → Type 0
@@ -30,7 +30,7 @@ opened c = with_made c (c.seats - 1) (opening_of c (zeros c))
 -- a step of a replay: its seat, and its kind
 pub record Made : Type 0 where
   pub seat : ℕ
-  pub kind : Kind
+  pub kind : MoveKind
 
 -- the steps so far, of which the last one comes first, and the one that comes next
 pub record Turn : Type 0 where
@@ -42,7 +42,7 @@ abbrev pub may_in : Config → Moment → Made → Type 0
 may_in c s step = (act any_commit c (s.seats step.seat) step.kind).may
 
 -- the word that a step is of
-abbrev pub place_in : Config → Moment → Made → Place
+abbrev pub place_in : Config → Moment → Made → SharedWord
 place_in c s step = (act any_commit c (s.seats step.seat) step.kind).place
 
 -- what a step writes of what it finds in its word, if it writes
@@ -70,6 +70,6 @@ AreMade c [] = ⊤
 AreMade c (step ∷ before) = MayMake c (state_of c before) step × AreMade c before
 
 -- the views of so many seats, from one on
-abbrev pub views_from : (ℕ → View) → ℕ → ℕ → List View
+abbrev pub views_from : (ℕ → Knowledge) → ℕ → ℕ → List Knowledge
 views_from seats first zero = []
 views_from seats first (suc count) = seats first ∷ views_from seats (first + 1) count

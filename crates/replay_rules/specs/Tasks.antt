@@ -1,12 +1,12 @@
 -- The word that the next step of a call is of, and what the step does with it.
 use Rattle.std.specs.Prelude.{ℕ, zero, suc, ◌+◌, ◌%◌, ◌==◌, ◌&&◌, ltb, leb, max, slice_index, Option, Some, None, if◌then◌else◌}
 use Rattle.mv_layout.specs.declared.config.Config.{Config}
-use Rattle.mv_layout.specs.declared.places.Place.{Place}
-use Rattle.mv_layout.specs.declared.places.Place.TheVariants.{Clock, Grace, Mark, Head, Master, First, Stamp, Prev, Super, Data}
+use Rattle.mv_layout.specs.declared.places.SharedWord.{SharedWord}
+use Rattle.mv_layout.specs.declared.places.SharedWord.TheVariants.{Clock, Grace, Mark, Head, Master, First, Stamp, Prev, Super, Data}
 use Rattle.mv_layout.specs.Words.{clock_of, clock_time_of, clock_seat_of, clock_slot_of, link_of, link_seat_of, link_position_of, unset_of}
 use Rattle.mv_core.specs.EnterSteps.{stored_if}
 use Rattle.mv_core.specs.LockSteps.{field_place}
-use Rattle.replay_rules.specs.declared.seats.Version.{Version}
+use Rattle.replay_rules.specs.declared.seats.NotedVersion.{NotedVersion}
 use Rattle.replay_rules.specs.declared.seats.Entering.{Entering}
 use Rattle.replay_rules.specs.declared.seats.Entering.TheVariants.{LoadLow, StoreMark, LoadTime}
 use Rattle.replay_rules.specs.declared.seats.Helping.{Helping}
@@ -20,8 +20,8 @@ use Rattle.replay_rules.specs.declared.seats.Ending.TheVariants.{LoadNow, Name, 
 use Rattle.replay_rules.specs.declared.seats.Sweeping.{Sweeping}
 use Rattle.replay_rules.specs.declared.seats.Sweeping.TheVariants.{LoadGrace, Free, LoadScan, LoadMark, RaiseGrace, LoadSuper, LoadTop, StoreMaster}
 use Rattle.replay_rules.specs.declared.seats.Sweeping.TheVariants.{CutHead, LoadCutDeath, LeaveBack, LoadSuperAgain, NameRest}
-use Rattle.replay_rules.specs.declared.seats.Task.{Task}
-use Rattle.replay_rules.specs.declared.seats.Task.TheVariants.{Enters, Helps, Walks, Locks, Writes, EndsSection, Tidies}
+use Rattle.replay_rules.specs.declared.seats.NextStep.{NextStep}
+use Rattle.replay_rules.specs.declared.seats.NextStep.TheVariants.{Enters, Helps, Walks, Locks, Writes, EndsSection, Tidies}
 use Rattle.replay_rules.specs.declared.seats.Access.{Access}
 use Rattle.replay_rules.specs.declared.seats.Access.TheVariants.{Load, Store, Swap, Raise}
 
@@ -51,23 +51,23 @@ abbrev pub commit_clock : Config → ℕ → ℕ → ℕ → ℕ
 commit_clock c word seat at = next_clock word seat (slot_at c at)
 
 -- the stamp of the commit that a clock word names
-abbrev pub named_place : ℕ → Place
+abbrev pub named_place : ℕ → SharedWord
 named_place word = Stamp (clock_seat_of word) (clock_slot_of word)
 
 -- the word of the next step of an entering
-abbrev pub entering_place : ℕ → Entering → Place
+abbrev pub entering_place : ℕ → Entering → SharedWord
 entering_place seat LoadLow = Clock
 entering_place seat (StoreMark mark) = Mark seat
 entering_place seat LoadTime = Clock
 
 -- the word of the next step of a help of a clock word
-abbrev pub helping_place : Helping → Place
+abbrev pub helping_place : Helping → SharedWord
 helping_place (LoadNamed word) = named_place word
 helping_place (LoadCheck word unset) = Clock
 helping_place (SwapStamp word unset) = named_place word
 
 -- the word of the next step of a walk over an object
-abbrev pub walking_place : Config → ℕ → Walking → Place
+abbrev pub walking_place : Config → ℕ → Walking → SharedWord
 walking_place c object LoadHead = Head object
 walking_place c object (LoadFirst link) = First (link_seat_of link) (link_slot c link)
 walking_place c object (LoadStamp link first) = Stamp (link_seat_of link) (slot_at c first)
@@ -76,7 +76,7 @@ walking_place c object (LoadWord link words word) =
     if link == 0 then Master object word else Data (link_seat_of link) (link_slot c link) word
 
 -- the word of the next step of a lock behind its walk, of this object at this position
-abbrev pub locking_place : Config → ℕ → ℕ → ℕ → Locking → Place
+abbrev pub locking_place : Config → ℕ → ℕ → ℕ → Locking → SharedWord
 locking_place c seat object at (Build field) = field_place seat (slot_at c at) field
 locking_place c seat object at LockHead = Head object
 locking_place c seat object at ClearPrevious = Prev seat (slot_at c at)
@@ -84,7 +84,7 @@ locking_place c seat object at (FoundFirst link) = First (link_seat_of link) (li
 locking_place c seat object at (FoundStamp link first) = Stamp (link_seat_of link) (slot_at c first)
 
 -- the word of the next step of a commit, an abort or a leave, or of the rest of a tidy
-abbrev pub ending_place : Config → ℕ → Ending → Place
+abbrev pub ending_place : Config → ℕ → Ending → SharedWord
 ending_place c seat LoadNow = Clock
 ending_place c seat (Name word new) = Clock
 ending_place c seat (StampOwn first time) = Stamp seat (slot_at c first)
@@ -94,7 +94,7 @@ ending_place c seat LoadDeath = Clock
 ending_place c seat (Leave leaving) = Mark seat
 
 -- the word of the next step of a tidy
-abbrev pub sweeping_place : Config → ℕ → Sweeping → Place
+abbrev pub sweeping_place : Config → ℕ → Sweeping → SharedWord
 sweeping_place c seat (LoadGrace again) = Grace
 sweeping_place c seat (Free at left) = Stamp seat (slot_at c at)
 sweeping_place c seat LoadScan = Clock
@@ -110,7 +110,7 @@ sweeping_place c seat (LoadSuperAgain at) = Super seat (slot_at c at)
 sweeping_place c seat (NameRest word new) = Clock
 
 -- the word of the next step of a call
-abbrev pub place_in_task : Config → ℕ → Task → Place
+abbrev pub place_in_task : Config → ℕ → NextStep → SharedWord
 place_in_task c seat (Enters step) = entering_place seat step
 place_in_task c seat (Helps step) = helping_place step
 place_in_task c seat (Walks object next) = walking_place c object next
@@ -132,7 +132,7 @@ helping_access (LoadCheck word unset) = Load
 helping_access (SwapStamp word unset) = Swap unset (clock_time_of word)
 
 -- a word of a version's slot, by its offset
-abbrev pub field_word : Version → ℕ → ℕ → ℕ
+abbrev pub field_word : NotedVersion → ℕ → ℕ → ℕ
 field_word version at zero = version.first
 field_word version at (suc zero) = stamp_from at
 field_word version at (suc (suc zero)) = version.previous
@@ -140,7 +140,7 @@ field_word version at (suc (suc (suc zero))) = 0
 field_word version at (suc (suc (suc (suc word)))) = slice_index version.words word
 
 -- what the next step of a lock behind its walk, of this version at this position, does with its word
-abbrev pub locking_access : ℕ → Version → ℕ → Locking → Access
+abbrev pub locking_access : ℕ → NotedVersion → ℕ → Locking → Access
 locking_access seat version at (Build field) = Store (field_word version at field)
 locking_access seat version at LockHead = Swap version.previous (link_to seat at)
 locking_access seat version at ClearPrevious = Store 0
@@ -174,7 +174,7 @@ sweeping_access seat (LoadSuperAgain at) = Load
 sweeping_access seat (NameRest word new) = Swap word new
 
 -- what the next step of a call does with its word
-abbrev pub access_in_task : ℕ → Task → Access
+abbrev pub access_in_task : ℕ → NextStep → Access
 access_in_task seat (Enters step) = entering_access step
 access_in_task seat (Helps step) = helping_access step
 access_in_task seat (Walks object next) = Load

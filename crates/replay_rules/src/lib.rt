@@ -40,6 +40,6 @@ mod seats;
 pub use laws::{runs_are_ruled, turns_go_on, turns_make_one_step};
 pub use plan::{Call, CallOf, MOST_STEPS, Plan, PlanFault, PlanKind};
 pub use seats::{
-    Access, Answer, Back, Edit, Ending, Entering, Helping, Leaving, Locking, Reclaimed, Scanned,
-    State, Sweep, Sweeping, Task, Test, Then, Version, Walking,
+    Access, CallAnswer, Edit, Ending, Entering, Helping, Leaving, Locking, NextStep, NotedVersion,
+    Reclaimed, Scanned, State, Sweep, Sweeping, Test, Then, Walking, WriteBackEnd,
 };

@@ -5,7 +5,7 @@ use mv_history::{Holder, LockAnswer, Words};
 
 /// A version in a seat's log, as its owner notes it. Its position is its place among all that the seat ever had.
 #[derive(Clone, Copy, Drop)]
-pub struct Version {
+pub struct NotedVersion {
     /// The position of its write set's first version.
     pub first: usize,
     pub object: u32,
@@ -140,7 +140,7 @@ pub enum Leaving {
 /// What a write-back has come to when its seat leaves the section: the chain is cut, HEAD was 0, or HEAD named a newer
 /// version, of this seat if it is another.
 #[derive(Clone, Copy, Drop)]
-pub enum Back {
+pub enum WriteBackEnd {
     WasCut { dead: u64 },
     WasGone,
     WasAbove { seat: Option<u32> },
@@ -185,7 +185,7 @@ pub enum Sweeping {
     },
     LeaveBack {
         at: usize,
-        back: Back,
+        back: WriteBackEnd,
     },
     LoadSuperAgain {
         at: usize,
@@ -198,7 +198,7 @@ pub enum Sweeping {
 
 /// The next step of a call.
 #[derive(Clone, Copy, Drop)]
-pub enum Task {
+pub enum NextStep {
     Enters(Entering),
     Helps(Helping),
     Walks {
@@ -206,7 +206,7 @@ pub enum Task {
         next: Walking,
     },
     Locks {
-        version: Version,
+        version: NotedVersion,
         at: usize,
         next: Locking,
     },
@@ -233,7 +233,7 @@ pub enum Access {
 pub enum Edit {
     Kept,
     /// One version more, the last one.
-    Pushed(Version),
+    Pushed(NotedVersion),
     /// A word of the version at this position.
     WordPut { at: usize, word: u32, value: u64 },
     /// From this position on all versions are committed at this time.
@@ -256,7 +256,7 @@ pub struct Reclaimed {
 
 /// What a call answers.
 #[derive(Clone, Copy)]
-pub enum Answer {
+pub enum CallAnswer {
     Silent,
     AtTime(u64),
     SixWords(Words),
@@ -268,8 +268,8 @@ pub enum Answer {
 /// How a call goes on: by a step, or it ends.
 #[derive(Clone, Copy)]
 pub enum Then {
-    Goes(Task),
-    Ends(Answer),
+    Goes(NextStep),
+    Ends(CallAnswer),
 }
 
 /// What a version is looked for by.

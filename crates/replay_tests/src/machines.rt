@@ -4,7 +4,7 @@ ghost use Rattle.step_replay.specs.FirstSteps.{entered_and_left};
 ghost use Rattle.step_replay.specs.Machines.{IsBehind, config_of};
 
 use crate::expected::expect;
-use mv_layout::{Config, Place, clock_time};
+use mv_layout::{Config, SharedWord, clock_time};
 use std::test::*;
 use step_replay::{Machine, place_cell, place_number};
 
@@ -22,18 +22,18 @@ const SMALL: Config = Config {
 #[test]
 fn the_numbers_of_words(rt: HostRuntime) {
     let numbers = [
-        place_number(&SMALL, Place::Clock),
-        place_number(&SMALL, Place::Grace),
-        place_number(&SMALL, Place::Mark(0)),
-        place_number(&SMALL, Place::Mark(1)),
-        place_number(&SMALL, Place::Head(0)),
-        place_number(&SMALL, Place::Master(0, 0)),
-        place_number(&SMALL, Place::Master(0, 5)),
-        place_number(&SMALL, Place::First(0, 0)),
-        place_number(&SMALL, Place::Stamp(0, 1)),
-        place_number(&SMALL, Place::Prev(0, 63)),
-        place_number(&SMALL, Place::Super(1, 0)),
-        place_number(&SMALL, Place::Data(1, 63, 5)),
+        place_number(&SMALL, SharedWord::Clock),
+        place_number(&SMALL, SharedWord::Grace),
+        place_number(&SMALL, SharedWord::Mark(0)),
+        place_number(&SMALL, SharedWord::Mark(1)),
+        place_number(&SMALL, SharedWord::Head(0)),
+        place_number(&SMALL, SharedWord::Master(0, 0)),
+        place_number(&SMALL, SharedWord::Master(0, 5)),
+        place_number(&SMALL, SharedWord::First(0, 0)),
+        place_number(&SMALL, SharedWord::Stamp(0, 1)),
+        place_number(&SMALL, SharedWord::Prev(0, 63)),
+        place_number(&SMALL, SharedWord::Super(1, 0)),
+        place_number(&SMALL, SharedWord::Data(1, 63, 5)),
     ];
     expect(
         &rt,
@@ -45,18 +45,18 @@ fn the_numbers_of_words(rt: HostRuntime) {
 #[test]
 fn the_cells_of_words(rt: HostRuntime) {
     let cells = [
-        place_cell(&SMALL, Place::Clock),
-        place_cell(&SMALL, Place::Grace),
-        place_cell(&SMALL, Place::Mark(0)),
-        place_cell(&SMALL, Place::Mark(1)),
-        place_cell(&SMALL, Place::Head(0)),
-        place_cell(&SMALL, Place::Master(0, 0)),
-        place_cell(&SMALL, Place::Master(0, 5)),
-        place_cell(&SMALL, Place::First(0, 0)),
-        place_cell(&SMALL, Place::Stamp(0, 1)),
-        place_cell(&SMALL, Place::Prev(0, 63)),
-        place_cell(&SMALL, Place::Super(1, 0)),
-        place_cell(&SMALL, Place::Data(1, 63, 5)),
+        place_cell(&SMALL, SharedWord::Clock),
+        place_cell(&SMALL, SharedWord::Grace),
+        place_cell(&SMALL, SharedWord::Mark(0)),
+        place_cell(&SMALL, SharedWord::Mark(1)),
+        place_cell(&SMALL, SharedWord::Head(0)),
+        place_cell(&SMALL, SharedWord::Master(0, 0)),
+        place_cell(&SMALL, SharedWord::Master(0, 5)),
+        place_cell(&SMALL, SharedWord::First(0, 0)),
+        place_cell(&SMALL, SharedWord::Stamp(0, 1)),
+        place_cell(&SMALL, SharedWord::Prev(0, 63)),
+        place_cell(&SMALL, SharedWord::Super(1, 0)),
+        place_cell(&SMALL, SharedWord::Data(1, 63, 5)),
     ];
     expect(
         &rt,
@@ -79,11 +79,11 @@ fn enter_and_leave(machine: &mut Machine, seat: u32) -> [u64; 4]
     requires seat { seat < (config_of machine.old).seats }
     ensures { (low : ℕ) × IsBehind machine.new (entered_and_left seat low) }
 {
-    let first = machine.load(Place::Clock);
+    let first = machine.load(SharedWord::Clock);
     let low = clock_time(first);
-    let outside = machine.store(Place::Mark(seat), 1 + low);
-    let second = machine.load(Place::Clock);
-    let inside = machine.store(Place::Mark(seat), 0);
+    let outside = machine.store(SharedWord::Mark(seat), 1 + low);
+    let second = machine.load(SharedWord::Clock);
+    let inside = machine.store(SharedWord::Mark(seat), 0);
     [first, outside, second, inside]
 }
 

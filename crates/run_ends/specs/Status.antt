@@ -6,8 +6,8 @@ use Rattle.script_parser.specs.declared.faults.FaultKind.{FaultKind}
 use Rattle.script_parser.specs.declared.faults.FaultKind.TheVariants.{Word, Count, Format, Name, Key, Value, Same, Many}
 use Rattle.run_words.specs.declared.request.Limit.{Limit as LimitOf}
 use Rattle.run_words.specs.declared.request.Limit.TheVariants.{Objects, Slots, Base, Files, Number, Seat, Seats}
-use Rattle.run_ends.specs.declared.finish.Closed.{Closed}
-use Rattle.run_ends.specs.declared.finish.Closed.TheVariants.{No}
+use Rattle.run_ends.specs.declared.finish.LeftDomain.{LeftDomain}
+use Rattle.run_ends.specs.declared.finish.LeftDomain.TheVariants.{No}
 use Rattle.run_ends.specs.declared.finish.Finish.{Finish}
 use Rattle.run_ends.specs.declared.finish.Finish.TheVariants.{Done, Usage, Limit, Stopped, Write}
 use Rattle.script_files.specs.declared.stop.Stop.{Stop}
@@ -59,7 +59,7 @@ abbrev pub IsOrMemory : ℕ → ℕ → Type 0
 IsOrMemory status wanted = (status ≡ wanted) ⊎ (status ≡ 7)
 
 -- what is left of the domain: nothing, where not all was written
-abbrev pub closed_of : Finish → Closed
+abbrev pub closed_of : Finish → LeftDomain
 closed_of (Done closed) = closed
 closed_of _ = No
 

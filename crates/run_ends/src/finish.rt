@@ -8,7 +8,7 @@ use set_script::SetRules;
 
 /// What a run of the program leaves of its domain.
 #[derive(Drop)]
-pub enum Closed {
+pub enum LeftDomain {
     /// No domain was run, or not to its end.
     No,
     /// The domain of the sets on which the scripts were run. Its seats have met, so its one history is known whole.
@@ -25,14 +25,14 @@ pub struct Ran {
     /// The status, 0 to 7.
     pub status: u8,
     /// The domain of the run, where the status is 0 and scripts were run.
-    pub closed: Closed,
+    pub closed: LeftDomain,
 }
 
 /// How a call of the program ends.
 #[derive(Drop)]
 pub enum Finish {
     /// The whole text was written.
-    Done(Closed),
+    Done(LeftDomain),
     /// The words are out of form.
     Usage,
     /// This number of the words is out of its range.

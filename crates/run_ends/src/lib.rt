@@ -5,7 +5,7 @@
 //! A call ends in one of five ways ([`Finish`]): the whole text was written, the words are out of form or have a number that
 //! is out of its range, reading the files stopped (`Stop` of `script_files`), or writing failed. Each way has a status
 //! (`status_of` in specs/Status.antt) and a line on standard error (`line_of`). What is left of the domain that was run,
-//! with its one history, is a [`Closed`].
+//! with its one history, is a [`LeftDomain`].
 //!
 //! # Contract
 //!
@@ -27,7 +27,7 @@ mod line;
 mod sending;
 mod statuses;
 
-pub use finish::{Closed, Finish, Ran};
+pub use finish::{Finish, LeftDomain, Ran};
 pub use line::report;
 pub use mvrlu;
 pub use script_files;

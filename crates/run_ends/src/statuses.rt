@@ -2,7 +2,7 @@
 ghost use Rattle.std.specs.Prelude.{◌≡◌};
 ghost use Rattle.run_ends.specs.Status.{closed_of, status_of, stop_status};
 
-use crate::finish::{Closed, Finish};
+use crate::finish::{Finish, LeftDomain};
 use script_files::Stop;
 use script_files::block_parser::BlockKind;
 use script_files::step_replay::PlanKind;
@@ -46,11 +46,11 @@ fn stop_status(stop: &Stop) -> u8
 }
 
 /// What is left of the domain: nothing, where not all was written.
-pub fn into_closed(finish: Finish) -> Closed
+pub fn into_closed(finish: Finish) -> LeftDomain
     ensures { result ≡ closed_of finish }
 {
     match finish {
         Finish::Done(closed) => closed,
-        _ => Closed::No,
+        _ => LeftDomain::No,
     }
 }

@@ -16,7 +16,7 @@
 //! # Contract
 //!
 //! [`open_run`] opens the domain of a run: with all the numbers that it is to have, and objects that are all zero.
-//! [`ran_or_met`] lets the seats meet where a run was refused for want of memory. What a run tells is a [`Told`], and [`tell`] makes
+//! [`ran_or_met`] lets the seats meet where a run was refused for want of memory. What a run tells is a [`RunAnswer`], and [`tell`] makes
 //! the text of one on the sets, with the lines in their order. Lemmas: what a run hands back can meet (proofs/Opened.antt); the
 //! domain is left of a run along the chains of its seats, once its sets are read (proofs/Along.antt); and the text of the lines
 //! in their order is that of the run (proofs/InOrder.antt).
@@ -36,4 +36,4 @@ pub use domain_lines;
 pub use domain_loan;
 pub use mvrlu;
 pub use opening::{USUAL, WRITE_MAX, open_run, ran_or_met};
-pub use telling::{FromRun, Told, tell};
+pub use telling::{FromRun, RunAnswer, tell};

@@ -12,7 +12,7 @@ use std::thread::Threads;
 
 /// What a run tells: what is left of its domain, which has the table of each seat's log, its lines, and how it ended.
 #[derive(Drop)]
-pub struct Told<P: Protocol, End: Drop> {
+pub struct RunAnswer<P: Protocol, End: Drop> {
     pub closing: Closing<P>,
     pub lines: Vec<Line>,
     pub end: End,
@@ -27,12 +27,12 @@ pub fn tell<R: Threads + Sync, P: Protocol>(
     rt: &R,
     alloc: Global,
     threads: usize,
-    told: Told<P, Catalogue>,
+    told: RunAnswer<P, Catalogue>,
 ) -> Result<FromRun<P>, AllocError>
     ensures left { IfOk result (λ r. r.1 ≡ told.closing) }
     ensures text { IfOk result (λ r. IsTextInOrder told.lines.items told.end (whole_of told.closing).tables r.0.items) }
 {
-    let Told {
+    let RunAnswer {
         closing,
         mut lines,
         end,

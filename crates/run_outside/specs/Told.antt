@@ -2,7 +2,7 @@
 use Rattle.std.specs.Prelude.{ℕ, List, [], ◌∷◌, ◌++◌}
 use Rattle.run_outside.specs.declared.told.Letters as letters
 use Rattle.run_outside.specs.declared.told.Failures as failures
-use Rattle.run_outside.specs.declared.told.Told.{Told}
+use Rattle.run_outside.specs.declared.told.CallRecord.{CallRecord}
 
 -- the bytes of a name
 abbrev pub letters_of : letters.Letters → List ℕ
@@ -15,9 +15,9 @@ failures_of failures.None = []
 failures_of (failures.Then' _ before name) = failures_of before ++ letters_of name.value.value ∷ []
 
 -- the name by which a text was opened last
-abbrev pub name_in : Told → List ℕ
+abbrev pub name_in : CallRecord → List ℕ
 name_in t = letters_of t.name.value
 
 -- the names of the texts of which a call failed, in the order of the calls, by what is told
-abbrev pub failures_in : Told → List (List ℕ)
+abbrev pub failures_in : CallRecord → List (List ℕ)
 failures_in t = failures_of t.failures.value

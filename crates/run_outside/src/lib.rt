@@ -13,7 +13,7 @@
 //! # Contract
 //!
 //! A read puts the next bytes of the open text into the buffer, and a write takes the first bytes of the piece, at
-//! least one, or fails and takes none. [`Told`] is what clauses see of the calls of files: the name that was opened
+//! least one, or fails and takes none. [`CallRecord`] is what clauses see of the calls of files: the name that was opened
 //! last, and the names of those that failed.
 //!
 //! # Place
@@ -32,4 +32,4 @@ mod told;
 pub use gate::{Gate, OpenGate};
 pub use outside::{Failed, Files, Sink};
 pub use real::{RealErr, RealFiles, RealOut};
-pub use told::Told;
+pub use told::CallRecord;

@@ -4,7 +4,7 @@ ghost use Rattle.std.specs.Option.{option_map};
 ghost use Rattle.std.proofs.Common.{rules};
 ghost use Rattle.run_outside.specs.Told.{name_in, failures_in};
 
-use crate::told::Told;
+use crate::told::CallRecord;
 use crate::{Failed, Files, Sink};
 use std::io::{self, ErrorKind, Read};
 use std::sync::Wait;
@@ -36,7 +36,7 @@ fn opened<R: rt::Files + Wait>(rt: &R, name: &str) -> Option<R::File> {
 pub struct RealFiles<'r, R: rt::Files + Wait> {
     rt: &'r R,
     opened: Option<R::File>,
-    told: Told,
+    told: CallRecord,
     faults: u64,
 }
 
@@ -48,7 +48,7 @@ impl<'r, R: rt::Files + Wait> RealFiles<'r, R> {
         RealFiles {
             rt,
             opened: None,
-            told: Told::new(),
+            told: CallRecord::new(),
             faults: 0,
         }
     }

@@ -28,17 +28,17 @@ pub(crate) enum Failures {
 
 /// The name by which a text was opened last, and the names of the texts of which a call failed.
 #[derive(Drop)]
-pub struct Told {
+pub struct CallRecord {
     name: Snapshot<Letters>,
     failures: Snapshot<Failures>,
 }
 
-impl Told {
+impl CallRecord {
     /// No text was opened, and no call failed.
-    pub fn new() -> Told
+    pub fn new() -> CallRecord
         ensures { failures_in result ≡ [] }
     {
-        Told {
+        CallRecord {
             name: Snapshot::of(&Letters::None),
             failures: Snapshot::of(&Failures::None),
         }

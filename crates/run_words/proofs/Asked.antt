@@ -8,16 +8,16 @@ use Rattle.std.proofs.lemmas.Bool.{false_from_ne_true}
 use Rattle.std.proofs.lemmas.List.{take_all}
 use Rattle.std.proofs.lemmas.Slice.Eq.{bytes_eq-Decides}
 use Rattle.run_words.specs.declared.request.Request.{Request}
-use Rattle.run_words.specs.declared.request.Refusal.{Refusal}
-use Rattle.run_words.specs.declared.request.Refusal.TheVariants.{Form}
+use Rattle.run_words.specs.declared.request.BadWords.{BadWords}
+use Rattle.run_words.specs.declared.request.BadWords.TheVariants.{Form}
 use Rattle.run_words.specs.Words.{Asks, asks_of, asked}
 
 -- a request, or a refusal, says what is asked
-abbrev pub Says : Result Request Refusal → Result Asks Refusal → Type 0
+abbrev pub Says : Result Request BadWords → Result Asks BadWords → Type 0
 Says result what = MatchResult result (λ request. what ≡ Ok (asks_of request)) (λ refusal. what ≡ Err refusal)
 
 -- what says a part's asking says that of the whole, where these are the same
-pub says : (result : Result Request Refusal) (whole part : Result Asks Refusal) → whole ≡ part → Says result part → Says result whole
+pub says : (result : Result Request BadWords) (whole part : Result Asks BadWords) → whole ≡ part → Says result part → Says result whole
 says result whole part e h = rw e h
 
 -- words whose first is this text ask for what the text asks with the words behind it

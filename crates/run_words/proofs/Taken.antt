@@ -3,10 +3,10 @@ use Rattle.std.proofs.Common.{◌≡◌, ◌≤◌, ◌-◌, ℕ, List, [], ◌�
 use Rattle.std.specs.declared.alloc.Global.{Global}
 use Rattle.std.proofs.lemmas.List.{take_all}
 use Rattle.run_words.specs.declared.options.Flag.{Flag}
-use Rattle.run_words.specs.declared.options.Given.{Given}
+use Rattle.run_words.specs.declared.options.GivenOptions.{GivenOptions}
 use Rattle.run_words.specs.Words.{add_option, flag_of, number_of, options_of}
 
-module _ (given next : Given) (flag : Flag) (n : ℕ) where
+module _ (given next : GivenOptions) (flag : Flag) (n : ℕ) where
   step : (word value : List ℕ) (words : List (List ℕ)) → flag_of word ≡ Some flag → number_of value ≡ Some n → add_option flag n given ≡ Some next
       → options_of given (word ∷ value ∷ words) ≡ options_of next words
   step word value words f v a = rw (f, v, a) refl

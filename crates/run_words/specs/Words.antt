@@ -10,11 +10,11 @@ use Rattle.run_words.specs.declared.request.Request.{Request}
 use Rattle.run_words.specs.declared.request.Request.TheVariants.{Run, Gen, Work, Block, Pool, Grow, Replay}
 use Rattle.run_words.specs.declared.request.Limit.{Limit}
 use Rattle.run_words.specs.declared.request.Limit.TheVariants as limits
-use Rattle.run_words.specs.declared.request.Refusal.{Refusal}
-use Rattle.run_words.specs.declared.request.Refusal.TheVariants.{Form, Beyond}
+use Rattle.run_words.specs.declared.request.BadWords.{BadWords}
+use Rattle.run_words.specs.declared.request.BadWords.TheVariants.{Form, Beyond}
 use Rattle.run_words.specs.declared.options.Flag.{Flag}
 use Rattle.run_words.specs.declared.options.Flag.TheVariants.{Objects, Slots, Base}
-use Rattle.run_words.specs.declared.options.Given.{Given}
+use Rattle.run_words.specs.declared.options.GivenOptions.{GivenOptions}
 
 -- what words ask for
 pub data Asks : Type 0 where
@@ -46,12 +46,12 @@ flag_of word =
     else None))
 
 -- a number that wasn't given yet is given
-abbrev pub put : Option ℕ → ℕ → (Option ℕ → Given) → Option Given
+abbrev pub put : Option ℕ → ℕ → (Option ℕ → GivenOptions) → Option GivenOptions
 put None number given = Some (given (Some number))
 put (Some before) number given = None
 
 -- the options with one more, where it wasn't given yet
-abbrev pub add_option : Flag → ℕ → Given → Option Given
+abbrev pub add_option : Flag → ℕ → GivenOptions → Option GivenOptions
 add_option Objects number given = put given.objects number (λ n. record given { objects = n })
 add_option Slots number given = put given.slots number (λ n. record given { slots = n })
 add_option Base number given = put given.base number (λ n. record given { base = n })
@@ -67,14 +67,14 @@ with_flag None a f = a
 with_flag (Some flag) a f = f flag
 
 -- The options that the words begin with, and the words behind them. An option comes at most once, and its number is the next word.
-abbrev pub options_of : Given → List (List ℕ) → Option (Given × List (List ℕ))
+abbrev pub options_of : GivenOptions → List (List ℕ) → Option (GivenOptions × List (List ℕ))
 options_of given (word ∷ value ∷ words) =
     with_flag (flag_of word) (Some (given, word ∷ value ∷ words))
     (λ flag. from (number_of value) (λ number. from (add_option flag number given) (λ next. options_of next words)))
 options_of given words = Some (given, words)
 
 -- the options before any is given
-abbrev pub none_given : Given
+abbrev pub none_given : GivenOptions
 none_given = record { objects = None; slots = None; base = None }
 
 -- whether a word may be a FILE: it isn't empty and doesn't begin with `-`
@@ -88,17 +88,17 @@ are_files [] = false
 are_files (word ∷ words) = list_all is_file (word ∷ words)
 
 -- options with words behind them that are FILEs are in form
-abbrev pub in_form : Option (Given × List (List ℕ)) → Result (Given × List (List ℕ)) Refusal
+abbrev pub in_form : Option (GivenOptions × List (List ℕ)) → Result (GivenOptions × List (List ℕ)) BadWords
 in_form None = Err Form
 in_form (Some parts) = if are_files parts.1 then Ok parts else Err Form
 
 -- a number that was read is in form
-abbrev pub read : Option ℕ → Result ℕ Refusal
+abbrev pub read : Option ℕ → Result ℕ BadWords
 read None = Err Form
 read (Some number) = Ok number
 
 -- a number in its range
-abbrev pub within : Limit → ℕ → ℕ → ℕ → Result ℕ Refusal
+abbrev pub within : Limit → ℕ → ℕ → ℕ → Result ℕ BadWords
 within limit least most number = if nat_le least number && nat_le number most then Ok number else Err (Beyond limit)
 
 -- the number given, or the one that stands for none
@@ -107,7 +107,7 @@ given_or default None = default
 given_or default (Some number) = number
 
 -- what the words behind `run` ask for: the form comes first, then the numbers in this order
-abbrev pub run_asked : List (List ℕ) → Result Asks Refusal
+abbrev pub run_asked : List (List ℕ) → Result Asks BadWords
 run_asked words = do
   parts ← in_form (options_of none_given words)
   objects ← within limits.Objects 181 65535 (given_or 4096 parts.0.objects)
@@ -116,7 +116,7 @@ run_asked words = do
   if nat_le (length parts.1) 64 then Ok (run (record { objects = objects; slots = slots; base = base }) parts.1) else Err (Beyond limits.Files)
 
 -- what the words behind `gen` ask for
-abbrev pub gen_asked : List (List ℕ) → Result Asks Refusal
+abbrev pub gen_asked : List (List ℕ) → Result Asks BadWords
 gen_asked (first ∷ second ∷ []) = do
   number ← read (number_of first)
   seat ← read (number_of second)
@@ -126,7 +126,7 @@ gen_asked (first ∷ second ∷ []) = do
 gen_asked words = Err Form
 
 -- what the words behind `work` ask for
-abbrev pub work_asked : List (List ℕ) → Result Asks Refusal
+abbrev pub work_asked : List (List ℕ) → Result Asks BadWords
 work_asked (first ∷ []) = do
   number ← read (number_of first)
   number ← within limits.Number 0 18446744073709551615 number
@@ -134,21 +134,21 @@ work_asked (first ∷ []) = do
 work_asked words = Err Form
 
 -- words that are the files of a run: the form comes first, then their number
-abbrev pub few_files : List (List ℕ) → Result (List (List ℕ)) Refusal
+abbrev pub few_files : List (List ℕ) → Result (List (List ℕ)) BadWords
 few_files words = if are_files words then (if nat_le (length words) 64 then Ok words else Err (Beyond limits.Files)) else Err Form
 
 -- what the words behind `block` ask for
-abbrev pub block_asked : List (List ℕ) → Result Asks Refusal
+abbrev pub block_asked : List (List ℕ) → Result Asks BadWords
 block_asked words = do
   names ← few_files words
   Ok (block names)
 
 -- a word that may be a FILE is in form
-abbrev pub one_file : List ℕ → Result (List (List ℕ)) Refusal
+abbrev pub one_file : List ℕ → Result (List (List ℕ)) BadWords
 one_file word = if is_file word then Ok (word ∷ []) else Err Form
 
 -- what the words behind `pool` ask for
-abbrev pub pool_asked : List (List ℕ) → Result Asks Refusal
+abbrev pub pool_asked : List (List ℕ) → Result Asks BadWords
 pool_asked (first ∷ second ∷ []) = do
   seats ← read (number_of first)
   names ← one_file second
@@ -157,20 +157,20 @@ pool_asked (first ∷ second ∷ []) = do
 pool_asked words = Err Form
 
 -- what the words behind `grow` ask for
-abbrev pub grow_asked : List (List ℕ) → Result Asks Refusal
+abbrev pub grow_asked : List (List ℕ) → Result Asks BadWords
 grow_asked words = do
   names ← few_files words
   Ok (grow names)
 
 -- what the words behind `replay` ask for
-abbrev pub replay_asked : List (List ℕ) → Result Asks Refusal
+abbrev pub replay_asked : List (List ℕ) → Result Asks BadWords
 replay_asked (first ∷ []) = do
   names ← one_file first
   Ok (replay names)
 replay_asked words = Err Form
 
 -- What the words ask for, or the first reason why they ask for nothing.
-abbrev pub asked : List (List ℕ) → Result Asks Refusal
+abbrev pub asked : List (List ℕ) → Result Asks BadWords
 asked [] = Err Form
 asked (first ∷ words) =
     if bytes_eq first (codes "run") then run_asked words

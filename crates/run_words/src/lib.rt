@@ -23,4 +23,4 @@ mod reading;
 mod request;
 
 pub use reading::read_words;
-pub use request::{Limit, Options, Refusal, Request};
+pub use request::{BadWords, Limit, Options, Request};

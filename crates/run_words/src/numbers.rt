@@ -6,7 +6,7 @@ ghost use Rattle.std.specs.Str.Parse.{digits_value};
 ghost use Rattle.script_parser.specs.Grammar.{is_numeral};
 ghost use Rattle.run_words.specs.Words.{number_of, within};
 
-use crate::request::{Limit, Refusal};
+use crate::request::{BadWords, Limit};
 
 // How many digits a number may have.
 const MOST_DIGITS: usize = 20;
@@ -57,13 +57,13 @@ pub fn read_number(word: &str) -> Option<u128>
 }
 
 /// The number, where it is in its range.
-pub fn within(limit: Limit, least: u64, most: u64, number: u128) -> Result<u64, Refusal>
+pub fn within(limit: Limit, least: u64, most: u64, number: u128) -> Result<u64, BadWords>
     ensures is { result ≡ within limit least most number }
     ensures low { IfOk result (λ n. least ≤ n) }
     ensures high { IfOk result (λ n. n ≤ most) }
 {
     if number < least as u128 || number > most as u128 {
-        return Err(Refusal::Beyond(limit));
+        return Err(BadWords::Beyond(limit));
     }
     Ok(number as u64)
 }

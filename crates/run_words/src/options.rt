@@ -14,7 +14,7 @@ pub enum Flag {
 
 /// The options that were given so far, with their numbers.
 #[derive(Clone, Copy, Drop)]
-pub struct Given {
+pub struct GivenOptions {
     pub objects: Option<u128>,
     pub slots: Option<u128>,
     pub base: Option<u128>,
@@ -33,19 +33,19 @@ fn read_flag(word: &str) -> Option<Flag>
 }
 
 // The options with one more, where it wasn't given yet.
-fn with(given: Given, flag: Flag, number: u128) -> Option<Given>
+fn with(given: GivenOptions, flag: Flag, number: u128) -> Option<GivenOptions>
     ensures { result ≡ add_option flag number given }
 {
     match flag {
-        Flag::Objects if given.objects.is_none() => Some(Given {
+        Flag::Objects if given.objects.is_none() => Some(GivenOptions {
             objects: Some(number),
             ..given
         }),
-        Flag::Slots if given.slots.is_none() => Some(Given {
+        Flag::Slots if given.slots.is_none() => Some(GivenOptions {
             slots: Some(number),
             ..given
         }),
-        Flag::Base if given.base.is_none() => Some(Given {
+        Flag::Base if given.base.is_none() => Some(GivenOptions {
             base: Some(number),
             ..given
         }),
@@ -55,11 +55,11 @@ fn with(given: Given, flag: Flag, number: u128) -> Option<Given>
 
 /// The options that the words begin with, and the words behind them. `None` where an option comes twice or its value
 /// isn't 1 to 20 decimal digits.
-pub fn read_options(words: &[String]) -> Option<(Given, &[String])>
+pub fn read_options(words: &[String]) -> Option<(GivenOptions, &[String])>
     ensures { MatchOption result (options_of none_given (map string_bytes words.now) ≡ None)
         (λ r. options_of none_given (map string_bytes words.now) ≡ Some (r.0, map string_bytes r.1.now)) }
 {
-    let mut given = Given {
+    let mut given = GivenOptions {
         objects: None,
         slots: None,
         base: None,

@@ -6,7 +6,7 @@ ghost use Rattle.run_words.specs.Words.{replay_asked, run_asked, work_asked};
 
 use crate::numbers::{read_number, within};
 use crate::options::read_options;
-use crate::request::{Limit, Options, Refusal, Request};
+use crate::request::{BadWords, Limit, Options, Request};
 
 // The most files of a run.
 const MOST_FILES: usize = 64;
@@ -16,13 +16,13 @@ const MOST_SEATS: u64 = 8;
 
 /// What the words ask for, exactly by `asked`; its numbers are in their ranges. An error is the first reason why they
 /// ask for nothing.
-pub fn read_words(words: &[String]) -> Result<Request<'_>, Refusal>
+pub fn read_words(words: &[String]) -> Result<Request<'_>, BadWords>
     ensures asked { MatchResult result (λ request. asked (map string_bytes words.now) ≡ Ok (asks_of request))
         (λ refusal. asked (map string_bytes words.now) ≡ Err refusal) }
     ensures fit { IfOk result IsFit }
 {
     let [first, rest @ ..] = words else {
-        return Err(Refusal::Form);
+        return Err(BadWords::Form);
     };
     match first.as_str() {
         "run" => read_run(rest),
@@ -32,21 +32,21 @@ pub fn read_words(words: &[String]) -> Result<Request<'_>, Refusal>
         "pool" => read_pool(rest),
         "grow" => read_grow(rest),
         "replay" => read_replay(rest),
-        _ => Err(Refusal::Form),
+        _ => Err(BadWords::Form),
     }
 }
 
 // What the words behind `run` ask for.
-fn read_run(words: &[String]) -> Result<Request<'_>, Refusal>
+fn read_run(words: &[String]) -> Result<Request<'_>, BadWords>
     ensures asked { MatchResult result (λ request. run_asked (map string_bytes words.now) ≡ Ok (asks_of request))
         (λ refusal. run_asked (map string_bytes words.now) ≡ Err refusal) }
     ensures fit { IfOk result IsFit }
 {
     let Some((given, files)) = read_options(words) else {
-        return Err(Refusal::Form);
+        return Err(BadWords::Form);
     };
     if !are_files(files) {
-        return Err(Refusal::Form);
+        return Err(BadWords::Form);
     }
     let objects = match within(Limit::Objects, 181, 65_535, given.objects.unwrap_or(4096)) {
         Ok(objects) => objects,
@@ -61,7 +61,7 @@ fn read_run(words: &[String]) -> Result<Request<'_>, Refusal>
         Err(refusal) => return Err(refusal),
     };
     if files.len() > MOST_FILES {
-        return Err(Refusal::Beyond(Limit::Files));
+        return Err(BadWords::Beyond(Limit::Files));
     }
     let options = Options {
         objects: objects as u32,
@@ -72,7 +72,7 @@ fn read_run(words: &[String]) -> Result<Request<'_>, Refusal>
 }
 
 // What the words behind `block` ask for.
-fn read_block(words: &[String]) -> Result<Request<'_>, Refusal>
+fn read_block(words: &[String]) -> Result<Request<'_>, BadWords>
     ensures asked { MatchResult result (λ request. block_asked (map string_bytes words.now) ≡ Ok (asks_of request))
         (λ refusal. block_asked (map string_bytes words.now) ≡ Err refusal) }
     ensures fit { IfOk result IsFit }
@@ -82,7 +82,7 @@ fn read_block(words: &[String]) -> Result<Request<'_>, Refusal>
 }
 
 // What the words behind `grow` ask for.
-fn read_grow(words: &[String]) -> Result<Request<'_>, Refusal>
+fn read_grow(words: &[String]) -> Result<Request<'_>, BadWords>
     ensures asked { MatchResult result (λ request. grow_asked (map string_bytes words.now) ≡ Ok (asks_of request))
         (λ refusal. grow_asked (map string_bytes words.now) ≡ Err refusal) }
     ensures fit { IfOk result IsFit }
@@ -92,37 +92,37 @@ fn read_grow(words: &[String]) -> Result<Request<'_>, Refusal>
 }
 
 // The words, where they may be the files of a run.
-fn read_files(words: &[String]) -> Result<&[String], Refusal>
+fn read_files(words: &[String]) -> Result<&[String], BadWords>
     ensures read { MatchResult result (λ files. few_files (map string_bytes words.now) ≡ Ok (map string_bytes files.now))
         (λ refusal. few_files (map string_bytes words.now) ≡ Err refusal) }
     ensures fit { IfOk result (λ files. (1 ≤ length files.now) × (length files.now ≤ 64)) }
 {
     if !are_files(words) {
-        return Err(Refusal::Form);
+        return Err(BadWords::Form);
     }
     if words.len() > MOST_FILES {
-        return Err(Refusal::Beyond(Limit::Files));
+        return Err(BadWords::Beyond(Limit::Files));
     }
     Ok(words)
 }
 
 // What the words behind `pool` ask for.
-fn read_pool(words: &[String]) -> Result<Request<'_>, Refusal>
+fn read_pool(words: &[String]) -> Result<Request<'_>, BadWords>
     ensures asked { MatchResult result (λ request. pool_asked (map string_bytes words.now) ≡ Ok (asks_of request))
         (λ refusal. pool_asked (map string_bytes words.now) ≡ Err refusal) }
     ensures fit { IfOk result IsFit }
 {
     let [seats, files @ ..] = words else {
-        return Err(Refusal::Form);
+        return Err(BadWords::Form);
     };
     let [file] = files else {
-        return Err(Refusal::Form);
+        return Err(BadWords::Form);
     };
     let Some(seats) = read_number(seats.as_str()) else {
-        return Err(Refusal::Form);
+        return Err(BadWords::Form);
     };
     if !is_file(file.as_str()) {
-        return Err(Refusal::Form);
+        return Err(BadWords::Form);
     }
     match within(Limit::Seats, 1, MOST_SEATS, seats) {
         Ok(seats) => Ok(Request::Pool {
@@ -134,16 +134,16 @@ fn read_pool(words: &[String]) -> Result<Request<'_>, Refusal>
 }
 
 // What the words behind `replay` ask for.
-fn read_replay(words: &[String]) -> Result<Request<'_>, Refusal>
+fn read_replay(words: &[String]) -> Result<Request<'_>, BadWords>
     ensures asked { MatchResult result (λ request. replay_asked (map string_bytes words.now) ≡ Ok (asks_of request))
         (λ refusal. replay_asked (map string_bytes words.now) ≡ Err refusal) }
     ensures fit { IfOk result IsFit }
 {
     let [file] = words else {
-        return Err(Refusal::Form);
+        return Err(BadWords::Form);
     };
     if !is_file(file.as_str()) {
-        return Err(Refusal::Form);
+        return Err(BadWords::Form);
     }
     Ok(Request::Replay { files: words })
 }
@@ -174,19 +174,19 @@ fn is_file(word: &str) -> bool
 }
 
 // What the words behind `gen` ask for.
-fn read_gen<'w>(words: &[String]) -> Result<Request<'w>, Refusal>
+fn read_gen<'w>(words: &[String]) -> Result<Request<'w>, BadWords>
     ensures asked { MatchResult result (λ request. gen_asked (map string_bytes words.now) ≡ Ok (asks_of request))
         (λ refusal. gen_asked (map string_bytes words.now) ≡ Err refusal) }
     ensures fit { IfOk result IsFit }
 {
     let [number, seat] = words else {
-        return Err(Refusal::Form);
+        return Err(BadWords::Form);
     };
     let Some(number) = read_number(number.as_str()) else {
-        return Err(Refusal::Form);
+        return Err(BadWords::Form);
     };
     let Some(seat) = read_number(seat.as_str()) else {
-        return Err(Refusal::Form);
+        return Err(BadWords::Form);
     };
     let number = within(Limit::Number, 0, u64::MAX, number)?;
     let seat = within(Limit::Seat, 0, 3, seat)?;
@@ -197,16 +197,16 @@ fn read_gen<'w>(words: &[String]) -> Result<Request<'w>, Refusal>
 }
 
 // What the words behind `work` ask for.
-fn read_work<'w>(words: &[String]) -> Result<Request<'w>, Refusal>
+fn read_work<'w>(words: &[String]) -> Result<Request<'w>, BadWords>
     ensures asked { MatchResult result (λ request. work_asked (map string_bytes words.now) ≡ Ok (asks_of request))
         (λ refusal. work_asked (map string_bytes words.now) ≡ Err refusal) }
     ensures fit { IfOk result IsFit }
 {
     let [number] = words else {
-        return Err(Refusal::Form);
+        return Err(BadWords::Form);
     };
     let Some(number) = read_number(number.as_str()) else {
-        return Err(Refusal::Form);
+        return Err(BadWords::Form);
     };
     let number = within(Limit::Number, 0, u64::MAX, number)?;
     Ok(Request::Work { number })

@@ -61,7 +61,7 @@ pub enum Limit {
 
 /// Why words ask for nothing.
 #[derive(Clone, Copy, Drop)]
-pub enum Refusal {
+pub enum BadWords {
     /// They are out of form.
     Form,
     /// They are in form, and this is the first number that is out of its range.

@@ -13,7 +13,7 @@ use Rattle.mv_history.specs.State.{State}
 use Rattle.mv_layout.specs.declared.Config.{Config}
 use Rattle.mv_layout.specs.Limits.{Checked}
 use Rattle.mv_core.specs.declared.view.Phase.TheVariants.{Outside}
-use Rattle.mv_core.specs.declared.view.View.{View}
+use Rattle.mv_core.specs.declared.view.Knowledge.{Knowledge}
 use Rattle.seat_log.specs.Notes.{Noted, nothing_noted}
 use Rattle.seat_log.specs.Stands.{Stands}
 use Rattle.seat_log.proofs.Beginning.{stands_new}
@@ -44,10 +44,10 @@ ready_new s p l seat slots checked new seat_is slots_is noted =
     stands_new (config_of s) (start_of s) p.number checked new.0.1 in
     record {
       may = record {
-        outside = ap (λ (v : View). v.phase) new.1 ∙ (starts_outside (config_of s) (start_of s) p.number).0;
-        no_scan = ap (λ (v : View). v.scan) new.1 ∙ (starts_outside (config_of s) (start_of s) p.number).1;
+        outside = ap (λ (v : Knowledge). v.phase) new.1 ∙ (starts_outside (config_of s) (start_of s) p.number).0;
+        no_scan = ap (λ (v : Knowledge). v.scan) new.1 ∙ (starts_outside (config_of s) (start_of s) p.number).1;
       };
       stands = subst (λ (m : Noted). Stands (config_of s) (view p) m) (sym (noted ∙ (λ i. nothing_noted (seat_is i) (slots_is i))))
-          (subst (λ (v : View). Stands (config_of s) v (nothing_noted p.number (config_of s).slots)) (sym new.1) at);
+          (subst (λ (v : Knowledge). Stands (config_of s) v (nothing_noted p.number (config_of s).slots)) (sym new.1) at);
       unbuilt = ap (λ (m : Noted). m.built) noted;
     }

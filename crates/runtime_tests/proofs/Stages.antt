@@ -3,7 +3,7 @@ use Rattle.std.proofs.Common.{◌≡◌, ℕ, sym, subst, Option}
 use Rattle.mv_history.specs.declared.rules.AnyRules.{AnyRules}
 use Rattle.mv_layout.specs.declared.Config.{Config}
 use Rattle.mv_core.specs.declared.shared.Shared.{Shared}
-use Rattle.mv_core.specs.declared.view.View.{View}
+use Rattle.mv_core.specs.declared.view.Knowledge.{Knowledge}
 use Rattle.mv_core.specs.Passes.{view, config_of}
 use Rattle.seat_log.specs.Notes.{Noted}
 use Rattle.object_lock.specs.declared.locking.StartedLock.{StartedLock}
@@ -45,11 +45,11 @@ module _ (s : Shared AnyRules) (k : Client) (ready : IsReady s k) where
   at_named time e = subst (IsAt (config_of s) (view k.pass) k.log) e ready.1
 
 -- still at that stage
-pub in_stage : (c : Config) (v : View) (l : Noted) (stage : Stage) (word : Option ℕ) → stage ≡ Inside word → IsInside c v l word → IsAt c v l stage
+pub in_stage : (c : Config) (v : Knowledge) (l : Noted) (stage : Stage) (word : Option ℕ) → stage ≡ Inside word → IsInside c v l word → IsAt c v l stage
 in_stage c v l stage word e i = subst (IsAt c v l) (sym e) i
 
-pub still_outside : (c : Config) (v : View) (l : Noted) (stage : Stage) → stage ≡ Outside → IsOutside c v l → IsAt c v l stage
+pub still_outside : (c : Config) (v : Knowledge) (l : Noted) (stage : Stage) → stage ≡ Outside → IsOutside c v l → IsAt c v l stage
 still_outside c v l stage e o = subst (IsAt c v l) (sym e) o
 
-pub still_writing_back : (c : Config) (v : View) (l : Noted) (stage : Stage) → stage ≡ WritingBack → IsWritingBack c v l → IsAt c v l stage
+pub still_writing_back : (c : Config) (v : Knowledge) (l : Noted) (stage : Stage) → stage ≡ WritingBack → IsWritingBack c v l → IsAt c v l stage
 still_writing_back c v l stage e w = subst (IsAt c v l) (sym e) w

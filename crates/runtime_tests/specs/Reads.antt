@@ -1,11 +1,11 @@
 -- The steps of a section that reads an object in its master.
 use Rattle.std.specs.Prelude.{◌≡◌, ℕ, ◌+◌, List, length}
 use Rattle.mv_history.specs.declared.Step.{Step}
-use Rattle.mv_core.specs.declared.view.View.{View}
+use Rattle.mv_core.specs.declared.view.Knowledge.{Knowledge}
 use Rattle.reader_marks.specs.Sections.{EntersBy}
 
 -- nothing changes in a section but what was seen, where the walk stands, which HEADs were found empty, and the trail
-abbrev pub Keeps : View → View → Type 0
+abbrev pub Keeps : Knowledge → Knowledge → Type 0
 Keeps v w = w ≡ record v { past = w.past; walk = w.walk; empty = w.empty; trail = w.trail }
 
 -- the trail has this many steps more

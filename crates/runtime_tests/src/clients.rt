@@ -1,5 +1,5 @@
 // The clients of a domain: a seat's pass and log each, and how far its section has come.
-use log_reclaim::Back;
+use log_reclaim::StartedWriteBack;
 use mv_core::Pass;
 use mv_history::AnyRules;
 use object_lock::StartedLock;
@@ -40,7 +40,7 @@ pub(crate) enum UnderWay {
     /// What a walk over this object ended at, and the client hasn't read.
     Ended(u32, Found),
     /// A write-back, of which so many words were stored.
-    WriteBack(Back, u32),
+    WriteBack(StartedWriteBack, u32),
 }
 
 /// What calls for one seat: its pass, its log, how far it has come, and what it has under way.

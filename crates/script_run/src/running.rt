@@ -5,7 +5,7 @@ ghost use Rattle.script_workers.specs.Workers.{items_of};
 ghost use Rattle.run_kinds.specs.Kinds.{IsLeft};
 ghost use Rattle.script_run.specs.ScriptRuns.{runs};
 
-use run_kinds::{Told, WRITE_MAX, open_run, ran_or_met};
+use run_kinds::{RunAnswer, WRITE_MAX, open_run, ran_or_met};
 use run_outside::Gate;
 use run_words::Options;
 use script_domain::run_domain;
@@ -23,7 +23,7 @@ pub fn run_sets<R: Threads + Wait + Sync, G: Gate>(
     options: Options,
     scripts: &[Vec<Command>],
     gate: &G,
-) -> Result<Told<SetRules, Catalogue>, AllocError>
+) -> Result<RunAnswer<SetRules, Catalogue>, AllocError>
     requires fit { FitOptions options }
     requires some { 1 ≤ length scripts.now }
     requires few { length scripts.now ≤ 64 }
@@ -33,7 +33,7 @@ pub fn run_sets<R: Threads + Wait + Sync, G: Gate>(
     let (domain, seats) = open_run(alloc, options, WRITE_MAX, scripts.len() as u32)?;
     let (mut closing, lines) = ran_or_met(run_domain(rt, alloc, domain, seats, scripts, gate))?;
     let end = read_all(alloc, &mut closing)?;
-    Ok(Told {
+    Ok(RunAnswer {
         closing,
         lines,
         end,

@@ -7,7 +7,7 @@ ghost use Rattle.script_run.specs.ScriptRuns.{IsTextOfScripts, IsTextOfWork};
 
 use crate::generated::{WORK, four_scripts};
 use crate::running::run_sets;
-use run_kinds::{FromRun, Told, tell};
+use run_kinds::{FromRun, RunAnswer, tell};
 use run_outside::{Files, Gate};
 use run_report::{order, summary};
 use run_words::Options;
@@ -50,7 +50,7 @@ pub fn work_text<R: Threads + Wait + Sync, G: Gate>(
     ensures { IfOk result (λ r. IsTextOfWork number r.1 r.0.items) }
 {
     let scripts = four_scripts(alloc, number)?;
-    let Told {
+    let RunAnswer {
         closing,
         mut lines,
         end,

@@ -17,7 +17,7 @@ pub use Rattle.set_script.specs.declared.commands.Command.{Command}
 pub use Rattle.set_script.specs.declared.commands.Reply.{Reply}
 pub use Rattle.set_catalog.specs.Attempts.{Attempted}
 pub use Rattle.set_catalog.specs.Steps.{most_locks}
-pub use Rattle.set_catalog.specs.declared.answer.Attempt.TheVariants.{Done, Again}
+pub use Rattle.set_catalog.specs.declared.answer.CommandAttempt.TheVariants.{Done, Again}
 pub use Rattle.set_script.specs.declared.script.TheConstants.{MOST_COMMANDS}
 pub use Rattle.run_report.specs.Legal.{Follows, command_at}
 pub use Rattle.run_report.specs.Order.{time_of}

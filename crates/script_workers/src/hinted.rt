@@ -2,7 +2,7 @@
 use item_workers::{Runner, Tried};
 use mv_history::Store;
 use section_work::Place;
-use set_catalog::{Attempt, HintedStore, Memo};
+use set_catalog::{CommandAttempt, HintedStore, Memo};
 use set_script::{Command, Reply, SetRules};
 use std::alloc::{AllocError, Global};
 
@@ -76,8 +76,11 @@ impl<S: Store<Rules = SetRules>> Runner for Hinted<S> {
         let Hinted { hinted } = self;
         let (hinted, attempt) = hinted.attempt(item);
         match attempt {
-            Attempt::Done { reply, place } => (Hinted { hinted }, Tried::Done((place, reply))),
-            Attempt::Again(_) => (Hinted { hinted }, Tried::Again),
+            CommandAttempt::Done { reply, place } => (
+                Hinted { hinted },
+                Tried::Done((place, reply)),
+            ),
+            CommandAttempt::Again(_) => (Hinted { hinted }, Tried::Again),
         }
     }
 

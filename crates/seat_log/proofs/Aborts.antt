@@ -10,9 +10,9 @@ use Rattle.mv_layout.specs.Words.{clock_time_of}
 use Rattle.reader_marks.specs.mv_core.declared.ring.Slot.{Slot}
 use Rattle.reader_marks.specs.mv_core.declared.ring.Slot.TheVariants.{Free, Built, Live, Freeing}
 use Rattle.reader_marks.specs.mv_core.declared.ring.Version.{Version}
-use Rattle.reader_marks.specs.mv_core.declared.ring.Status.TheVariants.{Held, Aborted, Committed}
+use Rattle.reader_marks.specs.mv_core.declared.ring.WriteSetStatus.TheVariants.{Held, Aborted, Committed}
 use Rattle.reader_marks.specs.mv_core.declared.ring.CommitNote.{CommitNote}
-use Rattle.reader_marks.specs.mv_core.declared.view.View.{View}
+use Rattle.reader_marks.specs.mv_core.declared.view.Knowledge.{Knowledge}
 use Rattle.reader_marks.specs.mv_core.Rings.{slot_at, is_held, is_spare, HoldsNothing}
 use Rattle.reader_marks.specs.mv_core.LockSteps.{dead_if, timed, death_loaded}
 use Rattle.reader_marks.proofs.mv_core_lemmas.logs.Links.{live_once}
@@ -30,7 +30,7 @@ use Rattle.seat_log.proofs.Noting.{aborted_is_log, abort_counts}
 use Rattle.seat_log.proofs.Ended.{HasEnded, stands_ended}
 
 -- Some of the held versions were taken out of their chains, and are aborted with no death yet; nothing else of the own log has changed.
-pub record HasUnlocked (v u : View) : Type 0 where
+pub record HasUnlocked (v u : Knowledge) : Type 0 where
   pub number : u.number ≡ v.number
   pub next : u.ring.next ≡ v.ring.next
   pub wide : length u.ring.slots ≡ length v.ring.slots
@@ -40,13 +40,13 @@ pub record HasUnlocked (v u : View) : Type 0 where
   pub locks : count_by is_won_lock u.trail ≡ count_by is_won_lock v.trail
 
 -- as many slots pass a test that takes a held version for an aborted one
-unlocked_count : (v u : View) → HasUnlocked v u → (p : Slot → Bool) → ((x : Version) → p (Live x (Aborted None)) ≡ p (Live x Held))
+unlocked_count : (v u : Knowledge) → HasUnlocked v u → (p : Slot → Bool) → ((x : Version) → p (Live x (Aborted None)) ≡ p (Live x Held))
     → count_by p u.ring.slots ≡ count_by p v.ring.slots
 unlocked_count v u e p same =
     count_alike p u.ring.slots v.ring.slots e.wide (λ k. ⊎_elim (λ kept. ap p kept) (λ m. ap p m.2 ∙ same m.0 ∙ sym (ap p m.1)) (e.each k))
 
 -- what was not held is there still
-unlocked_else : (v u : View) → HasUnlocked v u → (k : ℕ) (z : Slot) → slot_at v.ring k ≡ z → is_held z ≡ false → slot_at u.ring k ≡ z
+unlocked_else : (v u : Knowledge) → HasUnlocked v u → (k : ℕ) (z : Slot) → slot_at v.ring k ≡ z → is_held z ≡ false → slot_at u.ring k ≡ z
 unlocked_else v u e k z is unheld =
     ⊎_elim (λ same. same ∙ is) (λ m. let held : true ≡ false = sym (ap is_held m.1) ∙ ap is_held is ∙ unheld in absurd (cc)) (e.each k)
 
@@ -74,7 +74,7 @@ cut_timed d (Live x (Aborted e)) = refl
 cut_timed d (Live x (Committed note)) = note_cut d note
 
 -- no slot of a log that stands for the pass waits for its time of death
-pub unwaiting : (c : Config) (v : View) (l : Noted) (d : ℕ) → Stands c v l → (k : ℕ) (z : Slot) → slot_at v.ring k ≡ z → timed d z ≡ z
+pub unwaiting : (c : Config) (v : Knowledge) (l : Noted) (d : ℕ) → Stands c v l → (k : ℕ) (z : Slot) → slot_at v.ring k ≡ z → timed d z ≡ z
 unwaiting c v l d s k Free e = refl
 unwaiting c v l d s k (Built b) e = refl
 unwaiting c v l d s k (Freeing p q) e = refl
@@ -102,7 +102,7 @@ unwaiting c v l d s k (Live x (Committed note)) e =
     go (suc t) is uncut = by_cut note.cut refl (dead_stays note.dead (suc t) is)
 
 -- an abort ends what was held, with its time of death
-pub abort_ends : (c : Config) (v u : View) (l : Noted) (word : ℕ) (h : List Entry) → Stands c v l → HasUnlocked v u → HoldsNothing u.ring
+pub abort_ends : (c : Config) (v u : Knowledge) (l : Noted) (word : ℕ) (h : List Entry) → Stands c v l → HasUnlocked v u → HoldsNothing u.ring
     → HasEnded v (death_loaded c u word h) (λ n. record n { dead = clock_time_of word + 1 })
 abort_ends c v u l word h s e nothing =
     let d : ℕ = clock_time_of word + 1 in record {
@@ -134,7 +134,7 @@ abort_ends c v u l word h s e nothing =
     }
 
 -- and where nothing was held nothing has to end
-pub nothing_ends : (v u : View) (f : Note → Note) → HasUnlocked v u → HoldsNothing v.ring → HasEnded v u f
+pub nothing_ends : (v u : Knowledge) (f : Note → Note) → HasUnlocked v u → HoldsNothing v.ring → HasEnded v u f
 nothing_ends v u f e nothing = record {
   number = e.number;
   next = e.next;
@@ -151,7 +151,7 @@ nothing_ends v u f e nothing = record {
 }
 
 -- the log stands after an abort of all that was held
-pub stands_aborted : (c : Config) (v w : View) (l : Noted) (dead : ℕ) → Stands c v l → HasEnded v w (λ n. record n { dead = dead }) → l.built ≡ None
+pub stands_aborted : (c : Config) (v w : Knowledge) (l : Noted) (dead : ℕ) → Stands c v l → HasEnded v w (λ n. record n { dead = dead }) → l.built ≡ None
     → w.past.mine ≡ v.past.mine → w.past.rests ≡ v.past.rests → (aborted_noted l dead).aborts ≡ aborts_in w.trail
     → ends_unlocking false w.trail ≡ false → Stands c w (aborted_noted l dead)
 stands_aborted c v w l dead k e unbuilt mine rests aborts settled =

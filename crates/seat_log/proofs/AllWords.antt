@@ -2,7 +2,7 @@
 use Rattle.std.proofs.Common.{◌≡◌, ℕ, zero, suc, ◌+◌, ◌-◌, List, [], ◌∷◌, length, refl, sym, ap, ◌∙◌, subst, arith, slice_index_or}
 use Rattle.std.specs.Prelude.{slice_index, slice_set}
 use Rattle.mv_layout.specs.declared.Config.{Config}
-use Rattle.reader_marks.specs.mv_core.declared.view.View.{View}
+use Rattle.reader_marks.specs.mv_core.declared.view.Knowledge.{Knowledge}
 use Rattle.seat_log.specs.declared.version.Note.{Note}
 use Rattle.seat_log.specs.Notes.{Noted, IsHeld, at_place, with_word, with_words, some_words, some_noted, words_noted}
 use Rattle.seat_log.specs.Stands.{Stands}
@@ -60,23 +60,23 @@ all_noted l position words d six wide =
     (ap (λ ws. record n { words = ws }) (six_words n.words words wide six)))
 
 -- none is noted
-pub none_noted : (c : Config) (v : View) (l : Noted) (position : ℕ) (words : List ℕ) → Stands c v l → Stands c v (some_noted l position words 0)
+pub none_noted : (c : Config) (v : Knowledge) (l : Noted) (position : ℕ) (words : List ℕ) → Stands c v l → Stands c v (some_noted l position words 0)
 none_noted c v l position words k =
     subst (λ ns. Stands c v (record l { live = ns })) (at-same (position - l.freed) l.live) k
 
 -- no word was stored yet, and one more
-pub none_put : (c : Config) (v : View) (position : ℕ) (words : List ℕ) → v ≡ words_put c v position words 0
+pub none_put : (c : Config) (v : Knowledge) (position : ℕ) (words : List ℕ) → v ≡ words_put c v position words 0
 unfolding words_put
 none_put c v position words = refl
 
-pub one_put : (c : Config) (v w u : View) (position i : ℕ) (words : List ℕ) → w ≡ words_put c v position words i
+pub one_put : (c : Config) (v w u : Knowledge) (position i : ℕ) (words : List ℕ) → w ≡ words_put c v position words i
     → u ≡ word_stored c w position i (slice_index words i) → u ≡ words_put c v position words (i + 1)
 unfolding words_put
 one_put c v w u position i words e f =
-    f ∙ ap (λ (z : View). word_stored c z position i (slice_index words i)) e
+    f ∙ ap (λ (z : Knowledge). word_stored c z position i (slice_index words i)) e
     ∙ ap (λ (n : ℕ). words_put c v position words n) (let g : suc i ≡ i + 1 = omega arith in g)
 
-module _ (c : Config) (v w : View) (l : Noted) (position i : ℕ) (words : List ℕ) (held : IsHeld l position)
+module _ (c : Config) (v w : Knowledge) (l : Noted) (position i : ℕ) (words : List ℕ) (held : IsHeld l position)
     (k : Stands c w (some_noted l position words i)) where
   -- the version is held still
   pub held_so : IsHeld (some_noted l position words i) position
@@ -91,7 +91,7 @@ module _ (c : Config) (v w : View) (l : Noted) (position i : ℕ) (words : List 
   open_so a e = subst IsOpen (sym e) (open_still v (words_put c v position words i) (puts_change c v position words i) a)
 
   -- one word more
-  pub one_noted : (u : View) → u ≡ word_stored c w position i (slice_index words i) → Stands c u (some_noted l position words (i + 1))
+  pub one_noted : (u : Knowledge) → u ≡ word_stored c w position i (slice_index words i) → Stands c u (some_noted l position words (i + 1))
   one_noted u e =
       let next : suc i ≡ i + 1 = omega arith in
       subst (λ (n : ℕ). Stands c u (some_noted l position words n)) next

@@ -8,7 +8,7 @@ use Rattle.mv_history.specs.declared.Step.{Step}
 use Rattle.mv_layout.specs.declared.Config.{Config}
 use Rattle.mv_layout.specs.Limits.{Checked}
 use Rattle.reader_marks.specs.mv_core.declared.ring.Slot.TheVariants.{Free, Built, Live, Freeing}
-use Rattle.reader_marks.specs.mv_core.declared.view.View.{View}
+use Rattle.reader_marks.specs.mv_core.declared.view.Knowledge.{Knowledge}
 use Rattle.reader_marks.specs.mv_core.Rings.{slot_at, is_held, is_spare, empty_ring}
 use Rattle.reader_marks.specs.mv_core.Start.{starting_view}
 use Rattle.reader_marks.proofs.mv_core_lemmas.kinds.opening.Starting.{all_free}
@@ -20,7 +20,7 @@ counted : {X : Type 0} (test : X → Bool) (n : ℕ) (x : X) → count_by test (
 counted test n x = sum_by-replicate (λ y. cond (test y) 1 0) n x
 
 -- nothing is noted, and nothing is there
-stands_empty : (c : Config) (v : View) → Checked c → v.number < c.seats → v.ring ≡ empty_ring c → v.past.mine ≡ [] → v.past.rests ≡ 0
+stands_empty : (c : Config) (v : Knowledge) → Checked c → v.number < c.seats → v.ring ≡ empty_ring c → v.past.mine ≡ [] → v.past.rests ≡ 0
     → count_by is_free v.trail ≡ 0 → count_by is_won_cut v.trail ≡ 0 → KeepsLocks [] v.trail → Stands c v (nothing_noted v.number c.slots)
 stands_empty c v checked range ring mine rests frees backs keeps =
     let seats = checked.seats.1 in

@@ -12,7 +12,7 @@ use Rattle.mv_layout.specs.Words.{unset_of}
 use Rattle.reader_marks.specs.mv_core.declared.ring.Slot.{Slot}
 use Rattle.reader_marks.specs.mv_core.declared.ring.Slot.TheVariants.{Built}
 use Rattle.reader_marks.specs.mv_core.declared.ring.Build.{Build}
-use Rattle.reader_marks.specs.mv_core.declared.view.View.{View}
+use Rattle.reader_marks.specs.mv_core.declared.view.Knowledge.{Knowledge}
 use Rattle.reader_marks.specs.mv_core.Rings.{slot_at, index_of}
 use Rattle.reader_marks.specs.mv_core.LockSteps.{nothing_built, build_in, built_too}
 use Rattle.reader_marks.proofs.mv_core_lemmas.logs.Slots.{slot_here, slot_else}
@@ -24,7 +24,7 @@ use Rattle.seat_log.proofs.MayBuild.{begun_first, begun_later}
 use Rattle.seat_log.proofs.StepCounts.{KeepsLocks, keeps_one, keeps_then}
 
 -- only the slot of this position and the trail have changed, and the slot is being built with this
-pub record BuildsOn (c : Config) (v w : View) (position : ℕ) (b : Build) : Type 0 where
+pub record BuildsOn (c : Config) (v w : Knowledge) (position : ℕ) (b : Build) : Type 0 where
   pub rest : w ≡ record v { ring = record v.ring { slots = w.ring.slots }; trail = w.trail }
   pub here : slot_at w.ring (index_of c position) ≡ Built b
   pub others : (j : ℕ) → j ≢ index_of c position → slot_at w.ring j ≡ slot_at v.ring j
@@ -43,7 +43,7 @@ unpassed test steps s e =
     omega arith
 
 -- the first store
-pub builds_first : (c : Config) (v : View) (position field x : ℕ) → index_of c position < length v.ring.slots
+pub builds_first : (c : Config) (v : Knowledge) (position field x : ℕ) → index_of c position < length v.ring.slots
     → BuildsOn c v (stored_next c v position field x) position (built_too (build_at c v position) field x)
 unfolding stored_next
 builds_first c v position field x within =
@@ -60,7 +60,7 @@ builds_first c v position field x within =
     }
 
 -- and one more
-pub builds_more : (c : Config) (v w : View) (position field x : ℕ) (b : Build) → index_of c position < length v.ring.slots → BuildsOn c v w position b
+pub builds_more : (c : Config) (v w : Knowledge) (position field x : ℕ) (b : Build) → index_of c position < length v.ring.slots → BuildsOn c v w position b
     → BuildsOn c v (stored_next c w position field x) position (built_too b field x)
 unfolding stored_next
 builds_more c v w position field x b within on =
@@ -105,7 +105,7 @@ all_set xs ws p q =
     let w = six ws q in
     (λ i. six_set (x.6 i) (w.6 i)) ∙ sym (ap (map Some) w.6)
 
-module _ (c : Config) (v : View) (position first previous : ℕ) (words : List ℕ) (may : MayBuild c v position)
+module _ (c : Config) (v : Knowledge) (position first previous : ℕ) (words : List ℕ) (may : MayBuild c v position)
     (wide : length (build_at c v position).words ≡ 6) (long : length words ≡ 6) where
   -- what is stored after FIRST and STAMP
   record IsBegun (b : Build) : Type 0 where
@@ -120,13 +120,13 @@ module _ (c : Config) (v : View) (position first previous : ℕ) (words : List �
       dite (ℕ_discrete first position)
       (λ e. (
         built_too b 1 (unset_of position),
-        subst (λ (w : View). BuildsOn c v w position (built_too b 1 (unset_of position))) (sym (begun_first c v position first e))
+        subst (λ (w : Knowledge). BuildsOn c v w position (built_too b 1 (unset_of position))) (sym (begun_first c v position first e))
             (builds_more c v (stored_next c v position 0 first) position 1 (unset_of position) b may.within one),
         record { first_is = refl; stamp_is = λ _. refl; words_are = wide },
       ))
       (λ ne. (
         b,
-        subst (λ (w : View). BuildsOn c v w position b) (sym (begun_later c v position first ne)) one,
+        subst (λ (w : Knowledge). BuildsOn c v w position b) (sym (begun_later c v position first ne)) one,
         record { first_is = refl; stamp_is = λ e. absurd (ne e); words_are = wide },
       ))
 
@@ -134,7 +134,7 @@ module _ (c : Config) (v : View) (position first previous : ℕ) (words : List �
   unfolding linked
   links =
       let a = begins in
-      let w : View = begun c v position first in
+      let w : Knowledge = begun c v position first in
       let b : Build = built_too (built_too a.0 2 previous) 3 0 in
       let two = builds_more c v w position 2 previous a.0 may.within a.1 in (
         b,
@@ -149,7 +149,7 @@ module _ (c : Config) (v : View) (position first previous : ℕ) (words : List �
   with_words b zero = b
   with_words b (suc i) = built_too (with_words b i) (4 + i) (slice_index words i)
 
-  adds : (w : View) (b : Build) (i : ℕ) → BuildsOn c v w position b → BuildsOn c v (words_stored c w position words i) position (with_words b i)
+  adds : (w : Knowledge) (b : Build) (i : ℕ) → BuildsOn c v w position b → BuildsOn c v (words_stored c w position words i) position (with_words b i)
   unfolding words_stored
   adds w b zero on = on
   adds w b (suc i) on = builds_more c v (words_stored c w position words i) position (4 + i) (slice_index words i) (with_words b i) may.within (adds w b i on)

@@ -10,11 +10,11 @@ use Rattle.mv_layout.specs.Words.{clock_time_of}
 use Rattle.reader_marks.specs.mv_core.declared.ring.Slot.{Slot}
 use Rattle.reader_marks.specs.mv_core.declared.ring.Slot.TheVariants.{Free, Built, Live, Freeing}
 use Rattle.reader_marks.specs.mv_core.declared.ring.Version.{Version}
-use Rattle.reader_marks.specs.mv_core.declared.ring.Status.{Status}
-use Rattle.reader_marks.specs.mv_core.declared.ring.Status.TheVariants.{Held, Aborted, Committed}
+use Rattle.reader_marks.specs.mv_core.declared.ring.WriteSetStatus.{WriteSetStatus}
+use Rattle.reader_marks.specs.mv_core.declared.ring.WriteSetStatus.TheVariants.{Held, Aborted, Committed}
 use Rattle.reader_marks.specs.mv_core.declared.ring.CommitNote.{CommitNote}
-use Rattle.reader_marks.specs.mv_core.declared.view.View.{View}
-use Rattle.reader_marks.specs.mv_core.declared.view.Section.{Section}
+use Rattle.reader_marks.specs.mv_core.declared.view.Knowledge.{Knowledge}
+use Rattle.reader_marks.specs.mv_core.declared.view.OwnSection.{OwnSection}
 use Rattle.reader_marks.specs.mv_core.Rings.{slot_at, is_held, is_spare}
 use Rattle.reader_marks.specs.mv_core.NameSteps.{committed_slot, commit_named}
 use Rattle.reader_marks.proofs.mv_core_lemmas.logs.Links.{live_once}
@@ -70,7 +70,7 @@ none_held t (z ∷ zs) =
     sum_by-cons (λ y. one_if (is_held y)) (committed_slot t z) (map (committed_slot t) zs) ∙ (λ i. one_if (unheld_then t z i) + none_held t zs i)
 
 -- a commit that was named ends what was held, at its time
-pub commit_ends : (c : Config) (v : View) (inside : Section) (tag : List ℕ) (word : ℕ) (h : List Entry)
+pub commit_ends : (c : Config) (v : Knowledge) (inside : OwnSection) (tag : List ℕ) (word : ℕ) (h : List Entry)
     → HasEnded v (commit_named c v inside tag word h) (λ n. record n { time = clock_time_of word + 1 })
 commit_ends c v inside tag word h =
     let t : ℕ = clock_time_of word + 1 in record {
@@ -105,7 +105,7 @@ abbrev IsLinked : Slot → Slot → Type 0
 IsLinked a b = (b ≡ a) ⊎ ((x : Version) × (note : CommitNote) × (a ≡ Live x (Committed note)) × (b ≡ Live x (Committed (record note { linked = true }))))
 
 -- and after SUPER was stored below some of the committed versions
-module _ (v w u : View) (f : Note → Note) (e : HasEnded v w f) (number : u.number ≡ w.number) (next : u.ring.next ≡ w.ring.next)
+module _ (v w u : Knowledge) (f : Note → Note) (e : HasEnded v w f) (number : u.number ≡ w.number) (next : u.ring.next ≡ w.ring.next)
     (wide : length u.ring.slots ≡ length w.ring.slots) (more : (k : ℕ) → IsLinked (slot_at w.ring k) (slot_at u.ring k))
     (frees : count_by is_free u.trail ≡ count_by is_free w.trail) (backs : count_by is_won_cut u.trail ≡ count_by is_won_cut w.trail)
     (locks : count_by is_won_lock u.trail ≡ count_by is_won_lock w.trail) where
@@ -118,8 +118,8 @@ module _ (v w u : View) (f : Note → Note) (e : HasEnded v w f) (number : u.num
       (λ k. ⊎_elim (λ kept. ap p kept) (λ m. ap p m.3 ∙ same m.0 m.1 ∙ sym (ap p m.2)) (more k))
 
   -- a version is there still, and nothing else is said of it
-  live_still : (k : ℕ) (x : Version) (st : Status) → slot_at w.ring k ≡ Live x st
-      → (su : Status) × (slot_at u.ring k ≡ Live x su) × ((n : Note) → IsAsNoted false n st → IsAsNoted false n su)
+  live_still : (k : ℕ) (x : Version) (st : WriteSetStatus) → slot_at w.ring k ≡ Live x st
+      → (su : WriteSetStatus) × (slot_at u.ring k ≡ Live x su) × ((n : Note) → IsAsNoted false n st → IsAsNoted false n su)
   live_still k x st e =
       ⊎_elim
       (λ same. (st, same ∙ e, λ n a. a))
@@ -156,7 +156,7 @@ module _ (v w u : View) (f : Note → Note) (e : HasEnded v w f) (number : u.num
   }
 
 -- the log stands after a commit of all that was held
-pub stands_committed : (c : Config) (v w : View) (l : Noted) (time : ℕ) → Stands c v l → HasEnded v w (λ n. record n { time = time }) → 0 < l.held
+pub stands_committed : (c : Config) (v w : Knowledge) (l : Noted) (time : ℕ) → Stands c v l → HasEnded v w (λ n. record n { time = time }) → 0 < l.held
     → l.built ≡ None → (commit : Commit) → w.past.mine ≡ v.past.mine ++ commit ∷ [] → length commit.writes ≡ l.held → w.past.rests ≡ v.past.rests
     → KeepsLocks v.trail w.trail → Stands c w (committed_noted l time)
 stands_committed c v w l time k e some unbuilt commit mine writes rests keeps =

@@ -12,9 +12,9 @@ use Rattle.reader_marks.specs.mv_core.declared.ring.Ring.{Ring}
 use Rattle.reader_marks.specs.mv_core.declared.ring.Slot.{Slot}
 use Rattle.reader_marks.specs.mv_core.declared.ring.Slot.TheVariants.{Free, Built, Live, Freeing}
 use Rattle.reader_marks.specs.mv_core.declared.ring.Version.{Version}
-use Rattle.reader_marks.specs.mv_core.declared.ring.Status.TheVariants.{Held, Aborted, Committed}
+use Rattle.reader_marks.specs.mv_core.declared.ring.WriteSetStatus.TheVariants.{Held, Aborted, Committed}
 use Rattle.reader_marks.specs.mv_core.declared.ring.CommitNote.{CommitNote}
-use Rattle.reader_marks.specs.mv_core.declared.view.View.{View}
+use Rattle.reader_marks.specs.mv_core.declared.view.Knowledge.{Knowledge}
 use Rattle.reader_marks.specs.mv_core.Rings.{slot_at, index_of, put_slot, is_spare, spare_count}
 use Rattle.reader_marks.specs.mv_core.EnterSteps.{mark_cleared}
 use Rattle.reader_marks.specs.mv_core.LockSteps.{dead_if, timed, MayLoadDeath, death_loaded}
@@ -67,7 +67,7 @@ less_cut r k within uncut used =
     omega arith
 
 -- where a live version wasn't cut, fewer chains were cut than versions were ever in one
-pub cuts_room : (c : Config) (v : View) (l : Noted) (k : ℕ) (x : Version) (note : CommitNote) → Stands c v l
+pub cuts_room : (c : Config) (v : Knowledge) (l : Noted) (k : ℕ) (x : Version) (note : CommitNote) → Stands c v l
     → slot_at v.ring k ≡ Live x (Committed note) → note.cut ≡ false → l.back < next_of l
 cuts_room c v l k x note s here uncut =
     let less = less_cut v.ring k (live_within v.ring k x (Committed note) here) (ap is_cut here ∙ uncut) (ap is_spare here) in
@@ -77,7 +77,7 @@ cuts_room c v l k x note s here uncut =
     omega arith
 
 -- so one more may be counted after a committed version with no death was noted as dead
-pub note_cut_room : (c : Config) (v : View) (l : Noted) (i : ℕ) (n : Note) (dead : ℕ) → Stands c v l → IsNoteAt l i n → 0 < n.time → n.dead ≡ 0
+pub note_cut_room : (c : Config) (v : Knowledge) (l : Noted) (i : ℕ) (n : Note) (dead : ℕ) → Stands c v l → IsNoteAt l i n → 0 < n.time → n.dead ≡ 0
     → (retired l n.position dead).back < next_of (retired l n.position dead)
 note_cut_room c v l i n dead k is_note time alive =
     let a = committed_at c v l i n k is_note time in
@@ -90,7 +90,7 @@ map_kept : (f : Slot → Slot) (zs : List Slot) → ((k : ℕ) → f (slice_inde
 map_kept f [] kept = refl
 map_kept f (z ∷ zs) kept = λ i. kept 0 i ∷ map_kept f zs (λ k. kept (suc k)) i
 
-module _ (c : Config) (v : View) (l : Noted) (i : ℕ) (n : Note) (note : CommitNote) (k : Stands c v l) (is_note : IsNoteAt l i n)
+module _ (c : Config) (v : Knowledge) (l : Noted) (i : ℕ) (n : Note) (note : CommitNote) (k : Stands c v l) (is_note : IsNoteAt l i n)
     (here : slot_at v.ring (index_of c n.position) ≡ Live (version_of n) (Committed note)) (alive : n.dead ≡ 0) where
   within : index_of c n.position < length v.ring.slots
   within = live_within v.ring (index_of c n.position) (version_of n) (Committed note) here
@@ -129,8 +129,8 @@ module _ (c : Config) (v : View) (l : Noted) (i : ℕ) (n : Note) (note : Commit
         let s : ℕ = index_of c n.position in
         let d : ℕ = clock_time_of word + 1 in
         let new : CommitNote = record note { dead = Some d; cut = true } in
-        let w1 : View = head_cut c v n.object n.position (version_of n) note in
-        let w2 : View = death_loaded c w1 word h in
+        let w1 : Knowledge = head_cut c v n.object n.position (version_of n) note in
+        let w2 : Knowledge = death_loaded c w1 word h in
         let a = as_committed c v l i n k is_note note here in
         let uncut = (no_death c v l i n k is_note note here alive).1 in
         let one_more : cut_count (put_slot v.ring s (Live (version_of n) (Committed new))) ≡ cut_count v.ring + 1 =
@@ -156,12 +156,12 @@ module _ (c : Config) (v : View) (l : Noted) (i : ℕ) (n : Note) (note : Commit
         })
 
 -- the log stands as it is after the exchange of a write-back was lost
-pub stands_cut_lost : (c : Config) (v : View) (l : Noted) (object position found : ℕ) → Stands c v l → Stands c (cut_lost c v object position found) l
+pub stands_cut_lost : (c : Config) (v : Knowledge) (l : Noted) (object position found : ℕ) → Stands c v l → Stands c (cut_lost c v object position found) l
 stands_cut_lost c v l object position found k =
     stands_same c v (cut_lost c v object position found) l refl refl refl refl (unpassed is_free v.trail _ refl) (unpassed is_won_cut v.trail _ refl)
     (keeps_one v.trail _ refl refl) k
 
 -- and the section was left
-pub stands_uncut : (c : Config) (v : View) (l : Noted) (object position found : ℕ) → Stands c v l
+pub stands_uncut : (c : Config) (v : Knowledge) (l : Noted) (object position found : ℕ) → Stands c v l
     → Stands c (mark_cleared c (cut_lost c v object position found)) l
 stands_uncut c v l object position found k = stands_unmarked c (cut_lost c v object position found) l (stands_cut_lost c v l object position found k)

@@ -5,9 +5,9 @@ use Rattle.mv_layout.specs.declared.Config.{Config}
 use Rattle.reader_marks.specs.mv_core.declared.ring.Slot.{Slot}
 use Rattle.reader_marks.specs.mv_core.declared.ring.Slot.TheVariants.{Free, Built, Live, Freeing}
 use Rattle.reader_marks.specs.mv_core.declared.ring.Version.{Version}
-use Rattle.reader_marks.specs.mv_core.declared.ring.Status.{Status}
-use Rattle.reader_marks.specs.mv_core.declared.ring.Status.TheVariants.{Held, Aborted, Committed}
-use Rattle.reader_marks.specs.mv_core.declared.view.View.{View}
+use Rattle.reader_marks.specs.mv_core.declared.ring.WriteSetStatus.{WriteSetStatus}
+use Rattle.reader_marks.specs.mv_core.declared.ring.WriteSetStatus.TheVariants.{Held, Aborted, Committed}
+use Rattle.reader_marks.specs.mv_core.declared.view.Knowledge.{Knowledge}
 use Rattle.reader_marks.specs.mv_core.Rings.{slot_at, index_of, is_held, held_count, spare_count}
 use Rattle.seat_log.specs.declared.version.Note.{Note}
 use Rattle.seat_log.specs.Notes.{Noted, next_of, held_from, IsNoteAt, IsLog, from_place}
@@ -18,7 +18,7 @@ use Rattle.seat_log.proofs.NotedSlots.{held_at}
 
 -- What became of the own log when the held write set ended, and what is noted of each held version: no held one is left, each is in its slot with a
 -- status that its note says, the other versions are there with a status that says nothing else to a note, and the other slots are as they were.
-pub record HasEnded (v w : View) (f : Note → Note) : Type 0 where
+pub record HasEnded (v w : Knowledge) (f : Note → Note) : Type 0 where
   pub number : w.number ≡ v.number
   pub next : w.ring.next ≡ v.ring.next
   pub wide : length w.ring.slots ≡ length v.ring.slots
@@ -26,21 +26,21 @@ pub record HasEnded (v w : View) (f : Note → Note) : Type 0 where
   pub spare : spare_count w.ring ≡ spare_count v.ring
   pub cuts : cut_count w.ring ≡ cut_count v.ring
   pub ended : (k : ℕ) (x : Version) → slot_at v.ring k ≡ Live x Held
-      → (st : Status) × (slot_at w.ring k ≡ Live x st) × ((n : Note) → n.time ≡ 0 → n.dead ≡ 0 → IsAsNoted false (f n) st)
-  pub kept : (k : ℕ) (x : Version) (st : Status) → slot_at v.ring k ≡ Live x st → is_held (Live x st) ≡ false
-      → (su : Status) × (slot_at w.ring k ≡ Live x su) × ((n : Note) → IsAsNoted false n st → IsAsNoted false n su)
-  pub others : (k : ℕ) (z : Slot) → slot_at v.ring k ≡ z → ((x : Version) (st : Status) → z ≢ Live x st) → slot_at w.ring k ≡ z
+      → (st : WriteSetStatus) × (slot_at w.ring k ≡ Live x st) × ((n : Note) → n.time ≡ 0 → n.dead ≡ 0 → IsAsNoted false (f n) st)
+  pub kept : (k : ℕ) (x : Version) (st : WriteSetStatus) → slot_at v.ring k ≡ Live x st → is_held (Live x st) ≡ false
+      → (su : WriteSetStatus) × (slot_at w.ring k ≡ Live x su) × ((n : Note) → IsAsNoted false n st → IsAsNoted false n su)
+  pub others : (k : ℕ) (z : Slot) → slot_at v.ring k ≡ z → ((x : Version) (st : WriteSetStatus) → z ≢ Live x st) → slot_at w.ring k ≡ z
   pub frees : count_by is_free w.trail ≡ count_by is_free v.trail
   pub backs : count_by is_won_cut w.trail ≡ count_by is_won_cut v.trail
   pub locks : count_by is_won_lock w.trail ≡ count_by is_won_lock v.trail
 
 -- a version that isn't held by its note isn't by its status
-unheld : (x : Version) (st : Status) (n : Note) → IsAsNoted false n st → is_held (Live x st) ≡ false
+unheld : (x : Version) (st : WriteSetStatus) (n : Note) → IsAsNoted false n st → is_held (Live x st) ≡ false
 unheld x Held n a = let e : false ≡ true = a.0 in absurd (cc)
 unheld x (Aborted d) n a = refl
 unheld x (Committed note) n a = refl
 
-module _ (c : Config) (v w : View) (l m : Noted) (f : Note → Note) (same : (n : Note) → version_of (f n) ≡ version_of n) (k : Stands c v l)
+module _ (c : Config) (v w : Knowledge) (l m : Noted) (f : Note → Note) (same : (n : Note) → version_of (f n) ≡ version_of n) (k : Stands c v l)
     (e : HasEnded v w f) (is_log : IsLog m) (seat : m.seat ≡ l.seat) (slots : m.slots ≡ l.slots) (freed : m.freed ≡ l.freed)
     (live : m.live ≡ from_place f (held_from l) l.live) (none : m.held ≡ 0) (built : m.built ≡ None) (backs : m.back ≡ l.back)
     (commits : m.commits ≡ length w.past.mine) (rests : m.rests ≡ w.past.rests) (used : writes_in w.past.mine ≤ next_of l)
@@ -53,7 +53,7 @@ module _ (c : Config) (v w : View) (l m : Noted) (f : Note → Note) (same : (n 
   next_is = let n = long in omega arith
 
   -- a slot that has no version was so before
-  was : (j : ℕ) (z : Slot) → slot_at w.ring j ≡ z → ((x : Version) (st : Status) → z ≢ Live x st) → slot_at v.ring j ≡ z
+  was : (j : ℕ) (z : Slot) → slot_at w.ring j ≡ z → ((x : Version) (st : WriteSetStatus) → z ≢ Live x st) → slot_at v.ring j ≡ z
   was j z is other = go (slot_at v.ring j) refl
     where
       go : (y : Slot) → slot_at v.ring j ≡ y → slot_at v.ring j ≡ z
@@ -64,18 +64,18 @@ module _ (c : Config) (v w : View) (l m : Noted) (f : Note → Note) (same : (n 
       go (Live x (Aborted d)) q = let r = e.kept j x (Aborted d) q refl in absurd (other x r.0 (sym is ∙ r.1))
       go (Live x (Committed note)) q = let r = e.kept j x (Committed note) q refl in absurd (other x r.0 (sym is ∙ r.1))
 
-  was_live : (j : ℕ) (x : Version) (st : Status) → slot_at w.ring j ≡ Live x st → (su : Status) × (slot_at v.ring j ≡ Live x su)
+  was_live : (j : ℕ) (x : Version) (st : WriteSetStatus) → slot_at w.ring j ≡ Live x st → (su : WriteSetStatus) × (slot_at v.ring j ≡ Live x su)
   was_live j x st is = go (slot_at v.ring j) refl
     where
       -- the version there before is this one
-      here : (y : Version) (before after : Status) → slot_at v.ring j ≡ Live y before → slot_at w.ring j ≡ Live y after
-          → (su : Status) × (slot_at v.ring j ≡ Live x su)
+      here : (y : Version) (before after : WriteSetStatus) → slot_at v.ring j ≡ Live y before → slot_at w.ring j ≡ Live y after
+          → (su : WriteSetStatus) × (slot_at v.ring j ≡ Live x su)
       here y before after q r =
           let g : Live y after ≡ Live x st = sym r ∙ is in
           let one : y ≡ x = cc in
           (before, q ∙ ap (λ u. Live u before) one)
 
-      go : (y : Slot) → slot_at v.ring j ≡ y → (su : Status) × (slot_at v.ring j ≡ Live x su)
+      go : (y : Slot) → slot_at v.ring j ≡ y → (su : WriteSetStatus) × (slot_at v.ring j ≡ Live x su)
       go Free q = let g : Free ≡ Live x st = sym (e.others j Free q (λ x st g. absurd (cc))) ∙ is in absurd (cc)
       go (Built b) q = let g : Built b ≡ Live x st = sym (e.others j (Built b) q (λ x st g. absurd (cc))) ∙ is in absurd (cc)
       go (Freeing p r) q = let g : Freeing p r ≡ Live x st = sym (e.others j (Freeing p r) q (λ x st g. absurd (cc))) ∙ is in absurd (cc)
@@ -145,7 +145,7 @@ module _ (c : Config) (v w : View) (l m : Noted) (f : Note → Note) (same : (n 
       }
 
 -- what has ended has ended still after steps that leave the own log alone, free no slot, cut no chain and lock nothing
-pub ends_same : (v w u : View) (f : Note → Note) → HasEnded v w f → u.number ≡ w.number → u.ring ≡ w.ring
+pub ends_same : (v w u : Knowledge) (f : Note → Note) → HasEnded v w f → u.number ≡ w.number → u.ring ≡ w.ring
     → count_by is_free u.trail ≡ count_by is_free w.trail → count_by is_won_cut u.trail ≡ count_by is_won_cut w.trail
     → count_by is_won_lock u.trail ≡ count_by is_won_lock w.trail → HasEnded v u f
 ends_same v w u f k number ring frees backs locks = record {

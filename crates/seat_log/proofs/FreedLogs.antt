@@ -7,8 +7,8 @@ use Rattle.mv_layout.specs.declared.Config.{Config}
 use Rattle.reader_marks.specs.mv_core.declared.ring.Slot.{Slot}
 use Rattle.reader_marks.specs.mv_core.declared.ring.Slot.TheVariants.{Free, Built, Live, Freeing}
 use Rattle.reader_marks.specs.mv_core.declared.ring.Version.{Version}
-use Rattle.reader_marks.specs.mv_core.declared.ring.Status.{Status}
-use Rattle.reader_marks.specs.mv_core.declared.view.View.{View}
+use Rattle.reader_marks.specs.mv_core.declared.ring.WriteSetStatus.{WriteSetStatus}
+use Rattle.reader_marks.specs.mv_core.declared.view.Knowledge.{Knowledge}
 use Rattle.reader_marks.specs.mv_core.declared.view.Past.{Past}
 use Rattle.reader_marks.specs.mv_core.declared.view.Phase.TheVariants.{Outside}
 use Rattle.reader_marks.specs.mv_core.Rings.{slot_at, index_of}
@@ -30,7 +30,7 @@ le_shift a b i k e =
     (λ le. le-leb b (k + i) (omega arith) ∙ sym (le-leb a i le))
     (cases_lt i a)
 
-module _ (c : Config) (v : View) (l : Noted) (k t : ℕ) (s : Stands c v l) (set : IsOldestSet l k)
+module _ (c : Config) (v : Knowledge) (l : Noted) (k t : ℕ) (s : Stands c v l) (set : IsOldestSet l k)
     (dead : (i : ℕ) (n : Note) → IsNoteAt l i n → i < k → IsDeadNote t n) where
   abbrev f : ℕ
   f = l.freed
@@ -61,7 +61,7 @@ module _ (c : Config) (v : View) (l : Noted) (k t : ℕ) (s : Stands c v l) (set
               (dead r.index r.note r.at (of_set c v l k t s set dead r.index r.note r.at own)) r.as_noted);
         }
 
-    module _ (w : View) (j : ℕ) (lt : j < k) (e : Freed c v w f k j) where
+    module _ (w : Knowledge) (j : ℕ) (lt : j < k) (e : Freed c v w f k j) where
       oldest_next : (p u : ℕ) → UsesPosition (slot_at w.ring u) p → f + j ≤ p
       oldest_next p u uses =
           ⊎_elim
@@ -73,7 +73,7 @@ module _ (c : Config) (v : View) (l : Noted) (k t : ℕ) (s : Stands c v l) (set
           (λ b. go (slot_at v.ring u) refl b.1 (subst (λ (z : Slot). UsesPosition z p) b.0 uses))
           (e.each u)
         where
-          go : (z : Slot) → slot_at v.ring u ≡ z → ((x : Version) (st : Status) → slot_at v.ring u ≡ Live x st → f + k ≤ x.position)
+          go : (z : Slot) → slot_at v.ring u ≡ z → ((x : Version) (st : WriteSetStatus) → slot_at v.ring u ≡ Live x st → f + k ≤ x.position)
               → UsesPosition z p → f + j ≤ p
           go Free is later uses = absurd uses
           go (Built b) is later uses = absurd uses
@@ -82,7 +82,7 @@ module _ (c : Config) (v : View) (l : Noted) (k t : ℕ) (s : Stands c v l) (set
 
       may_next : MayStoreFree c w (f + j)
       may_next = record {
-        outside = ap (λ (u : View). u.phase) e.changes ∙ outside;
+        outside = ap (λ (u : Knowledge). u.phase) e.changes ∙ outside;
         in_use = subst (λ (z : Slot). UsesPosition z (f + j)) (sym (e.going j (omega arith) lt)) refl;
         oldest = λ u p uses. oldest_next p u uses;
         may_free = subst (MayFreeSlot w) (sym (e.going j (omega arith) lt)) tt;
@@ -171,10 +171,10 @@ module _ (c : Config) (v : View) (l : Noted) (k t : ℕ) (s : Stands c v l) (set
           rests = k'.rests;
         }
 
-    module _ (w : View) (e : Freed c v w f k k) where
+    module _ (w : Knowledge) (e : Freed c v w f k k) where
       -- a slot that has something was as it is
       unchanged : (u : ℕ) (z : Slot) → slot_at w.ring u ≡ z → (z ≢ Free)
-          → (slot_at v.ring u ≡ z) × ((x : Version) (st : Status) → slot_at v.ring u ≡ Live x st → f + k ≤ x.position)
+          → (slot_at v.ring u ≡ z) × ((x : Version) (st : WriteSetStatus) → slot_at v.ring u ≡ Live x st → f + k ≤ x.position)
       unchanged u z is used =
           ⊎_elim
           (λ a. absurd (used (sym is ∙ ap (slot_at w.ring) a.2 ∙ e.gone a.0 a.1)))
@@ -213,7 +213,7 @@ module _ (c : Config) (v : View) (l : Noted) (k t : ℕ) (s : Stands c v l) (set
           let n_long = long in
           let next = next_is in
           let few = few_held in
-          let past = ap (λ (u : View). u.past) e.changes in
+          let past = ap (λ (u : Knowledge). u.past) e.changes in
           let spares = e.spare in
           let spare_before = s.spare in
           let frees = e.frees in
@@ -222,7 +222,7 @@ module _ (c : Config) (v : View) (l : Noted) (k t : ℕ) (s : Stands c v l) (set
           let cuts_before = s.cuts in
           let going = none_going w.ring.slots none_freeing in
           let used = s.used in record {
-            seat = s.seat ∙ sym (ap (λ (u : View). u.number) e.changes);
+            seat = s.seat ∙ sym (ap (λ (u : Knowledge). u.number) e.changes);
             slots = s.slots;
             wide = e.wide ∙ s.wide;
             log = freed_is_log;
@@ -263,7 +263,7 @@ module _ (c : Config) (v : View) (l : Noted) (k t : ℕ) (s : Stands c v l) (set
           }
 
 -- nothing was freed
-stands_none : (c : Config) (v : View) (l : Noted) (k : ℕ) → k ≡ 0 → Stands c v l → Stands c (slots_freed c v l.freed k) (freed_noted l k)
+stands_none : (c : Config) (v : Knowledge) (l : Noted) (k : ℕ) → k ≡ 0 → Stands c v l → Stands c (slots_freed c v l.freed k) (freed_noted l k)
 unfolding slots_freed
 stands_none c v l k e s =
     subst (λ (n : ℕ). Stands c (slots_freed c v l.freed n) (freed_noted l n)) (sym e)
@@ -274,7 +274,7 @@ dead_first : (l : Noted) (t k : ℕ) → OldestIsDead l t → IsOldestSet l k �
 dead_first l t k dead set i n is lt = dead i n is (set.inside i n is lt)
 
 -- the log stands for the pass after what may be freed was freed
-pub stands_freed : (c : Config) (v : View) (l : Noted) (t k : ℕ) → Stands c v l → FreesSet l t k → Stands c (slots_freed c v l.freed k) (freed_noted l k)
+pub stands_freed : (c : Config) (v : Knowledge) (l : Noted) (t k : ℕ) → Stands c v l → FreesSet l t k → Stands c (slots_freed c v l.freed k) (freed_noted l k)
 stands_freed c v l t k s frees =
     ⊎_elim
     (λ a.
@@ -289,7 +289,7 @@ stands_freed c v l t k s frees =
     frees
 
 -- and each of its slots may be, after those before it
-pub each_may_free : (c : Config) (v : View) (l : Noted) (t k : ℕ) → Stands c v l → v.phase ≡ Outside → t ≤ v.grace → FreesSet l t k → (j : ℕ) → j < k
+pub each_may_free : (c : Config) (v : Knowledge) (l : Noted) (t k : ℕ) → Stands c v l → v.phase ≡ Outside → t ≤ v.grace → FreesSet l t k → (j : ℕ) → j < k
     → MayStoreFree c (slots_freed c v l.freed j) (l.freed + j)
 each_may_free c v l t k s outside known frees j lt =
     ⊎_elim (λ a. may_free c v l k t s a.1 (dead_first l t k a.0 a.1) outside known j lt) (λ b. let e = b.1 in absurd (omega arith)) frees
@@ -299,10 +299,10 @@ pub few_freed : (l : Noted) (t k : ℕ) → FreesSet l t k → k ≤ length l.li
 few_freed l t k frees = ⊎_elim (λ a. a.1.few) (λ b. let e = b.1 in omega arith) frees
 
 -- the stores one by one
-pub none_freed : (c : Config) (v : View) (p : ℕ) → v ≡ slots_freed c v p 0
+pub none_freed : (c : Config) (v : Knowledge) (p : ℕ) → v ≡ slots_freed c v p 0
 unfolding slots_freed
 none_freed c v p = refl
 
-pub one_freed : (c : Config) (v w u : View) (p k : ℕ) → w ≡ slots_freed c v p k → u ≡ free_stored c w (p + k) → u ≡ slots_freed c v p (k + 1)
+pub one_freed : (c : Config) (v w u : Knowledge) (p k : ℕ) → w ≡ slots_freed c v p k → u ≡ free_stored c w (p + k) → u ≡ slots_freed c v p (k + 1)
 unfolding slots_freed
-one_freed c v w u p k is is' = is' ∙ ap (λ (z : View). free_stored c z (p + k)) is ∙ (let e : suc k ≡ k + 1 = omega arith in ap (slots_freed c v p) e)
+one_freed c v w u p k is is' = is' ∙ ap (λ (z : Knowledge). free_stored c z (p + k)) is ∙ (let e : suc k ≡ k + 1 = omega arith in ap (slots_freed c v p) e)

@@ -6,15 +6,15 @@ use Rattle.std.proofs.lemmas.List.{length-map, length-set}
 use mathlib.Core.Logic.{dite}
 use native.Mathlib.Decide.{ℕ_discrete}
 use Rattle.mv_layout.specs.declared.Config.{Config}
-use Rattle.mv_layout.specs.declared.Place.TheVariants.{Stamp}
+use Rattle.mv_layout.specs.declared.SharedWord.TheVariants.{Stamp}
 use Rattle.mv_history.specs.declared.StepKind.TheVariants.{StoreFree}
 use Rattle.reader_marks.specs.mv_core.declared.ring.Ring.{Ring}
 use Rattle.reader_marks.specs.mv_core.declared.ring.Slot.{Slot}
 use Rattle.reader_marks.specs.mv_core.declared.ring.Slot.TheVariants.{Free, Built, Live, Freeing}
 use Rattle.reader_marks.specs.mv_core.declared.ring.Version.{Version}
-use Rattle.reader_marks.specs.mv_core.declared.ring.Status.{Status}
-use Rattle.reader_marks.specs.mv_core.declared.ring.Status.TheVariants.{Held, Aborted, Committed}
-use Rattle.reader_marks.specs.mv_core.declared.view.View.{View}
+use Rattle.reader_marks.specs.mv_core.declared.ring.WriteSetStatus.{WriteSetStatus}
+use Rattle.reader_marks.specs.mv_core.declared.ring.WriteSetStatus.TheVariants.{Held, Aborted, Committed}
+use Rattle.reader_marks.specs.mv_core.declared.view.Knowledge.{Knowledge}
 use Rattle.reader_marks.specs.mv_core.Rings.{slot_at, index_of, put_slot, is_held, is_spare}
 use Rattle.reader_marks.specs.mv_core.Views.{with_step}
 use Rattle.reader_marks.specs.mv_core.ReclaimSteps.{IsDeadBy, freeing_slot, freed_ring, free_stored}
@@ -30,7 +30,7 @@ use Rattle.seat_log.proofs.NotedSlots.{noted_at, apart, noted_in}
 use Rattle.seat_log.proofs.StepCounts.{keeps_one, keeps_then}
 
 -- a noted time of death, by the status
-pub dead_by : (t g : ℕ) (b : Bool) (n : Note) (st : Status) → t ≤ g → IsDeadNote t n → IsAsNoted b n st → IsDeadBy g st
+pub dead_by : (t g : ℕ) (b : Bool) (n : Note) (st : WriteSetStatus) → t ≤ g → IsDeadNote t n → IsAsNoted b n st → IsDeadBy g st
 dead_by t g b n Held le dead a = let d = dead.0 in let z = a.2 in absurd (omega arith)
 dead_by t g b n (Aborted dead') le dead a = let d = dead.1 in (n.dead, a.3, omega arith)
 dead_by t g b n (Committed note) le dead a = let d = dead.1 in (n.dead, a.3 ∙ some_death n.dead dead.0, omega arith)
@@ -39,7 +39,7 @@ dead_by t g b n (Committed note) le dead a = let d = dead.1 in (n.dead, a.3 ∙ 
     some_death zero lt = absurd (omega arith)
     some_death (suc d) lt = refl
 
-module _ (c : Config) (v : View) (l : Noted) (k t : ℕ) (s : Stands c v l) (set : IsOldestSet l k)
+module _ (c : Config) (v : Knowledge) (l : Noted) (k t : ℕ) (s : Stands c v l) (set : IsOldestSet l k)
     (dead : (i : ℕ) (n : Note) → IsNoteAt l i n → i < k → IsDeadNote t n) where
   abbrev f : ℕ
   f = l.freed
@@ -100,16 +100,16 @@ module _ (c : Config) (v : View) (l : Noted) (k t : ℕ) (s : Stands c v l) (set
     abbrev first_ring : Ring
     first_ring = put_slot mid (at 0) Free
 
-    other_slot : (u : ℕ) (z : Slot) → slot_at v.ring u ≡ z → freeing_slot f z ≡ z → ((x : Version) (st : Status) → z ≡ Live x st → f + k ≤ x.position)
+    other_slot : (u : ℕ) (z : Slot) → slot_at v.ring u ≡ z → freeing_slot f z ≡ z → ((x : Version) (st : WriteSetStatus) → z ≡ Live x st → f + k ≤ x.position)
         → (u ≢ at 0)
         → ((i : ℕ) × (i < k) × (u ≡ at i))
-        ⊎ ((slot_at first_ring u ≡ slot_at v.ring u) × ((x : Version) (st : Status) → slot_at v.ring u ≡ Live x st → f + k ≤ x.position))
+        ⊎ ((slot_at first_ring u ≡ slot_at v.ring u) × ((x : Version) (st : WriteSetStatus) → slot_at v.ring u ≡ Live x st → f + k ≤ x.position))
     other_slot u z is same later ne =
         inr (slot_else mid (at 0) u Free ne ∙ mid_is u ∙ ap (freeing_slot f) is ∙ same ∙ sym is, λ x st e. later x st (sym is ∙ e))
 
     first_each : (u : ℕ) (z : Slot) → slot_at v.ring u ≡ z
         → ((i : ℕ) × (i < k) × (u ≡ at i))
-        ⊎ ((slot_at first_ring u ≡ slot_at v.ring u) × ((x : Version) (st : Status) → slot_at v.ring u ≡ Live x st → f + k ≤ x.position))
+        ⊎ ((slot_at first_ring u ≡ slot_at v.ring u) × ((x : Version) (st : WriteSetStatus) → slot_at v.ring u ≡ Live x st → f + k ≤ x.position))
     first_each u Free is =
         other_slot u Free is refl (λ x st e. absurd (cc))
         (λ e. let g : Free ≡ Live (version_of head.0) head.2.status = sym is ∙ ap (slot_at v.ring) e ∙ here in absurd (cc))
@@ -157,7 +157,7 @@ module _ (c : Config) (v : View) (l : Noted) (k t : ℕ) (s : Stands c v l) (set
         })
 
   -- each further store frees one of them
-  module _ (w : View) (j : ℕ) (lt : j < k) (later : 0 < j) (e : Freed c v w f k j) where
+  module _ (w : Knowledge) (j : ℕ) (lt : j < k) (later : 0 < j) (e : Freed c v w f k j) where
     freed_here : slot_at w.ring (at j) ≡ Freeing (f + j) f
     freed_here = e.going j (omega arith) lt
 
@@ -173,7 +173,7 @@ module _ (c : Config) (v : View) (l : Noted) (k t : ℕ) (s : Stands c v l) (set
         let few = set.few in
         subst (λ (r : Ring). Freed c v (record w { ring = r; trail = with_step c w StoreFree (Stamp w.number (at j)) None (Some 0) }) f k (j + 1)) (sym ring_is)
         (record {
-          changes = ap (λ (u : View). record u { ring = next_ring; trail = with_step c w StoreFree (Stamp w.number (at j)) None (Some 0) }) e.changes;
+          changes = ap (λ (u : Knowledge). record u { ring = next_ring; trail = with_step c w StoreFree (Stamp w.number (at j)) None (Some 0) }) e.changes;
           next = e.next;
           wide = length-set w.ring.slots (at j) Free ∙ e.wide;
           held = count_same w.ring (at j) Free next_within is_held (sym (ap is_held freed_here)) ∙ e.held;

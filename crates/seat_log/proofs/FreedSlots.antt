@@ -8,9 +8,9 @@ use Rattle.reader_marks.specs.mv_core.declared.ring.Ring.{Ring}
 use Rattle.reader_marks.specs.mv_core.declared.ring.Slot.{Slot}
 use Rattle.reader_marks.specs.mv_core.declared.ring.Slot.TheVariants.{Free, Built, Live, Freeing}
 use Rattle.reader_marks.specs.mv_core.declared.ring.Version.{Version}
-use Rattle.reader_marks.specs.mv_core.declared.ring.Status.{Status}
-use Rattle.reader_marks.specs.mv_core.declared.ring.Status.TheVariants.{Held, Aborted, Committed}
-use Rattle.reader_marks.specs.mv_core.declared.view.View.{View}
+use Rattle.reader_marks.specs.mv_core.declared.ring.WriteSetStatus.{WriteSetStatus}
+use Rattle.reader_marks.specs.mv_core.declared.ring.WriteSetStatus.TheVariants.{Held, Aborted, Committed}
+use Rattle.reader_marks.specs.mv_core.declared.view.Knowledge.{Knowledge}
 use Rattle.reader_marks.specs.mv_core.Rings.{slot_at, index_of, held_count, is_spare, spare_count}
 use Rattle.reader_marks.specs.mv_core.ReclaimSteps.{freeing_slot}
 use Rattle.reader_marks.proofs.mv_core_lemmas.logs.Counts.{one_if}
@@ -51,15 +51,15 @@ count_at p g (z ∷ zs) same =
     ∙ sym (sum_by-cons (λ y. one_if (p y)) z zs)
 
 -- a version of the set becomes one that is being freed
-pub freeing_in : (f : ℕ) (x : Version) (st : Status) → x.first ≡ f → freeing_slot f (Live x st) ≡ Freeing x.position f
+pub freeing_in : (f : ℕ) (x : Version) (st : WriteSetStatus) → x.first ≡ f → freeing_slot f (Live x st) ≡ Freeing x.position f
 freeing_in f x st e = ap (λ (b : Bool). cond b (Freeing x.position x.first) (Live x st)) (eq-eqb x.first f e) ∙ ap (Freeing x.position) e
 
 -- and another one stays
-pub freeing_out : (f : ℕ) (x : Version) (st : Status) → x.first ≢ f → freeing_slot f (Live x st) ≡ Live x st
+pub freeing_out : (f : ℕ) (x : Version) (st : WriteSetStatus) → x.first ≢ f → freeing_slot f (Live x st) ≡ Live x st
 freeing_out f x st ne = ap (λ (b : Bool). cond b (Freeing x.position x.first) (Live x st)) (ne_eqb x.first f ne)
 
 -- what the freeing of a set changes of a slot's counts
-spare_if : (b : Bool) (p q : ℕ) (x : Version) (st : Status) → is_spare (cond b (Freeing p q) (Live x st)) ≡ false
+spare_if : (b : Bool) (p q : ℕ) (x : Version) (st : WriteSetStatus) → is_spare (cond b (Freeing p q) (Live x st)) ≡ false
 spare_if true p q x st = refl
 spare_if false p q x st = refl
 
@@ -69,7 +69,7 @@ spare_freeing f (Built b) = refl
 spare_freeing f (Freeing p q) = refl
 spare_freeing f (Live x st) = spare_if (x.first == f) x.position x.first x st
 
-cut_if : (b : Bool) (p q : ℕ) (x : Version) (st : Status)
+cut_if : (b : Bool) (p q : ℕ) (x : Version) (st : WriteSetStatus)
     → one_if (is_cut (Live x st)) ≤ one_if (is_cut (cond b (Freeing p q) (Live x st))) + one_if (is_going (cond b (Freeing p q) (Live x st)))
 cut_if true p q x Held = omega arith
 cut_if true p q x (Aborted d) = omega arith
@@ -98,7 +98,7 @@ cuts_freeing f (z ∷ zs) =
 
 -- The first j slots of the oldest write set of k versions from the position f on are free, and the others of the set are being freed; nothing else of
 -- the log has changed.
-pub record Freed (c : Config) (v w : View) (f k j : ℕ) : Type 0 where
+pub record Freed (c : Config) (v w : Knowledge) (f k j : ℕ) : Type 0 where
   pub changes : w ≡ record v { ring = w.ring; trail = w.trail }
   pub next : w.ring.next ≡ v.ring.next
   pub wide : length w.ring.slots ≡ length v.ring.slots
@@ -112,4 +112,4 @@ pub record Freed (c : Config) (v w : View) (f k j : ℕ) : Type 0 where
   pub going : (i : ℕ) → j ≤ i → i < k → slot_at w.ring (index_of c (f + i)) ≡ Freeing (f + i) f
   pub each : (t : ℕ)
       → ((i : ℕ) × (i < k) × (t ≡ index_of c (f + i)))
-      ⊎ ((slot_at w.ring t ≡ slot_at v.ring t) × ((x : Version) (st : Status) → slot_at v.ring t ≡ Live x st → f + k ≤ x.position))
+      ⊎ ((slot_at w.ring t ≡ slot_at v.ring t) × ((x : Version) (st : WriteSetStatus) → slot_at v.ring t ≡ Live x st → f + k ≤ x.position))

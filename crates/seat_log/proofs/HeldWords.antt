@@ -7,8 +7,8 @@ use Rattle.mv_layout.specs.declared.Config.{Config}
 use Rattle.reader_marks.specs.mv_core.declared.ring.Slot.{Slot}
 use Rattle.reader_marks.specs.mv_core.declared.ring.Slot.TheVariants.{Built, Live, Freeing}
 use Rattle.reader_marks.specs.mv_core.declared.ring.Version.{Version}
-use Rattle.reader_marks.specs.mv_core.declared.ring.Status.TheVariants.{Held}
-use Rattle.reader_marks.specs.mv_core.declared.view.View.{View}
+use Rattle.reader_marks.specs.mv_core.declared.ring.WriteSetStatus.TheVariants.{Held}
+use Rattle.reader_marks.specs.mv_core.declared.view.Knowledge.{Knowledge}
 use Rattle.reader_marks.specs.mv_core.Rings.{slot_at, index_of, is_held, is_spare}
 use Rattle.reader_marks.specs.mv_core.LockSteps.{data_stored, MayStoreData}
 use Rattle.reader_marks.proofs.mv_core_lemmas.logs.Slots.{slot_here, slot_else, live_within}
@@ -24,7 +24,7 @@ use Rattle.seat_log.proofs.StepCounts.{KeepsLocks, keeps_one}
 use Rattle.seat_log.proofs.NotedSlots.{places_apart}
 use Rattle.seat_log.proofs.Rebuilding.{held_note}
 
-module _ (c : Config) (v : View) (l : Noted) (position word value : ℕ) (k : Stands c v l) (held : IsHeld l position) where
+module _ (c : Config) (v : Knowledge) (l : Noted) (position word value : ℕ) (k : Stands c v l) (held : IsHeld l position) where
   abbrev at : ℕ
   at = position - l.freed
 
@@ -152,8 +152,8 @@ module _ (c : Config) (v : View) (l : Noted) (position word value : ℕ) (k : St
             (a.0, slot_else v.ring (index_of c position) (index_of c v.ring.next) (Live (version_of (with_word word value m)) Held) ne ∙ a.1, a.2)
 
   -- the log stands for it
-  pub stands_word : (w : View) → w ≡ word_stored c v position word value → Stands c w (word_noted l position word value)
+  pub stands_word : (w : Knowledge) → w ≡ word_stored c v position word value → Stands c w (word_noted l position word value)
   stands_word w is =
       let h = held_note c v l position k held in
       let x : version_at c v position ≡ version_of h.0 = ap version_in h.2 in
-      subst (λ (u : View). Stands c u (word_noted l position word value)) (sym (is ∙ ap (data_stored c v position word value) x)) (stands_so h.0 h.1 h.2)
+      subst (λ (u : Knowledge). Stands c u (word_noted l position word value)) (sym (is ∙ ap (data_stored c v position word value) x)) (stands_so h.0 h.1 h.2)

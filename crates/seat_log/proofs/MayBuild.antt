@@ -8,7 +8,7 @@ use Rattle.mv_layout.specs.declared.Config.{Config}
 use Rattle.reader_marks.specs.mv_core.declared.ring.Slot.{Slot}
 use Rattle.reader_marks.specs.mv_core.declared.ring.Slot.TheVariants.{Free, Built, Live, Freeing}
 use Rattle.reader_marks.specs.mv_core.declared.ring.Build.{Build}
-use Rattle.reader_marks.specs.mv_core.declared.view.View.{View}
+use Rattle.reader_marks.specs.mv_core.declared.view.Knowledge.{Knowledge}
 use Rattle.reader_marks.specs.mv_core.Rings.{slot_at, index_of, is_held, held_count}
 use Rattle.reader_marks.specs.mv_core.LockSteps.{nothing_built, build_in, built_too, FitsField, MayStoreBuilt, built_stored}
 use Rattle.reader_marks.proofs.mv_core_lemmas.logs.Slots.{slot_here}
@@ -22,7 +22,7 @@ unheld (Built a) b e = refl
 unheld (Live x st) b e = let none : None ≡ Some b = e in absurd (cc)
 unheld (Freeing p f) b e = refl
 
-module _ (c : Config) (v : View) (position : ℕ) (may : MayBuild c v position) where
+module _ (c : Config) (v : Knowledge) (position : ℕ) (may : MayBuild c v position) where
   -- what was stored so far
   build_is : build_in (slot_at v.ring (index_of c position)) ≡ Some (build_at c v position)
   build_is = may.spare.1 ∙ ap Some (sym (ap (λ o. unwrap_or o nothing_built) may.spare.1))
@@ -31,7 +31,7 @@ module _ (c : Config) (v : View) (position : ℕ) (may : MayBuild c v position) 
   may_store field x fits =
       record { inside = may.open_is.0; phase = may.open_is.1; open_is = may.open_is.2; next = may.next; build = build_is; fits = fits }
 
-  module _ (w : View) (field x : ℕ) (is : w ≡ built_stored c v position field x (build_at c v position)) where
+  module _ (w : Knowledge) (field x : ℕ) (is : w ≡ built_stored c v position field x (build_at c v position)) where
     pub first_stays : first_in w ≡ first_in v
     first_stays =
         ap first_in is
@@ -42,7 +42,7 @@ module _ (c : Config) (v : View) (position : ℕ) (may : MayBuild c v position) 
     pub may_on : MayBuild c w position
     may_on =
         let b : Build = built_too (build_at c v position) field x in
-        subst (λ (u : View). MayBuild c u position) (sym is) (record {
+        subst (λ (u : Knowledge). MayBuild c u position) (sym is) (record {
           open_is = may.open_is;
           next = may.next;
           within = subst (λ (n : ℕ). index_of c position < n) (sym (length-set v.ring.slots (index_of c position) (Built b))) may.within;
@@ -54,7 +54,7 @@ module _ (c : Config) (v : View) (position : ℕ) (may : MayBuild c v position) 
     unfolding stored_next
     is_next = is
 
-module _ (c : Config) (v : View) (position first : ℕ) where
+module _ (c : Config) (v : Knowledge) (position first : ℕ) where
   -- FIRST and STAMP, by whether the position is the first one
   pub begun_first : first ≡ position → begun c v position first ≡ stored_next c (stored_next c v position 0 first) position 1 (unset_of position)
   unfolding begun
@@ -69,39 +69,40 @@ module _ (c : Config) (v : View) (position first : ℕ) where
       (ne_eqb first position ne)
 
 -- the views of the calls
-pub is_begun_first : (c : Config) (v w u : View) (position first x : ℕ) → w ≡ stored_next c v position 0 first → u ≡ stored_next c w position 1 x
+pub is_begun_first : (c : Config) (v w u : Knowledge) (position first x : ℕ) → w ≡ stored_next c v position 0 first → u ≡ stored_next c w position 1 x
     → x ≡ unset_of position → first ≡ position → u ≡ begun c v position first
 is_begun_first c v w u position first x e f unset same =
     f ∙ (λ i. stored_next c (e i) position 1 (unset i)) ∙ sym (begun_first c v position first same)
 
-pub is_begun_later : (c : Config) (v w : View) (position first : ℕ) → w ≡ stored_next c v position 0 first → first ≢ position → w ≡ begun c v position first
+pub is_begun_later : (c : Config) (v w : Knowledge) (position first : ℕ) → w ≡ stored_next c v position 0 first → first ≢ position
+    → w ≡ begun c v position first
 is_begun_later c v w position first e ne = e ∙ sym (begun_later c v position first ne)
 
-pub is_linked : (c : Config) (v b w u : View) (position first previous : ℕ) → b ≡ begun c v position first → w ≡ stored_next c b position 2 previous
+pub is_linked : (c : Config) (v b w u : Knowledge) (position first previous : ℕ) → b ≡ begun c v position first → w ≡ stored_next c b position 2 previous
     → u ≡ stored_next c w position 3 0 → u ≡ linked c v position first previous
 unfolding linked
 is_linked c v b w u position first previous e f g =
-    g ∙ ap (λ (z : View). stored_next c z position 3 0) (f ∙ ap (λ (z : View). stored_next c z position 2 previous) e)
+    g ∙ ap (λ (z : Knowledge). stored_next c z position 3 0) (f ∙ ap (λ (z : Knowledge). stored_next c z position 2 previous) e)
 
 -- no data word yet, one more, and all
-pub no_words : (c : Config) (v : View) (position : ℕ) (words : List ℕ) → v ≡ words_stored c v position words 0
+pub no_words : (c : Config) (v : Knowledge) (position : ℕ) (words : List ℕ) → v ≡ words_stored c v position words 0
 unfolding words_stored
 no_words c v position words = refl
 
-pub is_more : (c : Config) (v w u : View) (position i : ℕ) (words : List ℕ) → w ≡ words_stored c v position words i
+pub is_more : (c : Config) (v w u : Knowledge) (position i : ℕ) (words : List ℕ) → w ≡ words_stored c v position words i
     → u ≡ stored_next c w position (4 + i) (slice_index words i) → u ≡ words_stored c v position words (i + 1)
 unfolding words_stored
 is_more c v w u position i words e f =
-    f ∙ ap (λ (z : View). stored_next c z position (4 + i) (slice_index words i)) e
+    f ∙ ap (λ (z : Knowledge). stored_next c z position (4 + i) (slice_index words i)) e
     ∙ ap (λ (n : ℕ). words_stored c v position words n) (let g : suc i ≡ i + 1 = omega arith in g)
 
-pub is_slot : (c : Config) (v w u : View) (position first previous : ℕ) (words : List ℕ) → w ≡ linked c v position first previous
+pub is_slot : (c : Config) (v w u : Knowledge) (position first previous : ℕ) (words : List ℕ) → w ≡ linked c v position first previous
     → u ≡ words_stored c w position words 6 → u ≡ slot_built c v position first previous words
 unfolding slot_built
-is_slot c v w u position first previous words e f = f ∙ ap (λ (z : View). words_stored c z position words 6) e
+is_slot c v w u position first previous words e f = f ∙ ap (λ (z : Knowledge). words_stored c z position words 6) e
 
 -- the first position of the set that is held, by the notes
-pub first_there : (v : View) (position held : ℕ) → v.ring.next ≡ position → held_count v.ring ≡ held → position - held ≡ first_in v
+pub first_there : (v : Knowledge) (position held : ℕ) → v.ring.next ≡ position → held_count v.ring ≡ held → position - held ≡ first_in v
 first_there v position held next same = λ i. sym next i - sym same i
 
 -- the steps before the data words, by whether the version is the first of its set

@@ -5,9 +5,9 @@ use Rattle.std.proofs.lemmas.Bool.{cases_lt, leb-true}
 use Rattle.mv_layout.specs.declared.Config.{Config}
 use Rattle.reader_marks.specs.mv_core.declared.ring.Slot.TheVariants.{Live}
 use Rattle.reader_marks.specs.mv_core.declared.ring.Version.{Version}
-use Rattle.reader_marks.specs.mv_core.declared.ring.Status.{Status}
-use Rattle.reader_marks.specs.mv_core.declared.ring.Status.TheVariants.{Held, Aborted, Committed}
-use Rattle.reader_marks.specs.mv_core.declared.view.View.{View}
+use Rattle.reader_marks.specs.mv_core.declared.ring.WriteSetStatus.{WriteSetStatus}
+use Rattle.reader_marks.specs.mv_core.declared.ring.WriteSetStatus.TheVariants.{Held, Aborted, Committed}
+use Rattle.reader_marks.specs.mv_core.declared.view.Knowledge.{Knowledge}
 use Rattle.reader_marks.specs.mv_core.Rings.{slot_at, index_of}
 use Rattle.reader_marks.proofs.mv_core_lemmas.logs.Links.{live_once}
 use Rattle.reader_marks.proofs.mv_core_lemmas.logs.HeldSet.{slots_apart}
@@ -22,7 +22,7 @@ note_there (n ∷ ns) zero lt = (n, refl)
 note_there (n ∷ ns) (suc i) lt = note_there ns i (omega arith)
 
 -- what is noted as held is held
-pub held_status : (n : Note) (st : Status) → IsAsNoted true n st → (st ≡ Held) × (n.time ≡ 0) × (n.dead ≡ 0)
+pub held_status : (n : Note) (st : WriteSetStatus) → IsAsNoted true n st → (st ≡ Held) × (n.time ≡ 0) × (n.dead ≡ 0)
 held_status n Held a = (refl, a.1, a.2)
 held_status n (Aborted d) a = let e : true ≡ false = a.0 in absurd (cc)
 held_status n (Committed note) a = let e : true ≡ false = a.0 in absurd (cc)
@@ -36,7 +36,7 @@ places_apart c a i j low high e =
     (cases_lt i j)
 
 -- A version of the view's log as it is noted: the place of its note, and that its slot is the one of that place.
-pub record NotedSlot (c : Config) (l : Noted) (slot : ℕ) (x : Version) (st : Status) : Type 0 where
+pub record NotedSlot (c : Config) (l : Noted) (slot : ℕ) (x : Version) (st : WriteSetStatus) : Type 0 where
   pub index : ℕ
   pub note : Note
   pub within : index < length l.live
@@ -46,7 +46,7 @@ pub record NotedSlot (c : Config) (l : Noted) (slot : ℕ) (x : Version) (st : S
   pub position_is : x.position ≡ l.freed + index
   pub as_noted : IsAsNoted (nat_le (held_from l) index) note st
 
-module _ (c : Config) (v : View) (l : Noted) (k : Stands c v l) where
+module _ (c : Config) (v : Knowledge) (l : Noted) (k : Stands c v l) where
   -- a live version, as it is noted
   pub noted_at : (i : ℕ) → i < length l.live → (n : Note) × IsNoteAt l i n × HasNoted c v.ring (l.freed + i) (nat_le (held_from l) i) n
   noted_at i lt = let r = note_there l.live i lt in (r.0, r.1, k.live i r.0 r.1)
@@ -59,7 +59,7 @@ module _ (c : Config) (v : View) (l : Noted) (k : Stands c v l) where
       places_apart c l.freed i j (omega arith) (omega arith) e
 
   -- what is in a slot that has a version: one of those noted
-  pub noted_in : (t : ℕ) (x : Version) (st : Status) → slot_at v.ring t ≡ Live x st → NotedSlot c l t x st
+  pub noted_in : (t : ℕ) (x : Version) (st : WriteSetStatus) → slot_at v.ring t ≡ Live x st → NotedSlot c l t x st
   noted_in t x st is =
       let r = k.all t x st is in
       let a = noted_at r.0 r.1 in

@@ -2,7 +2,7 @@
 use Rattle.std.proofs.Common.{ℕ, refl, sym, ap, ◌<◌, ◌∙◌, subst}
 use Rattle.mv_history.specs.declared.Protocol.{Ghosts}
 use Rattle.mv_layout.specs.declared.Config.{Config}
-use Rattle.mv_layout.specs.declared.Place.TheVariants.{First}
+use Rattle.mv_layout.specs.declared.SharedWord.TheVariants.{First}
 use Rattle.mv_layout.specs.Cells.{cell_of}
 use Rattle.reader_marks.specs.mv_core.declared.shared.Pass.{Pass}
 use Rattle.reader_marks.specs.mv_core.declared.shared.Shared.{Shared}

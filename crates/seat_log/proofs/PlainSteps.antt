@@ -5,7 +5,7 @@ use Rattle.std.proofs.lemmas.List.Elements.{All-nil, All-cons, All-weaker}
 use Rattle.mv_history.specs.declared.Step.{Step}
 use Rattle.mv_history.specs.declared.StepKind.{StepKind}
 use Rattle.mv_layout.specs.declared.Config.{Config}
-use Rattle.reader_marks.specs.mv_core.declared.view.View.{View}
+use Rattle.reader_marks.specs.mv_core.declared.view.Knowledge.{Knowledge}
 use Rattle.reader_marks.specs.mv_core.EnterSteps.{mark_cleared}
 use Rattle.reader_marks.specs.commit_clock.Helps.{IsHelpStep}
 use Rattle.reader_marks.proofs.commit_clock_lemmas.HelpKinds.{help_kind}
@@ -70,14 +70,14 @@ locks_left before after steps trail all =
     (All-weaker IsPlain (λ s. is_unlock s ≡ false) (λ s p. p.3) steps all)
 
 -- the log stands after such steps
-pub stands_plain : (c : Config) (v w : View) (l : Noted) → Stands c v l → w.number ≡ v.number → w.ring ≡ v.ring
+pub stands_plain : (c : Config) (v w : Knowledge) (l : Noted) → Stands c v l → w.number ≡ v.number → w.ring ≡ v.ring
     → w.past.mine ≡ v.past.mine → w.past.rests ≡ v.past.rests → (steps : List Step) → w.trail ≡ v.trail ++ steps → ArePlain steps → Stands c w l
 stands_plain c v w l k number ring mine rests steps trail all =
     stands_same c v w l number ring mine rests (frees_left v.trail w.trail steps trail all) (cuts_left v.trail w.trail steps trail all)
     (locks_left v.trail w.trail steps trail all) k
 
 -- and after steps of kinds that leave it alone
-pub stands_left : (c : Config) (v w : View) (l : Noted) → Stands c v l → w.number ≡ v.number → w.ring ≡ v.ring
+pub stands_left : (c : Config) (v w : Knowledge) (l : Noted) → Stands c v l → w.number ≡ v.number → w.ring ≡ v.ring
     → w.past.mine ≡ v.past.mine → w.past.rests ≡ v.past.rests → (steps : List Step) → w.trail ≡ v.trail ++ steps → AllLeaveLog steps → Stands c w l
 stands_left c v w l k number ring mine rests steps trail all =
     stands_plain c v w l k number ring mine rests steps trail (all_plain steps all)
@@ -104,14 +104,14 @@ pub help_leaves : (kind : StepKind) → IsHelpStep kind → LeavesLog kind
 help_leaves = help_kind LeavesLog (refl, refl) (refl, refl) (refl, refl)
 
 -- after a section was entered
-pub stands_entered : (c : Config) (v w : View) (l : Noted) (time : ℕ) → Begins c v w time → Stands c v l → Stands c w l
+pub stands_entered : (c : Config) (v w : Knowledge) (l : Noted) (time : ℕ) → Begins c v w time → Stands c v l → Stands c w l
 stands_entered c v w l time b k =
     let e = b.entered in
-    stands_left c v w l k (ap (λ (u : View). u.number) b.rest) (ap (λ (u : View). u.ring) b.rest) (ap (λ (u : View). u.past.mine) b.rest)
-    (ap (λ (u : View). u.past.rests) b.rest) e.steps e.trail (kinds_leave IsEnterStep enter_leaves e.steps e.kinds)
+    stands_left c v w l k (ap (λ (u : Knowledge). u.number) b.rest) (ap (λ (u : Knowledge). u.ring) b.rest) (ap (λ (u : Knowledge). u.past.mine) b.rest)
+    (ap (λ (u : Knowledge). u.past.rests) b.rest) e.steps e.trail (kinds_leave IsEnterStep enter_leaves e.steps e.kinds)
 
 -- and after it was left
-pub stands_unmarked : (c : Config) (v : View) (l : Noted) → Stands c v l → Stands c (mark_cleared c v) l
+pub stands_unmarked : (c : Config) (v : Knowledge) (l : Noted) → Stands c v l → Stands c (mark_cleared c v) l
 stands_unmarked c v l k =
     stands_same c v (mark_cleared c v) l refl refl refl refl (unpassed is_free v.trail _ refl) (unpassed is_won_cut v.trail _ refl)
     (keeps_one v.trail _ refl refl) k

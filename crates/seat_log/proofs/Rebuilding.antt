@@ -5,8 +5,8 @@ use Rattle.std.proofs.lemmas.List.{length-map, length-set}
 use Rattle.mv_layout.specs.declared.Config.{Config}
 use Rattle.reader_marks.specs.mv_core.declared.ring.Slot.TheVariants.{Live}
 use Rattle.reader_marks.specs.mv_core.declared.ring.Build.{Build}
-use Rattle.reader_marks.specs.mv_core.declared.ring.Status.TheVariants.{Held}
-use Rattle.reader_marks.specs.mv_core.declared.view.View.{View}
+use Rattle.reader_marks.specs.mv_core.declared.ring.WriteSetStatus.TheVariants.{Held}
+use Rattle.reader_marks.specs.mv_core.declared.view.Knowledge.{Knowledge}
 use Rattle.reader_marks.specs.mv_core.Rings.{slot_at, index_of}
 use Rattle.reader_marks.specs.mv_core.LockSteps.{nothing_built, build_in, built_too}
 use Rattle.seat_log.specs.declared.version.Note.{Note}
@@ -18,7 +18,7 @@ use Rattle.seat_log.proofs.BuildsOn.{BuildsOn, builds_first}
 use Rattle.seat_log.proofs.NotedSlots.{note_there, held_at}
 use Rattle.seat_log.proofs.Standing.{may_build, stands_on, built_is_log}
 
-module _ (c : Config) (v w : View) (l : Noted) (n : Note) (position field x : ℕ) (k : Stands c v l) (built : l.built ≡ Some n)
+module _ (c : Config) (v w : Knowledge) (l : Noted) (n : Note) (position field x : ℕ) (k : Stands c v l) (built : l.built ≡ Some n)
     (at : n.position ≡ position) (open_is : IsOpen v) (is : w ≡ stored_next c v position field x) where
   -- one more store into the built slot
   stands_field : (m : Note) → ((b : Build) → IsAllStored b n → IsAllStored (built_too b field x) m) → IsNextOf l m → Stands c w (record l { built = Some m })
@@ -34,15 +34,16 @@ module _ (c : Config) (v w : View) (l : Noted) (n : Note) (position field x : �
       let same : build_at c v position ≡ o.0 = ap (λ z. unwrap_or (build_in z) nothing_built) (ap (λ p. slot_at v.ring (index_of c p)) here ∙ o.1) in
       let on : BuildsOn c v w position b =
       subst (λ (a : Build). BuildsOn c v w position (built_too a field x)) same
-      (subst (λ (u : View). BuildsOn c v u position (built_too (build_at c v position) field x)) (sym is) (builds_first c v position field x may.within)) in
+      (subst (λ (u : Knowledge). BuildsOn c v u position (built_too (build_at c v position) field x)) (sym is) (builds_first c v position field x may.within))
+      in
       let whole : IsAllStored b m = again o.0 o.2 in
       let long : length b.words ≡ 6 = ap length whole.words ∙ length-map m.words Some ∙ whole.wide in
-      let still : w.ring.next ≡ position = ap (λ (u : View). u.ring.next) on.rest ∙ sym here in
+      let still : w.ring.next ≡ position = ap (λ (u : Knowledge). u.ring.next) on.rest ∙ sym here in
       stands_on c v w l position b k room here on (Some m) (built_is_log l (Some m) (omega arith) next k.log) long
       (b, ap (λ p. slot_at w.ring (index_of c p)) still ∙ on.here, whole)
 
 -- PREV of the built version is 0
-pub stands_cleared : (c : Config) (v w : View) (l : Noted) (n : Note) (position : ℕ) → Stands c v l → l.built ≡ Some n → n.position ≡ position
+pub stands_cleared : (c : Config) (v w : Knowledge) (l : Noted) (n : Note) (position : ℕ) → Stands c v l → l.built ≡ Some n → n.position ≡ position
     → IsOpen v → w ≡ stored_next c v position 2 0 → Stands c w (cleared l)
 stands_cleared c v w l n position k built at open_is is =
     let m : Note = record n { previous = 0 } in
@@ -59,7 +60,7 @@ map-set (w ∷ ws) zero x = refl
 map-set (w ∷ ws) (suc i) x = ap (λ l. Some w ∷ l) (map-set ws i x)
 
 -- a data word of the built version is another one
-pub stands_built_word : (c : Config) (v w : View) (l : Noted) (n : Note) (position word value : ℕ) → Stands c v l → l.built ≡ Some n
+pub stands_built_word : (c : Config) (v w : Knowledge) (l : Noted) (n : Note) (position word value : ℕ) → Stands c v l → l.built ≡ Some n
     → n.position ≡ position → IsOpen v → w ≡ stored_next c v position (4 + word) value → Stands c w (built_word_noted l word value)
 stands_built_word c v w l n position word value k built at open_is is =
     let m : Note = with_word word value n in
@@ -79,7 +80,7 @@ stands_built_word c v w l n position word value k built at open_is is =
     next)
 
 -- the note of a held version, and its slot
-pub held_note : (c : Config) (v : View) (l : Noted) (position : ℕ) → Stands c v l → IsHeld l position
+pub held_note : (c : Config) (v : Knowledge) (l : Noted) (position : ℕ) → Stands c v l → IsHeld l position
     → (n : Note) × IsNoteAt l (position - l.freed) n × (slot_at v.ring (index_of c position) ≡ Live (version_of n) Held)
 held_note c v l position k held =
     let few = k.log.held in

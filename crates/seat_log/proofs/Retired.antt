@@ -11,10 +11,10 @@ use Rattle.mv_layout.specs.declared.Config.{Config}
 use Rattle.reader_marks.specs.mv_core.declared.ring.Ring.{Ring}
 use Rattle.reader_marks.specs.mv_core.declared.ring.Slot.{Slot}
 use Rattle.reader_marks.specs.mv_core.declared.ring.Slot.TheVariants.{Free, Built, Live, Freeing}
-use Rattle.reader_marks.specs.mv_core.declared.ring.Status.{Status}
-use Rattle.reader_marks.specs.mv_core.declared.ring.Status.TheVariants.{Held, Aborted, Committed}
+use Rattle.reader_marks.specs.mv_core.declared.ring.WriteSetStatus.{WriteSetStatus}
+use Rattle.reader_marks.specs.mv_core.declared.ring.WriteSetStatus.TheVariants.{Held, Aborted, Committed}
 use Rattle.reader_marks.specs.mv_core.declared.ring.CommitNote.{CommitNote}
-use Rattle.reader_marks.specs.mv_core.declared.view.View.{View}
+use Rattle.reader_marks.specs.mv_core.declared.view.Knowledge.{Knowledge}
 use Rattle.reader_marks.specs.mv_core.Rings.{slot_at, index_of, put_slot, is_held, is_spare}
 use Rattle.reader_marks.specs.mv_core.ReclaimSteps.{MayLoadSuper, super_note, super_loaded}
 use Rattle.reader_marks.proofs.mv_core_lemmas.logs.Links.{live_once}
@@ -31,12 +31,12 @@ use Rattle.seat_log.proofs.NotedSlots.{places_apart}
 use Rattle.seat_log.proofs.Stays.{stands_same}
 
 -- what is noted with a time is committed
-committed_status : (held : Bool) (n : Note) (st : Status) → IsAsNoted held n st → 0 < n.time → (note : CommitNote) × (st ≡ Committed note)
+committed_status : (held : Bool) (n : Note) (st : WriteSetStatus) → IsAsNoted held n st → 0 < n.time → (note : CommitNote) × (st ≡ Committed note)
 committed_status held n Held a time = let none = a.1 in absurd (omega arith)
 committed_status held n (Aborted d) a time = let none = a.1 in absurd (omega arith)
 committed_status held n (Committed note) a time = (note, refl)
 
-module _ (c : Config) (v : View) (l : Noted) (i : ℕ) (n : Note) (k : Stands c v l) (is_note : IsNoteAt l i n) where
+module _ (c : Config) (v : Knowledge) (l : Noted) (i : ℕ) (n : Note) (k : Stands c v l) (is_note : IsNoteAt l i n) where
   -- the slot of a noted version
   place_is : l.freed + i ≡ n.position
   place_is = sym (k.log.notes.position i n is_note)
@@ -78,7 +78,7 @@ module _ (c : Config) (v : View) (l : Noted) (i : ℕ) (n : Note) (k : Stands c 
 
 -- The slot of a noted version has another note of its commit, and the log notes another death of it and another count of write-backs; nothing else of
 -- the log has changed.
-pub record Renotes (c : Config) (v w : View) (l : Noted) (n : Note) (new : CommitNote) (dead back : ℕ) : Type 0 where
+pub record Renotes (c : Config) (v w : Knowledge) (l : Noted) (n : Note) (new : CommitNote) (dead back : ℕ) : Type 0 where
   pub number : w.number ≡ v.number
   pub ring : w.ring ≡ put_slot v.ring (index_of c n.position) (Live (version_of n) (Committed new))
   pub mine : w.past.mine ≡ v.past.mine
@@ -92,7 +92,7 @@ pub record Renotes (c : Config) (v w : View) (l : Noted) (n : Note) (new : Commi
   pub death : new.dead ≡ death_of dead
   pub uncut : dead ≡ 0 → new.cut ≡ false
 
-module _ (c : Config) (v w : View) (l : Noted) (i : ℕ) (n : Note) (note new : CommitNote) (dead back : ℕ) (k : Stands c v l)
+module _ (c : Config) (v w : Knowledge) (l : Noted) (i : ℕ) (n : Note) (note new : CommitNote) (dead back : ℕ) (k : Stands c v l)
     (is_note : IsNoteAt l i n) (here : slot_at v.ring (index_of c n.position) ≡ Live (version_of n) (Committed note))
     (e : Renotes c v w l n new dead back) where
   abbrev m : Noted
@@ -229,7 +229,7 @@ found_note note found some_time = ap (λ b. cond b note (record note { dead = So
 unfound_note : (note : CommitNote) → super_note note 0 ≡ note
 unfound_note note = refl
 
-module _ (c : Config) (v : View) (l : Noted) (i : ℕ) (n : Note) (note : CommitNote) (found : ℕ) (seen : List Entry) (k : Stands c v l) where
+module _ (c : Config) (v : Knowledge) (l : Noted) (i : ℕ) (n : Note) (note : CommitNote) (found : ℕ) (seen : List Entry) (k : Stands c v l) where
   -- the log stands for the pass after a load of SUPER of a version with no death, with the death that was found
   pub stands_found : IsNoteAt l i n → slot_at v.ring (index_of c n.position) ≡ Live (version_of n) (Committed note) → n.dead ≡ 0 → 0 < found
       → Stands c (super_loaded c v n.position (version_of n) note found seen) (retired l n.position found)

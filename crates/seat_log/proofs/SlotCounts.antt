@@ -4,7 +4,7 @@ use Rattle.std.proofs.lemmas.List.Sums.{sum_by-cons}
 use Rattle.reader_marks.specs.mv_core.declared.ring.Slot.{Slot}
 use Rattle.reader_marks.specs.mv_core.declared.ring.Slot.TheVariants.{Free, Built, Live, Freeing}
 use Rattle.reader_marks.specs.mv_core.declared.ring.Version.{Version}
-use Rattle.reader_marks.specs.mv_core.declared.ring.Status.{Status}
+use Rattle.reader_marks.specs.mv_core.declared.ring.WriteSetStatus.{WriteSetStatus}
 use Rattle.reader_marks.specs.mv_core.Rings.{is_held}
 use Rattle.reader_marks.proofs.mv_core_lemmas.logs.Counts.{one_if}
 
@@ -20,7 +20,7 @@ count_alike p (x ∷ xs) (y ∷ ys) long same =
     ∙ sym (sum_by-cons (λ z. one_if (p z)) y ys)
 
 -- a slot without a version holds nothing
-pub unlived : (z : Slot) → ((x : Version) (st : Status) → z ≢ Live x st) → is_held z ≡ false
+pub unlived : (z : Slot) → ((x : Version) (st : WriteSetStatus) → z ≢ Live x st) → is_held z ≡ false
 unlived Free none = refl
 unlived (Built b) none = refl
 unlived (Freeing p q) none = refl

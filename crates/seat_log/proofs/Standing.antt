@@ -8,7 +8,7 @@ use Rattle.mv_layout.specs.declared.Config.{Config}
 use Rattle.reader_marks.specs.mv_core.declared.ring.Slot.{Slot}
 use Rattle.reader_marks.specs.mv_core.declared.ring.Slot.TheVariants.{Free, Built, Live, Freeing}
 use Rattle.reader_marks.specs.mv_core.declared.ring.Build.{Build}
-use Rattle.reader_marks.specs.mv_core.declared.view.View.{View}
+use Rattle.reader_marks.specs.mv_core.declared.view.Knowledge.{Knowledge}
 use Rattle.reader_marks.specs.mv_core.Rings.{slot_at, index_of, is_held, is_spare}
 use Rattle.reader_marks.specs.mv_core.LockSteps.{nothing_built, build_in}
 use Rattle.reader_marks.proofs.mv_core_lemmas.logs.HeldSet.{slots_apart}
@@ -23,7 +23,7 @@ use Rattle.seat_log.proofs.BuildsOn.{BuildsOn, slot_whole}
 same_self : (ns : List Note) → SameSets ns ns
 same_self ns = record { long = refl; before = λ i m e. (m, e, refl, refl) }
 
-module _ (c : Config) (v : View) (l : Noted) (k : Stands c v l) where
+module _ (c : Config) (v : Knowledge) (l : Noted) (k : Stands c v l) where
   -- the slot of the next position is free or being built, where there is room
   pub next_spare : length l.live < l.slots → (b : Build) × (build_in (slot_at v.ring (index_of c v.ring.next)) ≡ Some b) × (length b.words ≡ 6)
   next_spare room = go (slot_at v.ring (index_of c v.ring.next)) refl
@@ -62,7 +62,7 @@ module _ (c : Config) (v : View) (l : Noted) (k : Stands c v l) where
       absurd (cc)
 
 -- the counts are those of the view after a build
-module _ (c : Config) (v w : View) (l : Noted) (position : ℕ) (b : Build) (k : Stands c v l) (room : length l.live < l.slots)
+module _ (c : Config) (v w : Knowledge) (l : Noted) (position : ℕ) (b : Build) (k : Stands c v l) (room : length l.live < l.slots)
     (at : position ≡ v.ring.next) (on : BuildsOn c v w position b) where
   spare_was : (test : Slot → Bool) → ((a d : Build) → test (Built a) ≡ test (Built d)) → test Free ≡ test (Built nothing_built) → (a : Build)
       → test (Built a) ≡ test (slot_at v.ring (index_of c position))
@@ -85,11 +85,11 @@ module _ (c : Config) (v w : View) (l : Noted) (position : ℕ) (b : Build) (k :
   -- the log stands for it with this as the built version, or none
   pub stands_on : (o : Option Note) → IsLog (record l { built = o }) → length b.words ≡ 6 → HasBuilt c w.ring o → Stands c w (record l { built = o })
   stands_on o is_log long has = record {
-    seat = k.seat ∙ sym (ap (λ (u : View). u.number) on.rest);
+    seat = k.seat ∙ sym (ap (λ (u : Knowledge). u.number) on.rest);
     slots = k.slots;
     wide = on.wide ∙ k.wide;
     log = is_log;
-    next = ap (λ (u : View). u.ring.next) on.rest ∙ k.next;
+    next = ap (λ (u : Knowledge). u.ring.next) on.rest ∙ k.next;
     held = on.counts is_held (spare_was is_held (λ a d. refl) refl) ∙ k.held;
     live = λ i n is.
         let a = k.live i n is in
@@ -108,16 +108,16 @@ module _ (c : Config) (v w : View) (l : Noted) (position : ℕ) (b : Build) (k :
         (λ ne. k.builds j a (sym (on.others j ne) ∙ e));
     built = has;
     spare = ap (λ n. n + length l.live) (on.counts is_spare (spare_was is_spare (λ a d. refl) refl)) ∙ k.spare;
-    commits = k.commits ∙ sym (ap (λ (u : View). length u.past.mine) on.rest);
-    rests = k.rests ∙ sym (ap (λ (u : View). u.past.rests) on.rest);
+    commits = k.commits ∙ sym (ap (λ (u : Knowledge). length u.past.mine) on.rest);
+    rests = k.rests ∙ sym (ap (λ (u : Knowledge). u.past.rests) on.rest);
     frees = k.frees ∙ sym on.frees;
     backs = k.backs ∙ sym on.backs;
     locks = k.locks ∙ sym on.keeps.locks;
     aborts = k.aborts ∙ sym on.keeps.aborts;
     settled = on.keeps.settled k.settled;
     cuts = subst (λ (n : ℕ). l.back ≤ l.freed + n) (sym (on.counts is_cut (spare_was is_cut (λ a d. refl) refl))) k.cuts;
-    used = subst (λ (u : View). writes_in u.past.mine + l.held ≤ next_of l) (sym on.rest) k.used;
-    all_used = λ none. k.all_used none ∙ sym (ap (λ (u : View). writes_in u.past.mine + l.held) on.rest);
+    used = subst (λ (u : Knowledge). writes_in u.past.mine + l.held ≤ next_of l) (sym on.rest) k.used;
+    all_used = λ none. k.all_used none ∙ sym (ap (λ (u : Knowledge). writes_in u.past.mine + l.held) on.rest);
   }
     where
       -- what isn't being built was there before
@@ -147,7 +147,7 @@ built_is_log l o room is k = record {
     next_of_same (Some n) a = a
 
 -- after a build
-pub stands_built : (c : Config) (v w : View) (l : Noted) (object previous : ℕ) (words : List ℕ) → Stands c v l → IsOpen v → length l.live < l.slots
+pub stands_built : (c : Config) (v w : Knowledge) (l : Noted) (object previous : ℕ) (words : List ℕ) → Stands c v l → IsOpen v → length l.live < l.slots
     → length words ≡ 6 → next_of l < 2 ^ 57 → w ≡ slot_built c v (next_of l) (first_of l) previous words
     → Stands c w (built_noted l (next_note l object previous words))
 stands_built c v w l object previous words k open_is room long small is =
@@ -159,14 +159,14 @@ stands_built c v w l object previous words k open_is room long small is =
     let was : build_at c v position ≡ s.0 = ap (λ o. unwrap_or o nothing_built) (ap (λ p. build_in (slot_at v.ring (index_of c p))) (sym k.next) ∙ s.1) in
     let wide : length (build_at c v position).words ≡ 6 = ap (λ (b : Build). length b.words) was ∙ s.2 in
     let whole = slot_whole c v position (first_of l) previous words may wide long n refl refl refl refl in
-    let on : BuildsOn c v w position whole.0 = subst (λ (u : View). BuildsOn c v u position whole.0) (sym is) whole.1 in
+    let on : BuildsOn c v w position whole.0 = subst (λ (u : Knowledge). BuildsOn c v u position whole.0) (sym is) whole.1 in
     let six : length whole.0.words ≡ 6 = ap length whole.2.words ∙ length-map words Some ∙ long in
-    let next : w.ring.next ≡ position = ap (λ (u : View). u.ring.next) on.rest ∙ k.next in
+    let next : w.ring.next ≡ position = ap (λ (u : Knowledge). u.ring.next) on.rest ∙ k.next in
     let one = built_is_log l (Some n) (omega arith) (refl, refl, refl, refl, small) k.log in
     stands_on c v w l position whole.0 k room (sym k.next) on (Some n) one six (whole.0, ap (λ p. slot_at w.ring (index_of c p)) next ∙ on.here, whole.2)
 
 -- after the built version was given up
-pub stands_dropped : (c : Config) (v : View) (l : Noted) → Stands c v l → Stands c v (dropped l)
+pub stands_dropped : (c : Config) (v : Knowledge) (l : Noted) → Stands c v l → Stands c v (dropped l)
 stands_dropped c v l k =
     let room = k.log.room in record {
       seat = k.seat;

@@ -8,8 +8,8 @@ use Rattle.mv_layout.specs.declared.Config.{Config}
 use Rattle.reader_marks.specs.mv_core.declared.ring.Ring.{Ring}
 use Rattle.reader_marks.specs.mv_core.declared.ring.Slot.{Slot}
 use Rattle.reader_marks.specs.mv_core.declared.ring.Slot.TheVariants.{Free, Built, Live, Freeing}
-use Rattle.reader_marks.specs.mv_core.declared.ring.Status.TheVariants.{Held}
-use Rattle.reader_marks.specs.mv_core.declared.view.View.{View}
+use Rattle.reader_marks.specs.mv_core.declared.ring.WriteSetStatus.TheVariants.{Held}
+use Rattle.reader_marks.specs.mv_core.declared.view.Knowledge.{Knowledge}
 use Rattle.reader_marks.specs.mv_core.Rings.{slot_at, index_of, put_slot, is_held, held_count, is_spare, spare_count, set_first}
 use Rattle.reader_marks.specs.mv_core.LockSteps.{locked_version, head_locked}
 use Rattle.reader_marks.proofs.mv_core_lemmas.logs.Slots.{slot_here, slot_else, slot_within}
@@ -24,7 +24,7 @@ use Rattle.seat_log.proofs.FreedSlots.{passed}
 use Rattle.seat_log.proofs.StepCounts.{KeepsLocks, aborts_kept, ends_last}
 
 -- after steps that leave the own log, its commits and its rests alone, free no slot, cut no chain, lock nothing and give nothing up
-pub stands_same : (c : Config) (v w : View) (l : Noted) → w.number ≡ v.number → w.ring ≡ v.ring → w.past.mine ≡ v.past.mine
+pub stands_same : (c : Config) (v w : Knowledge) (l : Noted) → w.number ≡ v.number → w.ring ≡ v.ring → w.past.mine ≡ v.past.mine
     → w.past.rests ≡ v.past.rests → count_by is_free w.trail ≡ count_by is_free v.trail
     → count_by is_won_cut w.trail ≡ count_by is_won_cut v.trail → KeepsLocks v.trail w.trail → Stands c v l → Stands c w l
 stands_same c v w l number ring mine rests frees backs keeps k = record {
@@ -53,7 +53,7 @@ stands_same c v w l number ring mine rests frees backs keeps k = record {
 }
 
 -- after a won lock of the built version, with what it was built with
-module _ (c : Config) (v : View) (l : Noted) (n : Note) (k : Stands c v l) (built : l.built ≡ Some n) where
+module _ (c : Config) (v : Knowledge) (l : Noted) (n : Note) (k : Stands c v l) (built : l.built ≡ Some n) where
   abbrev s : ℕ
   s = index_of c n.position
 

@@ -1,7 +1,7 @@
 -- Freeing the oldest write set of a log: when it is freed, and what that makes of the notes and of the view.
 use Rattle.std.specs.Prelude.{◌≡◌, ◌≢◌, ◌⊎◌, ℕ, zero, suc, ◌+◌, ◌<◌, ◌≤◌, length, drop}
 use Rattle.mv_layout.specs.declared.Config.{Config}
-use Rattle.reader_marks.specs.mv_core.declared.view.View.{View}
+use Rattle.reader_marks.specs.mv_core.declared.view.Knowledge.{Knowledge}
 use Rattle.reader_marks.specs.mv_core.ReclaimSteps.{free_stored}
 use Rattle.seat_log.specs.declared.version.Note.{Note}
 use Rattle.seat_log.specs.Notes.{Noted, IsNoteAt}
@@ -29,6 +29,6 @@ abbrev pub freed_noted : Noted → ℕ → Noted
 freed_noted l k = record l { live = drop k l.live; freed = l.freed + k }
 
 -- the view after the slots of k positions from one on were freed, one after another
-unfoldable pub slots_freed : Config → View → ℕ → ℕ → View
+unfoldable pub slots_freed : Config → Knowledge → ℕ → ℕ → Knowledge
 slots_freed c v position zero = v
 slots_freed c v position (suc k) = free_stored c (slots_freed c v position k) (position + k)

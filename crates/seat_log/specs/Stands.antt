@@ -12,9 +12,9 @@ use Rattle.reader_marks.specs.mv_core.declared.ring.Slot.{Slot}
 use Rattle.reader_marks.specs.mv_core.declared.ring.Slot.TheVariants.{Built, Live, Freeing}
 use Rattle.reader_marks.specs.mv_core.declared.ring.Build.{Build}
 use Rattle.reader_marks.specs.mv_core.declared.ring.Version.{Version}
-use Rattle.reader_marks.specs.mv_core.declared.ring.Status.{Status}
-use Rattle.reader_marks.specs.mv_core.declared.ring.Status.TheVariants.{Held, Aborted, Committed}
-use Rattle.reader_marks.specs.mv_core.declared.view.View.{View}
+use Rattle.reader_marks.specs.mv_core.declared.ring.WriteSetStatus.{WriteSetStatus}
+use Rattle.reader_marks.specs.mv_core.declared.ring.WriteSetStatus.TheVariants.{Held, Aborted, Committed}
+use Rattle.reader_marks.specs.mv_core.declared.view.Knowledge.{Knowledge}
 use Rattle.reader_marks.specs.mv_core.Rings.{slot_at, index_of, held_count, spare_count}
 use Rattle.seat_log.specs.declared.version.Note.{Note}
 use Rattle.seat_log.specs.Notes.{Noted, next_of, held_from, IsNoteAt, IsLog}
@@ -31,7 +31,7 @@ death_of (suc t) = Some (suc t)
 
 -- What a note says of its version's write set, by whether it is one of those noted as held: a held one has no time; an aborted
 -- one has its death; a committed one has its time, and its death if one is known, which it is once the version was cut.
-abbrev pub IsAsNoted : Bool → Note → Status → Type 0
+abbrev pub IsAsNoted : Bool → Note → WriteSetStatus → Type 0
 IsAsNoted held n Held = (held ≡ true) × (n.time ≡ 0) × (n.dead ≡ 0)
 IsAsNoted held n (Aborted dead) = (held ≡ false) × (n.time ≡ 0) × (0 < n.dead) × (dead ≡ Some n.dead)
 IsAsNoted held n (Committed note) =
@@ -39,7 +39,7 @@ IsAsNoted held n (Committed note) =
 
 -- the slot of a position has this version, as noted
 pub record HasNoted (c : Config) (r : Ring) (position : ℕ) (held : Bool) (n : Note) : Type 0 where
-  pub status : Status
+  pub status : WriteSetStatus
   pub lives : slot_at r (index_of c position) ≡ Live (version_of n) status
   pub as_noted : IsAsNoted held n status
 
@@ -126,7 +126,7 @@ writes_in cs = sum_by (λ (c : Commit). length c.writes) cs
 -- The log stands for the pass: its live versions are those of the view's log, at their positions, and its counts are those of the
 -- view. Each position that was ever in a chain was put there by a won exchange that locked, and by no other; so they are as many as
 -- these. Each is of a write of a commit, held, or of an abort. No abort is under way.
-pub record Stands (c : Config) (v : View) (l : Noted) : Type 0 where
+pub record Stands (c : Config) (v : Knowledge) (l : Noted) : Type 0 where
   pub seat : l.seat ≡ v.number
   pub slots : l.slots ≡ c.slots
   pub wide : length v.ring.slots ≡ c.slots
@@ -134,7 +134,7 @@ pub record Stands (c : Config) (v : View) (l : Noted) : Type 0 where
   pub next : v.ring.next ≡ next_of l
   pub held : held_count v.ring ≡ l.held
   pub live : (i : ℕ) (n : Note) → IsNoteAt l i n → HasNoted c v.ring (l.freed + i) (nat_le (held_from l) i) n
-  pub all : (k : ℕ) (x : Version) (st : Status) → slot_at v.ring k ≡ Live x st → (i : ℕ) × (i < length l.live) × (k ≡ index_of c (l.freed + i))
+  pub all : (k : ℕ) (x : Version) (st : WriteSetStatus) → slot_at v.ring k ≡ Live x st → (i : ℕ) × (i < length l.live) × (k ≡ index_of c (l.freed + i))
   pub none_freeing : (k p first : ℕ) → slot_at v.ring k ≢ Freeing p first
   pub builds : (k : ℕ) (b : Build) → slot_at v.ring k ≡ Built b → length b.words ≡ 6
   pub built : HasBuilt c v.ring l.built

@@ -3,7 +3,7 @@ use Rattle.tree_set.proofs.Cutting.{IsTwig, Prunes, grown_less, cut_ends}
 use Rattle.tree_set.proofs.TreeWays.{cut_way}
 use Rattle.std.proofs.Common.{◌≡◌, ◌≢◌, ◌<◌, ◌≤◌, ◌∷◌, ℕ, suc, inl, inr, true, [], refl, sym, ap, ◌∙◌, subst, arith}
 use Rattle.set_blocks.proofs.Terms.{State, Writes, written, touches, words_at, owner, IsGrown, seek, EndsAt, leaf, IsLawful, word, IsIn, in-touches, seek_in}
-use Rattle.set_blocks.proofs.Terms.{Stands-owner, Turn, Path, plug, IsCutPlace, cut_writes, sibling, distinct_part, stands_part, seek_plug, seek_beside}
+use Rattle.set_blocks.proofs.Terms.{Stands-owner, PathStep, Path, plug, IsCutPlace, cut_writes, sibling, distinct_part, stands_part, seek_plug, seek_beside}
 use Rattle.set_blocks.proofs.Terms.{redirect_keeps, beside, seek_turn, cut_twig, cut_prunes, inner_same, leaf_same, child_same, parent_same, IsOfLists, Remains}
 use Rattle.set_blocks.proofs.Tracking.{Tracks}
 use Rattle.set_blocks.proofs.ListTracks.{vacant_of_none}
@@ -16,7 +16,7 @@ cut_links : (s : State) (root k g p l : ℕ) → 170 ≤ root → root < 180 →
 cut_links s root k g p l lo lt law place o i list =
     let a = cut_twig s root k g p l law lo lt place in from a.0 a.1 a.2 a.3
   where
-    from : (x : ℕ) (ps : Path) (q : Turn) → IsTwig s root k g p l x ps q → ⊥
+    from : (x : ℕ) (ps : Path) (q : PathStep) → IsTwig s root k g p l x ps q → ⊥
     from x ps q a = go i
       where
         c : Prunes s (written s (cut_writes s g p l)) g p l
@@ -34,8 +34,8 @@ cut_links s root k g p l lo lt law place o i list =
         go (inr (inr (inr e))) = e
 
 module _ (z u : State) (root k g p l : ℕ) (lo : 170 ≤ root) (lt : root < 180) (held : Writes) (lz : IsLawful z) (r : Remains held z u)
-    (hp : touches held p ≡ true) (hl : touches held l ≡ true) (i n : ℕ) (hn : touches held n ≡ true) (x : ℕ) (ps : Path) (q : Turn)
-    (a : IsTwig z root k g p l x ps q) (y : ℕ) (qs : Path) (t : Turn) (b : IsTwig u root k g p l y qs t)
+    (hp : touches held p ≡ true) (hl : touches held l ≡ true) (i n : ℕ) (hn : touches held n ≡ true) (x : ℕ) (ps : Path) (q : PathStep)
+    (a : IsTwig z root k g p l x ps q) (y : ℕ) (qs : Path) (t : PathStep) (b : IsTwig u root k g p l y qs t)
     (e : EndsAt (written z (cut_writes z g p l)) root i n) where
   pruned : Prunes z (written z (cut_writes z g p l)) g p l
   pruned = cut_prunes z root k g p l x ps q lz lt a

@@ -3,7 +3,7 @@ use Rattle.std.proofs.Math.Seq.{split_at}
 use Rattle.std.proofs.Common.{◌≡◌, ◌+◌, ◌<◌, ◌||◌, ◌∷◌, ◌++◌, ℕ, suc, Bool, true, false, List, [], length, take, drop, get_or, sym, ap, ◌∙◌, subst}
 use Rattle.set_blocks.proofs.Terms.{Some, None, take_more, State, Writes, written, Command, Reply, catalogue_of}
 use Rattle.set_blocks.proofs.Terms.{IsLawful, capacity, IsInRange, merged, StepPlan, BlockPlan, nothing_yet, one_more, some_full, TurnsTo}
-use Rattle.set_blocks.specs.declared.turns.Turn.{Turn}
+use Rattle.set_blocks.specs.declared.turns.TurnReply.{TurnReply}
 use Rattle.set_blocks.proofs.WholeTurns.{ran_here, full_at}
 
 -- before the first turn nothing is planned
@@ -18,7 +18,8 @@ module _ (s mid : State) (commands : List Command) (i : ℕ) (d command : Comman
   pub lawful_next : IsLawful (written mid own)
   lawful_next = subst (λ (u : State). IsLawful (written u own)) (sym same) (ran_here s (take i commands) own answers b l plan).remains.lawful
 
-  pub planned_next : (turn : Turn) (new : Writes) (said : List Reply) (c : Bool) → IsInRange command → TurnsTo command (written mid own) (Some turn) own new
+  pub planned_next : (turn : TurnReply) (new : Writes) (said : List Reply) (c : Bool) → IsInRange command
+      → TurnsTo command (written mid own) (Some turn) own new
       → said ≡ answers ++ turn.reply ∷ [] → c ≡ b || turn.changes → BlockPlan s (take (i + 1) commands) new said c
   planned_next turn new said c range t told changes =
       let step : StepPlan command (written s own) t.0 turn.reply turn.changes =

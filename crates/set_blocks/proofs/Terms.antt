@@ -33,7 +33,7 @@ pub use Rattle.set_script.specs.Trees.Tree.{leaf, inner}
 pub use Rattle.set_script.proofs.ObjectWords.{word, kind-revalue, owned_in_range}
 pub use Rattle.section_work.proofs.Objects.{IsIn, in-touches, in_left, in_right, touches-in, in_either}
 pub use Rattle.set_script.proofs.TreeShape.{seek_in, Stands-owner, only_in, seek_left, seek_right, top_in}
-pub use Rattle.tree_set.specs.Paths.{Turn, Path, plug, Follows, node_of, around}
+pub use Rattle.tree_set.specs.Paths.{PathStep, Path, plug, Follows, node_of, around}
 pub use Rattle.tree_set.specs.Places.{IsCutPlace, cut_writes, sibling, IsLeaf, plant_writes, IsBarePlace, bare_writes, IsParent, IsGrowPlace, grow_writes}
 pub use Rattle.tree_set.proofs.Plugging.{distinct_part, stands_part, seek_plug, seek_beside, plug_in, plug_apart, ordered_part, ordered_within, IsWithin}
 pub use Rattle.tree_set.proofs.Replacing.{redirect_keeps}

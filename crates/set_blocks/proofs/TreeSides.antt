@@ -1,8 +1,8 @@
 -- Where a search ends that ended at a leaf, once the leaf is cut out of its tree: where another key's search ended before.
-use Rattle.tree_set.specs.Paths.Turn.{left, right}
+use Rattle.tree_set.specs.Paths.PathStep.{left, right}
 use Rattle.std.proofs.Common.{◌≡◌, ◌-◌, ◌<◌, ◌≤◌, ◌⊎◌, ◌∷◌, ◌++◌, ℕ, suc, inl, inr, [], refl, sym, ap, ◌∙◌, subst, arith}
 use Rattle.set_blocks.proofs.Terms.{State, words_at, Tree, top, objects_in, IsDistinct, AllBelow, AllFrom, IsOrdered, Stands, seek, leaf, inner, word, IsIn}
-use Rattle.set_blocks.proofs.Terms.{seek_in, seek_left, seek_right, top_in, Turn, Path, plug, node_of, Follows, around, plug_in, plug_apart, ordered_part}
+use Rattle.set_blocks.proofs.Terms.{seek_in, seek_left, seek_right, top_in, PathStep, Path, plug, node_of, Follows, around, plug_in, plug_apart, ordered_part}
 use Rattle.set_blocks.proofs.Terms.{ordered_within, IsWithin, seek_plug, seek_beside, beside, plug_last, follows_front, follows_back, beside_not_leaf}
 
 -- a search that ends at the leaf takes the path to it
@@ -43,12 +43,12 @@ follows_within i (left n d b ∷ ps) u below from w = (below d w.0, follows_with
 follows_within i (right n d a ∷ ps) u below from w = (from d w.0, follows_within i ps u below from w.1)
 
 -- the key next to the leaf's side of its turn, on the other side
-abbrev pub partner : Turn → ℕ
+abbrev pub partner : PathStep → ℕ
 partner (left n d b) = d
 partner (right n d a) = d - 1
 
 -- Where a search that ended at the leaf ends without it, the search for the key on the other side ended with it.
-pub partner_ends : (ps : Path) (q : Turn) (l k x i : ℕ) → IsOrdered (plug ps (plug (q ∷ []) (leaf l k x)))
+pub partner_ends : (ps : Path) (q : PathStep) (l k x i : ℕ) → IsOrdered (plug ps (plug (q ∷ []) (leaf l k x)))
     → IsDistinct (objects_in (plug ps (plug (q ∷ []) (leaf l k x)))) → Follows k (q ∷ []) → seek i (plug ps (plug (q ∷ []) (leaf l k x))) ≡ l
     → seek (partner q) (plug ps (plug (q ∷ []) (leaf l k x))) ≡ seek i (plug ps (beside q))
 partner_ends ps (left n d b) l k x i o dis turns e =
@@ -80,7 +80,7 @@ partner_ends ps (right n d a) l k x i o dis turns e =
     all_from (inner m j s t) = (all_from s, all_from t)
 
 -- The turn at a parent with the same words is to the same side, at the same key.
-pub partner_same : (z u : State) (root p l k x y : ℕ) (q r : Turn) → Stands z root (plug (q ∷ []) (leaf l k x)) → Stands u root (plug (r ∷ []) (leaf l k y))
+pub partner_same : (z u : State) (root p l k x y : ℕ) (q r : PathStep) → Stands z root (plug (q ∷ []) (leaf l k x)) → Stands u root (plug (r ∷ []) (leaf l k y))
     → IsDistinct (objects_in (plug (q ∷ []) (leaf l k x))) → IsDistinct (objects_in (plug (r ∷ []) (leaf l k y))) → node_of q ≡ p → node_of r ≡ p
     → words_at u p ≡ words_at z p → partner r ≡ partner q
 partner_same z u root p l k x y (left n d b) (left m c t) st su dz du e f same =

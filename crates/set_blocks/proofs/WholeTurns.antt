@@ -5,7 +5,7 @@ use Rattle.set_blocks.proofs.Terms.{Full, Worn, Maps, catalogue_of, IsLawful, re
 use Rattle.set_blocks.proofs.Terms.{block_changes_in, IsBlockFound, found_by, HoldPlan, StepPlan, BlockPlan, has_yes}
 use Rattle.set_blocks.proofs.Terms.{changing, keeping, nothing_yet, one_more, turn_replies}
 use Rattle.set_blocks.proofs.Terms.{after_turns, some_changes, is_full, some_full, would_change, Settled, Open}
-use Rattle.set_blocks.specs.declared.finding.Turns.{Turns}
+use Rattle.set_blocks.specs.declared.finding.TurnReplies.{TurnReplies}
 use Rattle.set_blocks.proofs.Planning.{plan_runs}
 use Rattle.set_blocks.proofs.Remaining.{remains_itself}
 use Rattle.set_blocks.proofs.SingleBlocks.{one_replies, one_changes}
@@ -58,7 +58,7 @@ module _ (commands : List Command) (u : State) (said : List Reply) (b : Bool) (t
   changes_turned = ap (λ x. x && true) would
 
 -- What is planned for a block is found.
-pub plan_found : (s : State) (commands : List Command) (ws : Writes) (turns : Turns) → IsLawful s → BlockPlan s commands ws turns.replies turns.changes
+pub plan_found : (s : State) (commands : List Command) (ws : Writes) (turns : TurnReplies) → IsLawful s → BlockPlan s commands ws turns.replies turns.changes
     → IsBlockFound commands s ws (found_by turns)
 plan_found s commands ws turns l plan = by turns.replies turns.changes plan
   where

@@ -26,7 +26,7 @@ pub enum BlockFinding {
 
 /// What commands reply one after another, and whether one of them changes something.
 #[derive(Drop)]
-pub struct Turns {
+pub struct TurnReplies {
     pub replies: Replies,
     pub changes: bool,
 }
@@ -50,7 +50,7 @@ pub fn find_block<V: View>(overlay: &mut Overlay<V>, commands: &[Command]) -> Bl
     }
 }
 
-impl Turns {
+impl TurnReplies {
     // Of a block that is not full.
     fn found(self) -> BlockFinding
         ensures { result ≡ found_by self }
@@ -75,7 +75,7 @@ fn read_alone<V: View>(view: &mut V, command: &Command) -> Reply
 }
 
 // Plans commands one after another, each in the state that those before it leave. None where one of them is full at its turn.
-fn plan_turns<V: View>(overlay: &mut Overlay<V>, commands: &[Command]) -> Option<Turns>
+fn plan_turns<V: View>(overlay: &mut Overlay<V>, commands: &[Command]) -> Option<TurnReplies>
     requires lawful { IsLawful (V.state overlay.old.view) }
     requires none { overlay.old.count ≡ 0 }
     requires few { length commands.now ≤ 8 }
@@ -94,7 +94,7 @@ fn plan_turns<V: View>(overlay: &mut Overlay<V>, commands: &[Command]) -> Option
         replies.push(turn.reply);
         changes |= turn.changes;
     }
-    Some(Turns { replies, changes })
+    Some(TurnReplies { replies, changes })
 }
 
 // What the types of a command's names, key and value say, as a fact.

@@ -12,19 +12,19 @@ use crate::holds::{hold_key, hold_value};
 use crate::overlay::Overlay;
 use list_set::Fingers;
 use mv_history::View;
-use set_catalog::{Hints, Outcome, Plan, find_plan_near, search};
+use set_catalog::{Hints, PlanOutcome, WritePlan, find_plan_near, search};
 use set_script::{Command, Name, Reply};
 
 /// What a command of a block replies at its turn, and whether it changes something.
 #[derive(Clone, Copy, Drop)]
-pub struct Turn {
+pub struct TurnReply {
     pub reply: Reply,
     pub changes: bool,
 }
 
 /// Plans a command in the state that those before it leave; it is none that is alone. What it changes is written in the plan,
 /// and what the reply of one that changes nothing depends on is held there. None where it is full.
-pub fn plan_turn<V: View>(overlay: &mut Overlay<V>, command: &Command) -> Option<Turn>
+pub fn plan_turn<V: View>(overlay: &mut Overlay<V>, command: &Command) -> Option<TurnReply>
     requires lawful { IsLawful (written (V.state overlay.old.view) (take overlay.old.count overlay.old.writes)) }
     requires room { overlay.old.count + 5 ≤ 40 }
     requires apart { stands_alone command.now ≡ false }
@@ -64,7 +64,7 @@ fn is_full(reply: Reply) -> bool
     matches!(reply, Reply::Full)
 }
 
-fn turn_has<V: View>(overlay: &mut Overlay<V>, name: Name, key: u32) -> Turn
+fn turn_has<V: View>(overlay: &mut Overlay<V>, name: Name, key: u32) -> TurnReply
     requires lawful { IsLawful (written (V.state overlay.old.view) (take overlay.old.count overlay.old.writes)) }
     requires room { overlay.old.count + 1 ≤ 40 }
     ensures turn { TurnsTo (Has name key) (written (V.state overlay.old.view) (take overlay.old.count overlay.old.writes)) (Some result)
@@ -73,13 +73,13 @@ fn turn_has<V: View>(overlay: &mut Overlay<V>, name: Name, key: u32) -> Turn
     ensures count { overlay.new.count ≤ overlay.old.count + 1 }
 {
     let has = hold_key(overlay, name, key);
-    Turn {
+    TurnReply {
         reply: yes_or_no(has),
         changes: false,
     }
 }
 
-fn turn_get<V: View>(overlay: &mut Overlay<V>, name: Name, key: u32) -> Turn
+fn turn_get<V: View>(overlay: &mut Overlay<V>, name: Name, key: u32) -> TurnReply
     requires lawful { IsLawful (written (V.state overlay.old.view) (take overlay.old.count overlay.old.writes)) }
     requires room { overlay.old.count + 2 ≤ 40 }
     ensures turn { TurnsTo (Get name key) (written (V.state overlay.old.view) (take overlay.old.count overlay.old.writes)) (Some result)
@@ -88,13 +88,13 @@ fn turn_get<V: View>(overlay: &mut Overlay<V>, name: Name, key: u32) -> Turn
     ensures count { overlay.new.count ≤ overlay.old.count + 2 }
 {
     let value = hold_value(overlay, name, key);
-    Turn {
+    TurnReply {
         reply: named(value),
         changes: false,
     }
 }
 
-fn turn_pair<V: View>(overlay: &mut Overlay<V>, first: Name, second: Name, key: u32) -> Turn
+fn turn_pair<V: View>(overlay: &mut Overlay<V>, first: Name, second: Name, key: u32) -> TurnReply
     requires lawful { IsLawful (written (V.state overlay.old.view) (take overlay.old.count overlay.old.writes)) }
     requires room { overlay.old.count + 2 ≤ 40 }
     ensures turn { TurnsTo (Pair first second key) (written (V.state overlay.old.view) (take overlay.old.count overlay.old.writes)) (Some result)
@@ -104,7 +104,7 @@ fn turn_pair<V: View>(overlay: &mut Overlay<V>, first: Name, second: Name, key: 
 {
     let one = hold_key(overlay, first, key);
     let other = hold_key(overlay, second, key);
-    Turn {
+    TurnReply {
         reply: Reply::Both {
             first: one,
             second: other,
@@ -114,7 +114,7 @@ fn turn_pair<V: View>(overlay: &mut Overlay<V>, first: Name, second: Name, key: 
 }
 
 // Plans a command that may change something.
-fn turn_change<V: View>(overlay: &mut Overlay<V>, command: &Command) -> Option<Turn>
+fn turn_change<V: View>(overlay: &mut Overlay<V>, command: &Command) -> Option<TurnReply>
     requires lawful { IsLawful (written (V.state overlay.old.view) (take overlay.old.count overlay.old.writes)) }
     requires room { overlay.old.count + 5 ≤ 40 }
     requires may { may_change command.now ≡ true }
@@ -124,7 +124,7 @@ fn turn_change<V: View>(overlay: &mut Overlay<V>, command: &Command) -> Option<T
     ensures count { overlay.new.count ≤ overlay.old.count + 5 }
 {
     let mut few = overlay.objects();
-    let mut plan = Plan::nothing();
+    let mut plan = WritePlan::nothing();
     let found = find_plan_near(
         &mut plan,
         overlay,
@@ -134,19 +134,19 @@ fn turn_change<V: View>(overlay: &mut Overlay<V>, command: &Command) -> Option<T
         command,
     );
     match found {
-        Outcome::Open(_) => {
+        PlanOutcome::Open(_) => {
             overlay.write(plan.writes());
-            Some(Turn {
+            Some(TurnReply {
                 reply: Reply::Yes,
                 changes: true,
             })
         }
-        Outcome::Settled(reply) => {
+        PlanOutcome::Settled(reply) => {
             if is_full(reply) {
                 return None;
             }
             hold_unchanged(overlay, command);
-            Some(Turn {
+            Some(TurnReply {
                 reply: Reply::No,
                 changes: false,
             })

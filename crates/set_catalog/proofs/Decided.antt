@@ -21,7 +21,7 @@ use Rattle.set_catalog.specs.Needs.{taken, wanted, may_change, AreEnough}
 use Rattle.set_catalog.specs.declared.ends.End.{End}
 use Rattle.set_catalog.specs.declared.finding.Finding.{Finding}
 use Rattle.set_catalog.specs.declared.finding.Finding.TheVariants.{Settled, Open}
-use Rattle.tree_balance.specs.declared.plan.Plan.{Plan}
+use Rattle.tree_balance.specs.declared.plan.WritePlan.{WritePlan}
 use Rattle.set_catalog.specs.declared.plan.Gone.{Gone}
 use Rattle.set_catalog.proofs.Deciding.{decides_no, decides_open, decides_short, decides_had}
 use Rattle.set_catalog.proofs.EndPlans.{del_planned, put_planned, freed_gone}
@@ -70,7 +70,7 @@ module _ (s : State) (name k v : ℕ) (l : IsLawful s) (name_in : name < 30) (fi
   pub new_short : (most want : ℕ) → want ≡ taken name (map_of name (catalogue_of s)) → vacant_nodes s < want → IsFoundWithin most command s (Settled Full)
   new_short most want w short = decides_short command s l (in_range n) (may n) (does n) want (w ∙ sym (wants n)) short
 
-  pub new_open : (most want first second : ℕ) (plan : Plan) (gone : Gone) → want ≡ taken name (map_of name (catalogue_of s))
+  pub new_open : (most want first second : ℕ) (plan : WritePlan) (gone : Gone) → want ≡ taken name (map_of name (catalogue_of s))
       → want ≤ vacant_nodes s → AddsWithin most s name k v first second (writes_in plan) → (gone.node ≡ 0) × (gone.inner ≡ 0)
       → IsFoundWithin most command s (Open plan gone)
   new_open most want first second plan gone w there adds nothing =
@@ -102,7 +102,7 @@ module _ (s : State) (name k : ℕ) (l : IsLawful s) (lt : name < 30) (fit : k <
     lacks : old ≢ v → has_entry k v (map_of name (catalogue_of s)) ≡ false
     lacks n = entry ∙ ne_eqb old v n
 
-    pub put_open : (most : ℕ) (end : End) (none plan : Plan) (gone : Gone) → EndsAt s name k end → old ≢ v → none.count ≡ 0
+    pub put_open : (most : ℕ) (end : End) (none plan : WritePlan) (gone : Gone) → EndsAt s name k end → old ≢ v → none.count ≡ 0
         → writes_in plan ≡ merged (writes_in none) (puts_at s v end) → (gone.node ≡ 0) × (gone.inner ≡ 0)
         → IsFoundWithin most (Put name k v) s (Open plan gone)
     put_open most end none plan gone ends n z e nothing =
@@ -117,7 +117,7 @@ module _ (s : State) (name k : ℕ) (l : IsLawful s) (lt : name < 30) (fit : k <
   pub del_no : has_key k (map_of name (catalogue_of s)) ≡ false → IsFound (Del name k) s (Settled No)
   del_no missed = decides_no (Del name k) s refl missed
 
-  pub del_open : (end : End) (none plan : Plan) (gone : Gone) → EndsAt s name k end → has_key k (map_of name (catalogue_of s)) ≡ true
+  pub del_open : (end : End) (none plan : WritePlan) (gone : Gone) → EndsAt s name k end → has_key k (map_of name (catalogue_of s)) ≡ true
       → none.count ≡ 0 → writes_in plan ≡ merged (writes_in none) (dels_at s end) → gone.node ≡ node_gone end → gone.inner ≡ inner_gone end
       → IsFound (Del name k) s (Open plan gone)
   del_open end none plan gone ends there z e n i =
@@ -214,10 +214,10 @@ module _ (s : State) (source target k : ℕ) (l : IsLawful s) (ls : source < 30)
       dels_distinct = (planned_del s l source k ls fit (node_gone from) (inner_gone from) (dels_at s from)
           (record { node = node_gone from; inner = inner_gone from }) refl refl del).distinct
 
-      pub dels_planned : (none mid : Plan) → none.count ≡ 0 → writes_in mid ≡ merged (writes_in none) (dels_at s from) → writes_in mid ≡ dels_at s from
+      pub dels_planned : (none mid : WritePlan) → none.count ≡ 0 → writes_in mid ≡ merged (writes_in none) (dels_at s from) → writes_in mid ≡ dels_at s from
       dels_planned none mid z e = planned_alone none mid (dels_at s from) z dels_distinct e
 
-      pub move_has_room : (none mid : Plan) (first node second inner : ℕ) (to : End) → none.count ≡ 0
+      pub move_has_room : (none mid : WritePlan) (first node second inner : ℕ) (to : End) → none.count ≡ 0
           → writes_in mid ≡ merged (writes_in none) (dels_at s from) → inner ≡ inner_gone from → node ≡ node_gone from
           → second ≡ (if inner == 0 then first else inner) → length (writes_in mid) + count_unheld (writes_in mid) (objects_added node second to) ≤ 5
       move_has_room none mid first node second inner to z e i n o =
@@ -227,7 +227,7 @@ module _ (s : State) (source target k : ℕ) (l : IsLawful s) (ls : source < 30)
           (subst (λ (x : ℕ). length (dels_at s from) + count_unheld (dels_at s from) (objects_added x second to) ≤ 5) (sym n)
           (subst (λ (x : ℕ). length (dels_at s from) + count_unheld (dels_at s from) (objects_added (node_gone from) x to) ≤ 5) (sym q) r))
 
-      pub move_open : (none mid plan : Plan) (gone : Gone) (want takes left first other node second : ℕ) (to : End) → EndsAt s target k to
+      pub move_open : (none mid plan : WritePlan) (gone : Gone) (want takes left first other node second : ℕ) (to : End) → EndsAt s target k to
           → takes ≡ taken target (map_of target (catalogue_of s)) → left ≡ inner_gone from → want ≡ takes - (if left == 0 then 1 else 2)
           → want ≤ vacant_nodes s → AreEnough s want first other → node ≡ node_gone from → second ≡ (if left == 0 then first else left) → none.count ≡ 0
           → writes_in mid ≡ merged (writes_in none) (dels_at s from)

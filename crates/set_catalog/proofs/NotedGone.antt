@@ -15,8 +15,8 @@ use Rattle.set_catalog.specs.CommandMeaning.{command_meaning}
 use Rattle.set_catalog.specs.Hinted.{Hinted, gone_noted, TakesHints}
 use Rattle.set_catalog.specs.Remembering.{TakesFor, hints_at}
 use Rattle.set_catalog.specs.Steps.{most_beside}
-use Rattle.set_catalog.specs.declared.answer.Attempt.TheVariants.{Done}
-use Rattle.set_catalog.specs.declared.command_work.Answer.{Answer}
+use Rattle.set_catalog.specs.declared.answer.CommandAttempt.TheVariants.{Done}
+use Rattle.set_catalog.specs.declared.command_work.CommandAnswer.{CommandAnswer}
 use Rattle.set_catalog.specs.declared.memo.Memo.{Memo}
 
 -- where hints were only taken, each that is left was one before
@@ -58,7 +58,7 @@ none_noted : (old hints : Hinted) (node inner : ℕ) → (node ≡ 0) × (inner 
 none_noted old hints node inner z e = rw (z.0, z.1) at e
 
 -- The objects that a commit left vacant were noted.
-done_noted : (k : Causes) (old new : Seat) (command : Command) (answer : Answer) (time : ℕ) (before between : Memo) (after : Hinted)
+done_noted : (k : Causes) (old new : Seat) (command : Command) (answer : CommandAnswer) (time : ℕ) (before between : Memo) (after : Hinted)
     → IsDoneAt k (command_meaning (most_beside old.write_max) command) old new answer time → Noted (Looks command) old new before between
     → after ≡ gone_noted between.hints answer.gone.node answer.gone.inner → NotesGone command before.hints after old new time
 done_noted k old new command answer time before between after d n e = go command d n
@@ -89,7 +89,7 @@ done_noted k old new command answer time before between after d n e = go command
     go (Next name key) d n = kept (Next name key) n d.done.plan.goes
 
 -- What an attempt leaves of the hints that was done here.
-pub hints_then : (k : Causes) (old new : Seat) (command : Command) (answer : Answer) (place : Place) (before between : Memo) (after : Hinted)
+pub hints_then : (k : Causes) (old new : Seat) (command : Command) (answer : CommandAnswer) (place : Place) (before between : Memo) (after : Hinted)
     → Attempted k (command_meaning (most_beside old.write_max) command) old new (WorkDone answer place) → Noted (Looks command) old new before between
     → after ≡ hints_at place between.hints answer.gone → HintsAfter command before.hints after old new (Done answer.reply place)
 hints_then k old new command answer (AtCommit time) before between after d n e = done_noted k old new command answer time before between after d n e

@@ -21,15 +21,15 @@ use Rattle.set_catalog.specs.Findings.{IsPlannedWithin}
 use Rattle.set_catalog.specs.Merges.{writes_in}
 use Rattle.set_catalog.specs.Remembering.{IsAfterTheFirst, known_at}
 use Rattle.set_catalog.specs.Shortages.{IsKnown}
-use Rattle.set_catalog.specs.declared.answer.Attempt.TheVariants.{Done}
-use Rattle.set_catalog.specs.declared.command_work.Answer.{Answer}
+use Rattle.set_catalog.specs.declared.answer.CommandAttempt.TheVariants.{Done}
+use Rattle.set_catalog.specs.declared.command_work.CommandAnswer.{CommandAnswer}
 use Rattle.set_catalog.specs.Steps.{most_beside}
-use Rattle.tree_balance.specs.declared.plan.Plan.{Plan}
+use Rattle.tree_balance.specs.declared.plan.WritePlan.{WritePlan}
 use Rattle.set_catalog.specs.declared.shortage.Shortage.{Shortage}
 use Rattle.set_catalog.proofs.Knowing.{known_followed}
 
 -- what was planned for a command is planned for it as a work
-pub planned_as : (most : ℕ) (command : Command) (s : State) (plan : Plan) (answer : Answer) → answer.reply ≡ Yes
+pub planned_as : (most : ℕ) (command : Command) (s : State) (plan : WritePlan) (answer : CommandAnswer) → answer.reply ≡ Yes
     → IsPlannedWithin most command s (writes_in plan) answer.gone
     → IsWorkPlanned IsSetCommit (command_meaning most command) s (tag_of command) (writes_in plan) answer
 planned_as most command s plan answer said p = record {
@@ -43,7 +43,7 @@ planned_as most command s plan answer said p = record {
 
 module _ (k : Causes) (old new : Seat) (command : Command) where
   -- a command that a commit made
-  done_as : (answer : Answer) (time : ℕ) → IsDoneAt k (command_meaning (most_beside old.write_max) command) old new answer time
+  done_as : (answer : CommandAnswer) (time : ℕ) → IsDoneAt k (command_meaning (most_beside old.write_max) command) old new answer time
       → IsDoneBy old new command answer.reply time
   done_as answer time d = record {
     continues = d.done.continues;
@@ -59,7 +59,7 @@ module _ (k : Causes) (old new : Seat) (command : Command) where
   }
 
   -- a command that changes nothing
-  read_as : (answer : Answer) (time : ℕ) → IsReadAt k (command_meaning (most_beside old.write_max) command) old new answer time
+  read_as : (answer : CommandAnswer) (time : ℕ) → IsReadAt k (command_meaning (most_beside old.write_max) command) old new answer time
       → IsRead k old new command answer.reply time
   read_as answer time r = record {
     mine = r.mine;
@@ -73,27 +73,28 @@ module _ (k : Causes) (old new : Seat) (command : Command) where
   }
 
 -- What an attempt leaves, by what it answers, where as many objects are allowed beside an add as the seat may lock.
-pub left_by : (k : Causes) (old new : Seat) (most : ℕ) (command : Command) (a b : Attempt Answer) → most ≡ most_beside old.write_max → a ≡ b
+pub left_by : (k : Causes) (old new : Seat) (most : ℕ) (command : Command) (a b : Attempt CommandAnswer) → most ≡ most_beside old.write_max → a ≡ b
     → WorkAttempted k (command_meaning most command) old new a → WorkAttempted k (command_meaning (most_beside old.write_max) command) old new b
 left_by k old new most command a b m e h =
-    subst (λ (x : Attempt Answer). WorkAttempted k (command_meaning (most_beside old.write_max) command) old new x) e
+    subst (λ (x : Attempt CommandAnswer). WorkAttempted k (command_meaning (most_beside old.write_max) command) old new x) e
     (subst (λ (n : ℕ). WorkAttempted k (command_meaning n command) old new a) m h)
 
 -- its clauses where it was done, by where that is
-pub answered_as : (k : Causes) (old new : Seat) (command : Command) (answer : Answer) (place : Place)
+pub answered_as : (k : Causes) (old new : Seat) (command : Command) (answer : CommandAnswer) (place : Place)
     → WorkAttempted k (command_meaning (most_beside old.write_max) command) old new (WorkDone answer place)
     → Attempted k old new command (Done answer.reply place)
 answered_as k old new command answer (AtCommit time) d = done_as k old new command answer time d
 answered_as k old new command answer (Read time) r = read_as k old new command answer time r
 
 -- no commit is at the first time
-pub after_the_first : (k : Causes) (old new : Seat) (command : Command) (answer : Answer) (place : Place)
+pub after_the_first : (k : Causes) (old new : Seat) (command : Command) (answer : CommandAnswer) (place : Place)
     → WorkAttempted k (command_meaning (most_beside old.write_max) command) old new (WorkDone answer place) → IsAfterTheFirst place
 after_the_first k old new command answer (AtCommit time) d = let later : old.base + length old.seen < time = d.done.later in omega arith
 after_the_first k old new command answer (Read time) r = tt
 
 -- what is known then
-pub known_then : (k : Causes) (old new : Seat) (command : Command) (answer : Answer) (place : Place) (known after : Shortage) → IsSeat IsOpening IsSetCommit new
+pub known_then : (k : Causes) (old new : Seat) (command : Command) (answer : CommandAnswer) (place : Place) (known after : Shortage)
+    → IsSeat IsOpening IsSetCommit new
     → WorkAttempted k (command_meaning (most_beside old.write_max) command) old new (WorkDone answer place)
     → IsKnown new known → after ≡ known_at place known command → IsKnown new after
 known_then k old new command answer (AtCommit time) known after law d h e =

@@ -17,7 +17,7 @@ use Rattle.set_script.specs.declared.commands.Command.{Command}
 use Rattle.set_script.specs.declared.commands.Command.TheVariants.{Add, Put, Del, Has, Get, Move, Pair, Size, Next}
 use Rattle.section_work.specs.Held.{count_unheld}
 use Rattle.section_work.specs.OwnWrites.{objects_of}
-use Rattle.tree_balance.specs.declared.plan.Plan.{Plan}
+use Rattle.tree_balance.specs.declared.plan.WritePlan.{WritePlan}
 use Rattle.tree_balance.proofs.Drafting.{count_is, length-merged_within}
 use Rattle.tree_balance.proofs.Fitting.{adds_are_fit}
 use Rattle.set_catalog.specs.Ends.{EndsAt, adds_at, objects_added}
@@ -125,11 +125,12 @@ found_within most command s (Open plan gone) f =
     )
 
 -- what a plan has that was empty before
-pub planned_alone : (old new : Plan) (ws : Writes) → old.count ≡ 0 → are_distinct ws ≡ true → writes_in new ≡ merged (writes_in old) ws → writes_in new ≡ ws
+pub planned_alone : (old new : WritePlan) (ws : Writes) → old.count ≡ 0 → are_distinct ws ≡ true → writes_in new ≡ merged (writes_in old) ws
+    → writes_in new ≡ ws
 planned_alone old new ws z d e = e ∙ ap (λ (n : ℕ). merged (take n old.writes) ws) z ∙ merged-none ws d
 
 -- and how many writes it has
-pub planned_count : (plan : Plan) (n : ℕ) → length (writes_in plan) ≤ n → plan.count ≤ n
+pub planned_count : (plan : WritePlan) (n : ℕ) → length (writes_in plan) ≤ n → plan.count ≤ n
 planned_count plan n le = let e = count_is plan in omega arith
 
 in_tree_locks : (name n : ℕ) → first_tree ≤ name → (if nat_lt name first_tree then most_locks else suc n + 4) ≡ suc n + 4

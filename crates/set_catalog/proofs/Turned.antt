@@ -11,7 +11,7 @@ use Rattle.set_script.proofs.ObjectWords.{word}
 use Rattle.tree_set.specs.declared.search.Fork.{Fork}
 use Rattle.tree_set.specs.Places.{grow_writes}
 use Rattle.tree_set.proofs.Planning.{key_not}
-use Rattle.tree_balance.specs.declared.plan.Plan.{Plan}
+use Rattle.tree_balance.specs.declared.plan.WritePlan.{WritePlan}
 use Rattle.tree_balance.specs.Depths.{IsOfWay}
 use Rattle.tree_balance.specs.Drafts.{IsAddOnWay}
 use Rattle.set_catalog.specs.Ends.{EndsAt, adds_at}
@@ -30,7 +30,7 @@ use Rattle.set_catalog.proofs.Planned.{adds_alone, planned_alone}
 module _ (s : State) (name k : ℕ) (l : IsLawful s) (lt : name < 30) (fit : k < 2 ^ 32) (missed : has_key k (map_of name (catalogue_of s)) ≡ false)
     (v first second : ℕ) (enough : AreEnough s (taken name (map_of name (catalogue_of s))) first second) where
   -- an add with no steps
-  pub planned_none : (most : ℕ) (end : End) (none plan : Plan) → EndsAt s name k end → none.count ≡ 0
+  pub planned_none : (most : ℕ) (end : End) (none plan : WritePlan) → EndsAt s name k end → none.count ≡ 0
       → writes_in plan ≡ merged (writes_in none) (adds_at s k v first second end) → AddsWithin most s name k v first second (writes_in plan)
   planned_none most end none plan e z is =
       let add = add_planned s name k l lt fit end v first second e missed enough in

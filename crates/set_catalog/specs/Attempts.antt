@@ -12,9 +12,9 @@ use Rattle.set_script.specs.Tags.{tag_of}
 use Rattle.set_script.specs.declared.commands.Command.{Command}
 use Rattle.set_script.specs.declared.commands.Reply.{Reply}
 use Rattle.section_work.specs.declared.place.Place.TheVariants.{Commit as AtCommit, Read}
-use Rattle.set_catalog.specs.declared.answer.Attempt.{Attempt}
-use Rattle.set_catalog.specs.declared.answer.Attempt.TheVariants.{Done, Again}
-use Rattle.section_work.specs.declared.attempting.Attempt.{Attempt as WorkAttempt}
+use Rattle.set_catalog.specs.declared.answer.CommandAttempt.{CommandAttempt}
+use Rattle.set_catalog.specs.declared.answer.CommandAttempt.TheVariants.{Done, Again}
+use Rattle.section_work.specs.declared.attempting.Attempt.{Attempt}
 use Rattle.section_work.specs.declared.attempting.Attempt.TheVariants.{Done as WorkDone, Again as WorkAgain}
 use Rattle.section_work.specs.Attempts.{GivesUp}
 use Rattle.section_work.specs.Causes.{Causes}
@@ -56,7 +56,7 @@ pub record IsRead (k : Causes) (old new : Seat) (command : Command) (answer : Re
   pub unchanging : changes_in command (state_of_time new time) (time == new.last) ≡ false
 
 -- What an attempt leaves by its answer. What was given up is the change that the command would make, of which a lock or the commit was refused.
-abbrev pub Attempted : Causes → Seat → Seat → Command → Attempt → Type 0
+abbrev pub Attempted : Causes → Seat → Seat → Command → CommandAttempt → Type 0
 Attempted k old new command (Done answer (AtCommit time)) = IsDoneBy old new command answer time
 Attempted k old new command (Done answer (Read time)) = IsRead k old new command answer time
 Attempted k old new command (Again cause) = GivesUp k (command_meaning (most_beside old.write_max) command) old new cause
@@ -80,12 +80,12 @@ NotesGone (Del name key) hints after old new time =
 NotesGone command hints after old new time = KeepsHints hints after old new
 
 -- What an attempt leaves of the hints.
-abbrev pub HintsAfter : Command → Hinted → Hinted → Seat → Seat → Attempt → Type 0
+abbrev pub HintsAfter : Command → Hinted → Hinted → Seat → Seat → CommandAttempt → Type 0
 HintsAfter command hints after old new (Done answer (AtCommit time)) = NotesGone command hints after old new time
 HintsAfter command hints after old new (Done answer (Read time)) = KeepsHints hints after old new
 HintsAfter command hints after old new (Again cause) = KeepsHints hints after old new
 
 -- the answer, as that of a work
-abbrev pub as_work : Attempt → WorkAttempt Reply
+abbrev pub as_work : CommandAttempt → Attempt Reply
 as_work (Done answer place) = WorkDone answer place
 as_work (Again cause) = WorkAgain cause

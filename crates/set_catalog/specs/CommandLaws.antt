@@ -15,7 +15,7 @@ use Rattle.set_catalog.specs.Plans.{PlanWithin, PlanOf}
 use Rattle.set_catalog.specs.Replies.{reply_in}
 use Rattle.set_catalog.specs.Shortages.{IsKnown}
 use Rattle.set_catalog.specs.CommandMeaning.{PlansCommand}
-use Rattle.set_catalog.specs.declared.command_work.Answer.{Answer}
+use Rattle.set_catalog.specs.declared.command_work.CommandAnswer.{CommandAnswer}
 
 -- What is known stays known.
 pub known_later : {a b : Seat} (k : Shortage) → Continues a b → IsKnown a k → IsKnown b k
@@ -43,7 +43,8 @@ pub tag_stands : (command : Command) (s : State) (ws : Writes) → PlanOf comman
 tag_stands command s ws p = tag_stands_within 0 command s ws p
 
 -- A commit of a command has the reply of the state just before it.
-pub makes_command : (most : ℕ) (command : Command) (s before : State) (tag : List ℕ) (ws : Writes) (answer : Answer) → PlansCommand most command s tag ws answer
+pub makes_command : (most : ℕ) (command : Command) (s before : State) (tag : List ℕ) (ws : Writes) (answer : CommandAnswer)
+    → PlansCommand most command s tag ws answer
     → IsSetCommit tag before ws → answer.reply ≡ reply_in command before false
 makes_command most command s before tag ws answer p a =
     let m = subst (λ u. MakesSome u before (written before ws)) (ap command_of p.tagged ∙ tag_stands_within most command s ws p.plan) a.makes in

@@ -10,11 +10,11 @@ use Rattle.section_work.specs.Works.{Meaning}
 use Rattle.set_catalog.specs.Plans.{PlanWithin, GoneBy}
 use Rattle.set_catalog.specs.Replies.{reply_in, changes_in}
 use Rattle.set_catalog.specs.Steps.{most_locks_of}
-use Rattle.set_catalog.specs.declared.command_work.Answer.{Answer}
+use Rattle.set_catalog.specs.declared.command_work.CommandAnswer.{CommandAnswer}
 
 -- What is planned for it, where an add to a tree may lock so many objects beside its own four: the change that the command makes, with its
 -- tag, fit to be committed, and yes once it is made; a del leaves these objects vacant.
-pub record PlansCommand (most : ℕ) (command : Command) (s : State) (tag : List ℕ) (ws : Writes) (answer : Answer) : Type 0 where
+pub record PlansCommand (most : ℕ) (command : Command) (s : State) (tag : List ℕ) (ws : Writes) (answer : CommandAnswer) : Type 0 where
   pub tagged : tag ≡ tag_of command
   pub plan : PlanWithin most command s ws
   pub few : length ws ≤ most_locks_of most command
@@ -23,12 +23,12 @@ pub record PlansCommand (most : ℕ) (command : Command) (s : State) (tag : List
   pub said : answer.reply ≡ Yes
 
 -- the reply is that of the state, where the command changes nothing
-pub record SettlesCommand (command : Command) (s : State) (last : Bool) (answer : Answer) : Type 0 where
+pub record SettlesCommand (command : Command) (s : State) (last : Bool) (answer : CommandAnswer) : Type 0 where
   pub answers : answer.reply ≡ reply_in command s last
   pub unchanging : changes_in command s last ≡ false
 
 -- What a command means, where an add to a tree may lock so many objects beside its own four.
-abbrev pub command_meaning : ℕ → Command → Meaning Answer
+abbrev pub command_meaning : ℕ → Command → Meaning CommandAnswer
 command_meaning most command = record {
   most = most_locks_of most command;
   changes = λ s. changes_in command s false ≡ true;

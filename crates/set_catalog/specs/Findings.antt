@@ -15,10 +15,10 @@ use Rattle.set_catalog.specs.Steps.{most_locks_of}
 use Rattle.set_catalog.specs.Replies.{reply_in, changes_in}
 use Rattle.set_catalog.specs.declared.finding.Finding.{Finding}
 use Rattle.set_catalog.specs.declared.finding.Finding.TheVariants.{Settled, Open}
-use Rattle.set_catalog.specs.declared.outcome.Outcome.{Outcome}
-use Rattle.set_catalog.specs.declared.outcome.Outcome.TheVariants.{Settled as Answered, Open as Changing}
+use Rattle.set_catalog.specs.declared.outcome.PlanOutcome.{PlanOutcome}
+use Rattle.set_catalog.specs.declared.outcome.PlanOutcome.TheVariants.{Settled as Answered, Open as Changing}
 use Rattle.set_catalog.specs.declared.plan.Gone.{Gone}
-use Rattle.tree_balance.specs.declared.plan.Plan.{Plan}
+use Rattle.tree_balance.specs.declared.plan.WritePlan.{WritePlan}
 
 -- These are exactly the objects that the command locks in this state, with what it writes, where an add to a tree may lock so many beside
 -- its own four: different ones, fit to be committed, and a del leaves these vacant.
@@ -47,7 +47,7 @@ abbrev pub IsFound : Command → State → Finding → Type 0
 IsFound command s finding = IsFoundWithin 0 command s finding
 
 -- what was found, with what is planned for it
-abbrev pub with_plan : Outcome → Plan → Finding
+abbrev pub with_plan : PlanOutcome → WritePlan → Finding
 with_plan (Answered answer) plan = Settled answer
 with_plan (Changing gone) plan = Open plan gone
 

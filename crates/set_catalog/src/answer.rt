@@ -4,7 +4,7 @@ use set_script::Reply;
 
 /// What an attempt of a command answers.
 #[derive(Clone, Copy, Debug, PartialEq, Eq)]
-pub enum Attempt {
+pub enum CommandAttempt {
     /// The command took place there, with this reply.
     Done { reply: Reply, place: Place },
     /// The change that the command makes was given up. In a new attempt it may go through.

@@ -7,20 +7,20 @@ ghost use Rattle.set_catalog.specs.Shortages.{IsKnown};
 ghost use Rattle.set_catalog.specs.Steps.{most_locks, most_beside};
 ghost use Rattle.set_catalog.specs.Attempts.{Attempted, HintsAfter, as_work};
 
-use crate::answer::Attempt;
+use crate::answer::CommandAttempt;
 use crate::command_work::CommandWork;
 use crate::hints::Hints;
 use crate::memo::Memo;
 use crate::shortage::Shortage;
 use list_set::Fingers;
 use mv_history::Store;
-use section_work::{Attempt as Tried, attempt_work};
+use section_work::{Attempt, attempt_work};
 use set_script::{Command, SetRules};
 use std::mem::replace;
-use tree_balance::Plan;
+use tree_balance::WritePlan;
 
 /// Attempts a command, as [`attempt_with`] does with no hints.
-pub fn attempt<S: Store<Rules = SetRules>>(store: S, command: &Command) -> (S, Attempt)
+pub fn attempt<S: Store<Rules = SetRules>>(store: S, command: &Command) -> (S, CommandAttempt)
     requires most { most_locks ≤ (S.seat_of store).write_max }
     ensures attempted { let shows = causes S.Open.may_refuse S.Open.has_trail S.took S.holds_back S.Open.found_held S.Open.loaded in
         Attempted shows (S.seat_of store) (S.seat_of result.0) command.now result.1 }
@@ -62,7 +62,7 @@ pub fn attempt_with<S: Store<Rules = SetRules>>(
     store: S,
     hints: &mut Hints,
     command: &Command,
-) -> (S, Attempt)
+) -> (S, CommandAttempt)
     requires most { most_locks ≤ (S.seat_of store).write_max }
     ensures attempted { let shows = causes S.Open.may_refuse S.Open.has_trail S.took S.holds_back S.Open.found_held S.Open.loaded in
         Attempted shows (S.seat_of store) (S.seat_of result.0) command.now result.1 }
@@ -75,7 +75,7 @@ pub fn attempt_with<S: Store<Rules = SetRules>>(
         hints: replace(hints, Hints::none()),
         fingers: Fingers::none(),
         known: Shortage::unknown(),
-        plan: Plan::nothing(),
+        plan: WritePlan::nothing(),
     };
     let (store, answer) = attempt_knowing(store, &mut memo, command);
     *hints = memo.hints;
@@ -87,7 +87,7 @@ pub(crate) fn attempt_knowing<S: Store<Rules = SetRules>>(
     store: S,
     memo: &mut Memo,
     command: &Command,
-) -> (S, Attempt)
+) -> (S, CommandAttempt)
     requires most { most_locks ≤ (S.seat_of store).write_max }
     requires known { IsKnown (S.seat_of store) memo.old.known }
     ensures attempted { let shows = causes S.Open.may_refuse S.Open.has_trail S.took S.holds_back S.Open.found_held S.Open.loaded in
@@ -105,15 +105,15 @@ pub(crate) fn attempt_knowing<S: Store<Rules = SetRules>>(
     };
     let (store, tried) = attempt_work(store, &work, memo);
     match tried {
-        Tried::Done {
+        Attempt::Done {
             reply: answer,
             place,
         } => {
             memo.note(command, answer.gone, place);
             let reply = answer.reply;
-            (store, Attempt::Done { reply, place })
+            (store, CommandAttempt::Done { reply, place })
         }
-        Tried::Again(cause) => (store, Attempt::Again(cause)),
+        Attempt::Again(cause) => (store, CommandAttempt::Again(cause)),
     }
 }
 

@@ -4,7 +4,7 @@ ghost use Rattle.set_script.specs.Tags.{tag_of as command_tag};
 
 use crate::finding::{answer, find_change};
 use crate::memo::Memo;
-use crate::outcome::Outcome;
+use crate::outcome::PlanOutcome;
 use crate::plan::Gone;
 use crate::shortage::Shortage;
 use mv_history::{Tag, View, Words};
@@ -20,7 +20,7 @@ pub struct CommandWork {
 
 // What it answers: the command's reply, and the objects that its commit leaves vacant.
 #[derive(Drop)]
-pub struct Answer {
+pub struct CommandAnswer {
     pub reply: Reply,
     pub gone: Gone,
 }
@@ -36,7 +36,7 @@ impl Work for CommandWork {
 
     type Rules = SetRules;
 
-    type Reply = Answer;
+    type Reply = CommandAnswer;
 
     // What is planned stands in the memo, so that a command moves and clears none of it.
     type Plan = ();
@@ -57,10 +57,15 @@ impl Work for CommandWork {
 
     // Inlined, so that the view isn't copied on its way in and out.
     #[inline(always)]
-    fn decide<V: View>(&self, memo: &mut Memo, view: V, time: u64) -> (V, Decision<Answer, ()>) {
+    fn decide<V: View>(
+        &self,
+        memo: &mut Memo,
+        view: V,
+        time: u64,
+    ) -> (V, Decision<CommandAnswer, ()>) {
         let mut view = view;
         if let Some(reply) = answer(&mut view, &mut memo.fingers, &self.command) {
-            return (view, Decision::Settled(Answer::of(reply)));
+            return (view, Decision::Settled(CommandAnswer::of(reply)));
         }
         let mut few = memo.known.at(time);
         memo.plan.clear();
@@ -75,9 +80,9 @@ impl Work for CommandWork {
         );
         memo.known = Shortage { time, few };
         match outcome {
-            Outcome::Settled(reply) => (view, Decision::Settled(Answer::of(reply))),
-            Outcome::Open(gone) => {
-                let reply = Answer {
+            PlanOutcome::Settled(reply) => (view, Decision::Settled(CommandAnswer::of(reply))),
+            PlanOutcome::Open(gone) => {
+                let reply = CommandAnswer {
                     reply: Reply::Yes,
                     gone,
                 };
@@ -94,8 +99,8 @@ impl Work for CommandWork {
         tag(&self.command)
     }
 
-    fn at_last(&self, _reply: Answer) -> Answer {
-        Answer::of(Reply::Worn)
+    fn at_last(&self, _reply: CommandAnswer) -> CommandAnswer {
+        CommandAnswer::of(Reply::Worn)
     }
 
     ghost knows_on = { λ memo s t on known. known_later memo.known on known };
@@ -103,12 +108,12 @@ impl Work for CommandWork {
     ghost makes = { λ w s before tag ws answer accepts plan drifts allowed. makes_command w.most w.command s before tag ws answer plan allowed };
 }
 
-impl Answer {
+impl CommandAnswer {
     // This reply, of no commit.
-    fn of(reply: Reply) -> Answer
+    fn of(reply: Reply) -> CommandAnswer
         ensures reply { result.reply ≡ reply }
     {
-        Answer {
+        CommandAnswer {
             reply,
             gone: Gone::nothing(),
         }

@@ -15,7 +15,7 @@ use crate::plan::Gone;
 use list_set::{Fingers, Spot};
 use mv_history::View;
 use set_script::Name;
-use tree_balance::{Plan, find_way, plan_add};
+use tree_balance::{WritePlan, find_way, plan_add};
 use tree_set::{Fork, plant_writes};
 
 /// Where the search for a key ended: all that a command needs to know of its set.
@@ -106,7 +106,7 @@ impl End {
     }
 
     // Plans an add of the key, which is not there, with this value, in these vacant nodes.
-    pub(crate) fn add(&self, plan: &mut Plan, key: u32, value: u64, picked: Picked)
+    pub(crate) fn add(&self, plan: &mut WritePlan, key: u32, value: u64, picked: Picked)
         requires head { HasHead self.now }
         requires room { length (writes_in plan.old) + count_unheld (writes_in plan.old) (objects_added picked.first picked.second self.now) ≤ 16 }
         ensures writes { Wherever self.now key (λ s name. PlansMore plan.old plan.new (adds_at s key value picked.first picked.second self.now)) }
@@ -125,7 +125,7 @@ impl End {
     // tree that has keys steps follow by which it stays short, within `most` objects beside the add's own, if that isn't 0.
     pub(crate) fn plan_new<V: View>(
         &self,
-        plan: &mut Plan,
+        plan: &mut WritePlan,
         view: &mut V,
         name: Name,
         key: u32,
@@ -170,7 +170,7 @@ impl End {
     }
 
     // Plans a del of the key, which is there, and answers what it leaves vacant.
-    pub(crate) fn del(&self, plan: &mut Plan) -> Gone
+    pub(crate) fn del(&self, plan: &mut WritePlan) -> Gone
         requires none { plan.old.count ≡ 0 }
         ensures writes { (key : ℕ) → Present self.now key (λ s. PlansMore plan.old plan.new (dels_at s self.now)) }
         ensures node { result.node ≡ node_gone self.now }
@@ -202,7 +202,7 @@ impl End {
     }
 
     // Plans a put of another value for the key, which is there.
-    pub(crate) fn put(&self, plan: &mut Plan, value: u64)
+    pub(crate) fn put(&self, plan: &mut WritePlan, value: u64)
         requires none { plan.old.count ≡ 0 }
         ensures writes { (key : ℕ) → Present self.now key (λ s. PlansMore plan.old plan.new (puts_at s value self.now)) }
     {

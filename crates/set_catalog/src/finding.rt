@@ -15,14 +15,14 @@ ghost use Rattle.set_catalog.specs.declared.finding.Finding.TheVariants.{Settled
 
 use crate::ends::{End, search_near};
 use crate::hints::Hints;
-use crate::outcome::Outcome;
+use crate::outcome::PlanOutcome;
 use crate::picks::{Picked, pick};
 use crate::plan::Gone;
 use crate::sets::{has, next, size, value};
 use list_set::Fingers;
 use mv_history::View;
 use set_script::{Command, Name, Reply};
-use tree_balance::Plan;
+use tree_balance::WritePlan;
 
 /// What a command comes to.
 #[derive(Drop)]
@@ -30,7 +30,7 @@ pub enum Finding {
     /// It changes nothing, and this is its reply.
     Settled(Reply),
     /// It changes something by these writes, and a del leaves these objects vacant.
-    Open { plan: Plan, gone: Gone },
+    Open { plan: WritePlan, gone: Gone },
 }
 
 impl Finding {
@@ -63,20 +63,20 @@ pub fn find_plan<V: View>(
     ensures untouched { wanted command.now (catalogue_of (V.state view.old)) ≡ 0 → hints.new ≡ hints.old }
     ensures as_before { V.as_before view.old view.new }
 {
-    let mut plan = Plan::nothing();
+    let mut plan = WritePlan::nothing();
     find_plan_near(&mut plan, view, hints, &mut Fingers::none(), few, command).with(plan)
 }
 
 /// Finds what the command comes to, as `find_plan` does, by searches that begin at fingers, and plans its writes in a plan of the
 /// caller's, whatever that has.
 pub fn find_plan_near<V: View>(
-    plan: &mut Plan,
+    plan: &mut WritePlan,
     view: &mut V,
     hints: &mut Hints,
     fingers: &mut Fingers,
     few: &mut u32,
     command: &Command,
-) -> Outcome
+) -> PlanOutcome
     requires lawful { IsLawful (V.state view.old) }
     requires few { vacant_nodes (V.state view.old) < few.old }
     ensures found { IsFound command.now (V.state view.old) (with_plan result plan.new) }
@@ -86,7 +86,7 @@ pub fn find_plan_near<V: View>(
     ensures as_before { V.as_before view.old view.new }
 {
     match answer(view, fingers, command) {
-        Some(reply) => Outcome::Settled(reply),
+        Some(reply) => PlanOutcome::Settled(reply),
         None => {
             plan.clear();
             find_change(plan, view, hints, fingers, few, command, 0)
@@ -123,14 +123,14 @@ pub(crate) fn answer<V: View>(
 // isn't 0.
 #[inline(never)]
 pub(crate) fn find_change<V: View>(
-    plan: &mut Plan,
+    plan: &mut WritePlan,
     view: &mut V,
     hints: &mut Hints,
     fingers: &mut Fingers,
     few: &mut u32,
     command: &Command,
     most: u32,
-) -> Outcome
+) -> PlanOutcome
     requires none { plan.old.count ≡ 0 }
     requires changes { may_change command.now ≡ true }
     requires lawful { IsLawful (V.state view.old) }
@@ -221,7 +221,7 @@ fn yes_or_no(holds: bool) -> Reply
 }
 
 fn find_add<V: View>(
-    plan: &mut Plan,
+    plan: &mut WritePlan,
     view: &mut V,
     hints: &mut Hints,
     fingers: &mut Fingers,
@@ -229,7 +229,7 @@ fn find_add<V: View>(
     name: Name,
     key: u32,
     most: u32,
-) -> Outcome
+) -> PlanOutcome
     requires none { plan.old.count ≡ 0 }
     requires lawful { IsLawful (V.state view.old) }
     requires few { vacant_nodes (V.state view.old) < few.old }
@@ -242,13 +242,13 @@ fn find_add<V: View>(
 {
     let end = search_near(view, fingers, name, key);
     if end.has(key) {
-        return Outcome::Settled(Reply::No);
+        return PlanOutcome::Settled(Reply::No);
     }
     find_new(plan, view, hints, few, &end, name, key, 0, most)
 }
 
 fn find_put<V: View>(
-    plan: &mut Plan,
+    plan: &mut WritePlan,
     view: &mut V,
     hints: &mut Hints,
     fingers: &mut Fingers,
@@ -257,7 +257,7 @@ fn find_put<V: View>(
     key: u32,
     value: u64,
     most: u32,
-) -> Outcome
+) -> PlanOutcome
     requires none { plan.old.count ≡ 0 }
     requires lawful { IsLawful (V.state view.old) }
     requires few { vacant_nodes (V.state view.old) < few.old }
@@ -271,17 +271,17 @@ fn find_put<V: View>(
     let end = search_near(view, fingers, name, key);
     match end.value(key) {
         None => find_new(plan, view, hints, few, &end, name, key, value, most),
-        Some(old) if old == value => Outcome::Settled(Reply::No),
+        Some(old) if old == value => PlanOutcome::Settled(Reply::No),
         Some(_) => {
             end.put(plan, value);
-            Outcome::Open(Gone::nothing())
+            PlanOutcome::Open(Gone::nothing())
         }
     }
 }
 
 // What the add or the put of a key comes to that is not there, by where the search for it ended.
 fn find_new<V: View>(
-    plan: &mut Plan,
+    plan: &mut WritePlan,
     view: &mut V,
     hints: &mut Hints,
     few: &mut u32,
@@ -290,7 +290,7 @@ fn find_new<V: View>(
     key: u32,
     value: u64,
     most: u32,
-) -> Outcome
+) -> PlanOutcome
     requires none { plan.old.count ≡ 0 }
     requires lawful { IsLawful (V.state view.old) }
     requires few { vacant_nodes (V.state view.old) < few.old }
@@ -305,21 +305,21 @@ fn find_new<V: View>(
     ensures as_before { V.as_before view.old view.new }
 {
     match vacant_for(view, hints, few, end.takes()) {
-        None => Outcome::Settled(Reply::Full),
+        None => PlanOutcome::Settled(Reply::Full),
         Some(picked) => {
             end.plan_new(plan, view, name, key, value, picked, most);
-            Outcome::Open(Gone::nothing())
+            PlanOutcome::Open(Gone::nothing())
         }
     }
 }
 
 fn find_del<V: View>(
-    plan: &mut Plan,
+    plan: &mut WritePlan,
     view: &mut V,
     fingers: &mut Fingers,
     name: Name,
     key: u32,
-) -> Outcome
+) -> PlanOutcome
     requires none { plan.old.count ≡ 0 }
     requires lawful { IsLawful (V.state view.old) }
     ensures found { IsFound (Del name key) (V.state view.old) (with_plan result plan.new) }
@@ -327,15 +327,15 @@ fn find_del<V: View>(
 {
     let end = search_near(view, fingers, name, key);
     if !end.has(key) {
-        return Outcome::Settled(Reply::No);
+        return PlanOutcome::Settled(Reply::No);
     }
-    Outcome::Open(end.del(plan))
+    PlanOutcome::Open(end.del(plan))
 }
 
 // The add of a move takes the objects that its del leaves vacant before others. The del writes none
 // that the search in the target read.
 fn find_move<V: View>(
-    plan: &mut Plan,
+    plan: &mut WritePlan,
     view: &mut V,
     hints: &mut Hints,
     fingers: &mut Fingers,
@@ -343,7 +343,7 @@ fn find_move<V: View>(
     source: Name,
     target: Name,
     key: u32,
-) -> Outcome
+) -> PlanOutcome
     requires none { plan.old.count ≡ 0 }
     requires lawful { IsLawful (V.state view.old) }
     requires few { vacant_nodes (V.state view.old) < few.old }
@@ -355,19 +355,19 @@ fn find_move<V: View>(
 {
     let from = search_near(view, fingers, source, key);
     let Some(value) = from.value(key) else {
-        return Outcome::Settled(Reply::No);
+        return PlanOutcome::Settled(Reply::No);
     };
     let to = search_near(view, fingers, target, key);
     if to.has(key) {
-        return Outcome::Settled(Reply::No);
+        return PlanOutcome::Settled(Reply::No);
     }
     let gone = from.del(plan);
     let Some(picked) = vacant_for(view, hints, few, gone.still_wanted(to.takes())) else {
-        return Outcome::Settled(Reply::Full);
+        return PlanOutcome::Settled(Reply::Full);
     };
     let picked = gone.before(picked);
     to.add(plan, key, value, picked);
-    Outcome::Open(Gone::nothing())
+    PlanOutcome::Open(Gone::nothing())
 }
 
 // So many vacant objects, 2 at most. Where fewer are known to be vacant, it doesn't look.

@@ -1,7 +1,7 @@
 // A store of the sets with its hints.
 ghost use Rattle.std.specs.Prelude.{◌≡◌, ◌≤◌};
 
-use crate::answer::Attempt;
+use crate::answer::CommandAttempt;
 use crate::attempting::attempt_knowing;
 use crate::memo::Memo;
 use mv_history::Store;
@@ -58,7 +58,7 @@ impl<S: Store<Rules = SetRules>> HintedStore<S> {
     ///
     /// Where fewer nodes are known to be vacant at the section's time than the command wants, it reads
     /// no node to find that out again.
-    pub fn attempt(self, command: &Command) -> (HintedStore<S>, Attempt)
+    pub fn attempt(self, command: &Command) -> (HintedStore<S>, CommandAttempt)
         requires most { most_locks ≤ (S.seat_of self.store).write_max }
         ensures attempted { let shows = causes S.Open.may_refuse S.Open.has_trail S.took S.holds_back S.Open.found_held S.Open.loaded in
             Attempted shows (S.seat_of self.store) (S.seat_of result.0.store) command.now result.1 }

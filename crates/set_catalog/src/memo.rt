@@ -8,7 +8,7 @@ use list_set::Fingers;
 use section_work::Place;
 use set_script::Command;
 use std::alloc::{AllocError, Global};
-use tree_balance::Plan;
+use tree_balance::WritePlan;
 
 /// What is remembered of a store from one of its sections to the next. No answer depends on it.
 #[derive(Drop)]
@@ -20,7 +20,7 @@ pub struct Memo {
     /// How few nodes are vacant at a time of the store.
     pub known: Shortage,
     /// What the last look planned, so that each look uses its memory again.
-    pub plan: Plan,
+    pub plan: WritePlan,
 }
 
 impl Memo {
@@ -47,7 +47,7 @@ impl Memo {
             hints,
             fingers,
             known: Shortage::unknown(),
-            plan: Plan::nothing(),
+            plan: WritePlan::nothing(),
         }
     }
 

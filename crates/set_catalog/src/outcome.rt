@@ -5,25 +5,25 @@ ghost use Rattle.set_catalog.specs.Findings.{with_plan};
 use crate::finding::Finding;
 use crate::plan::Gone;
 use set_script::Reply;
-use tree_balance::Plan;
+use tree_balance::WritePlan;
 
 /// What a command comes to whose writes are planned in a plan of the caller's.
 #[derive(Clone, Copy, Drop)]
-pub enum Outcome {
+pub enum PlanOutcome {
     /// It changes nothing, and this is its reply.
     Settled(Reply),
     /// It changes something by the planned writes, and a del leaves these objects vacant.
     Open(Gone),
 }
 
-impl Outcome {
+impl PlanOutcome {
     // The same, with what was planned.
-    pub(crate) fn with(self, plan: Plan) -> Finding
+    pub(crate) fn with(self, plan: WritePlan) -> Finding
         ensures { result ≡ with_plan self plan }
     {
         match self {
-            Outcome::Settled(reply) => Finding::Settled(reply),
-            Outcome::Open(gone) => Finding::Open { plan, gone },
+            PlanOutcome::Settled(reply) => Finding::Settled(reply),
+            PlanOutcome::Open(gone) => Finding::Open { plan, gone },
         }
     }
 }

@@ -11,7 +11,7 @@ use Rattle.set_script.specs.declared.commands.Reply.{Reply}
 use Rattle.set_script.specs.declared.commands.Reply.TheVariants.{Yes, Worn}
 use Rattle.set_catalog.specs.CommandLaws.{tag_stands}
 use Rattle.set_catalog.specs.Findings.{IsPlanned as IsPlannedFor}
-use Rattle.set_catalog.specs.Merges.{Plan, writes_in}
+use Rattle.set_catalog.specs.Merges.{WritePlan, writes_in}
 use Rattle.set_catalog.specs.Replies.{reply_in, changes_in}
 use Rattle.set_catalog.specs.declared.plan.Gone.{Gone}
 use Rattle.set_catalog.proofs.Deciding.{settled_any, worn_at_last, unchanging_at_last}
@@ -64,7 +64,7 @@ module _ (command : Command) (s : State) where
       subst (λ u. BlockPlan s (command ∷ []) u (Yes ∷ []) true) (merged-none ws p.distinct)
       (one_more [] [] [] false command ws Yes true nothing_yet (makes_here ws gone p).in_range (changing ws c p.plan))
 
-  pub change_one : (plan : Plan) (gone : Gone) → IsLawful s → changes_in command s false ≡ true → IsPlannedFor command s (writes_in plan) gone
+  pub change_one : (plan : WritePlan) (gone : Gone) → IsLawful s → changes_in command s false ≡ true → IsPlannedFor command s (writes_in plan) gone
       → (block_changes_in (command ∷ []) s false ≡ true)
       × IsPlanned IsBlockCommit (block_meaning (command ∷ [])) s (block_tag 1) (writes_in plan) (Yes ∷ [])
   change_one plan gone l c p =

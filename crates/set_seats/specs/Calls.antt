@@ -19,10 +19,10 @@ use Rattle.set_blocks.specs.declared.attempt.BlockAttempt.{BlockAttempt}
 use Rattle.set_blocks.specs.declared.attempt.BlockAttempt.TheVariants.{Done as BlockDone, Again as BlockAgain}
 use Rattle.set_blocks.specs.declared.rules.BlockRules.{BlockRules}
 use Rattle.set_catalog.specs.Replies.{reply_in, changes_in}
-use Rattle.set_catalog.specs.declared.answer.Attempt.{Attempt}
-use Rattle.set_catalog.specs.declared.answer.Attempt.TheVariants.{Done, Again}
+use Rattle.set_catalog.specs.declared.answer.CommandAttempt.{CommandAttempt}
+use Rattle.set_catalog.specs.declared.answer.CommandAttempt.TheVariants.{Done, Again}
 use Rattle.set_seats.specs.Walks.{IsWalk}
-use Rattle.set_seats.specs.declared.walk.Entry.{Entry}
+use Rattle.set_seats.specs.declared.walk.KeyValue.{KeyValue}
 use Rattle.set_seats.specs.declared.walk.Walked.{Walked}
 
 -- what the causes of answers mean in a domain of the sets, all of which its steps show
@@ -30,7 +30,7 @@ abbrev pub domain_causes : Causes
 domain_causes = causes ⊤ ⊤ Took (HoldsSeat IsOpening IsBlockCommit) FoundLocked Loaded
 
 -- the answer of a command, as that of the block of one
-abbrev pub as_block : Attempt → BlockAttempt
+abbrev pub as_block : CommandAttempt → BlockAttempt
 as_block (Done answer place) = BlockDone (answer ∷ []) place
 as_block (Again cause) = BlockAgain cause
 
@@ -39,12 +39,12 @@ abbrev pub AttemptedBlock : Seat → Seat → List Command → BlockAttempt → 
 AttemptedBlock old new commands answer = BlockAttempted domain_causes old new commands answer
 
 -- an attempt of a command, which is the block of one
-abbrev pub Attempted : Seat → Seat → Command → Attempt → Type 0
+abbrev pub Attempted : Seat → Seat → Command → CommandAttempt → Type 0
 Attempted old new command answer = AttemptedBlock old new (command ∷ []) (as_block answer)
 
 -- The reply of a command is the catalogue's: just before its commit, which it changes there, or at the time that it read, where
 -- it changes nothing.
-abbrev pub Replied : Seat → Command → Attempt → Type 0
+abbrev pub Replied : Seat → Command → CommandAttempt → Type 0
 Replied new command (Done answer (AtCommit time)) =
     (answer ≡ reply_in command (state_of_time new (time - 1)) false) × (changes_in command (state_of_time new (time - 1)) false ≡ true)
 Replied new command (Done answer (Read time)) =
@@ -52,7 +52,7 @@ Replied new command (Done answer (Read time)) =
 Replied new command (Again cause) = ⊤
 
 -- a walk over the set of a name from a key on
-abbrev pub WalksOver : ℕ → ℕ → List Entry → List Entry → Seat → Seat → Walked → Type 0
+abbrev pub WalksOver : ℕ → ℕ → List KeyValue → List KeyValue → Seat → Seat → Walked → Type 0
 WalksOver name from before after old new walked = IsWalk domain_causes name from before after old new walked
 
 -- what a call leaves of the seat's place in its domain

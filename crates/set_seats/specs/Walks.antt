@@ -8,7 +8,7 @@ use Rattle.section_work.specs.Causes.{Causes}
 use Rattle.section_work.specs.Works.{Meaning}
 use Rattle.set_script.specs.Catalogue.{Map, map_of}
 use Rattle.set_script.specs.CatalogueOf.{catalogue_of}
-use Rattle.set_seats.specs.declared.walk.Entry.{Entry}
+use Rattle.set_seats.specs.declared.walk.KeyValue.{KeyValue}
 use Rattle.set_seats.specs.declared.walk.Walked.{Walked}
 
 -- the entries of a map whose key is not below this one; its keys rise
@@ -21,11 +21,11 @@ abbrev pub entries_in : State → ℕ → ℕ → Map
 entries_in s name from = entries_from from (map_of name (catalogue_of s))
 
 -- a key with its value, as an entry
-abbrev pub as_entry : ℕ × ℕ → Entry
+abbrev pub as_entry : ℕ × ℕ → KeyValue
 as_entry e = record { key = e.0; value = e.1 }
 
 -- the first of some entries, or none
-abbrev pub first_entry : Map → Option Entry
+abbrev pub first_entry : Map → Option KeyValue
 first_entry [] = None
 first_entry (e ∷ m) = Some (as_entry e)
 
@@ -36,13 +36,13 @@ first_key (e ∷ m) = Some e.0
 
 -- These entries were written into the room, in their order: all of them, or as many as there was room for. What is left of the room is as
 -- before, and the first entry for which there was none is told.
-pub record Writes (m : Map) (before after : List Entry) (wrote : ℕ) (left : Option ℕ) : Type 0 where
+pub record Writes (m : Map) (before after : List KeyValue) (wrote : ℕ) (left : Option ℕ) : Type 0 where
   pub written : after ≡ map as_entry (take (length before) m) ++ drop (length m) before
   pub count : wrote ≡ min (length before) (length m)
   pub more : left ≡ first_key (drop (length before) m)
 
 -- a walk as a work: it changes nothing, and writes the entries of the state
-abbrev pub walk_meaning : ℕ → ℕ → List Entry → List Entry → Meaning Walked
+abbrev pub walk_meaning : ℕ → ℕ → List KeyValue → List KeyValue → Meaning Walked
 walk_meaning name from before after = record {
   most = 0;
   changes = λ s. ⊥;
@@ -53,7 +53,7 @@ walk_meaning name from before after = record {
 
 -- A walk over the set of a name from a key on: it wrote the entries of the state of the told time, which is that of a section that the call
 -- entered. No commit and no rest was made, and none was tried.
-pub record IsWalk (k : Causes) (name from : ℕ) (before after : List Entry) (old new : Seat) (w : Walked) : Type 0 where
+pub record IsWalk (k : Causes) (name from : ℕ) (before after : List KeyValue) (old new : Seat) (w : Walked) : Type 0 where
   pub read : IsReadAt k (walk_meaning name from before after) old new w w.time
   pub rests : new.rests ≡ old.rests
   pub none : NamesNoCommit old new

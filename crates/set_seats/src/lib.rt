@@ -30,4 +30,4 @@ mod walk;
 
 pub use opening::{OpenSets, SetsFault, open_set_seats};
 pub use seat::SetSeat;
-pub use walk::{Entry, Walked};
+pub use walk::{KeyValue, Walked};

@@ -7,13 +7,13 @@ ghost use Rattle.set_catalog.specs.Shortages.{IsKnown};
 ghost use Rattle.set_seats.specs.Calls.{Attempted, AttemptedBlock, Tidies, Counts, WalksOver};
 
 use crate::single::{Remembered, Single};
-use crate::walk::{Entry, Walked, walk_in};
+use crate::walk::{KeyValue, Walked, walk_in};
 use log_reclaim::Tidy;
 use mv_history::LogTable;
 use mvrlu::{Domain, Seat};
-use section_work::{Attempt as Tried, attempt_work};
+use section_work::{Attempt, attempt_work};
 use set_blocks::{Block, BlockAttempt, BlockRules, attempt_block};
-use set_catalog::Attempt;
+use set_catalog::CommandAttempt;
 use set_script::{Command, Name};
 
 // Attempts a command on a seat of the domain.
@@ -23,7 +23,7 @@ pub(crate) fn attempt_in(
     seat: Seat<BlockRules>,
     remembered: &mut Remembered,
     command: &Command,
-) -> (Seat<BlockRules>, Attempt)
+) -> (Seat<BlockRules>, CommandAttempt)
     requires of { IsSeatOf domain.now seat }
     requires room { 40 ≤ (seat_of seat).write_max }
     requires known { IsKnown (seat_of seat) remembered.old.memo.known }
@@ -38,15 +38,15 @@ pub(crate) fn attempt_in(
     let (handle, tried) = attempt_work(domain.handle(seat), &work, remembered);
     let seat = handle.into_seat();
     match tried {
-        Tried::Done {
+        Attempt::Done {
             reply: answer,
             place,
         } => {
             remembered.note(place);
             let reply = answer.get();
-            (seat, Attempt::Done { reply, place })
+            (seat, CommandAttempt::Done { reply, place })
         }
-        Tried::Again(cause) => (seat, Attempt::Again(cause)),
+        Attempt::Again(cause) => (seat, CommandAttempt::Again(cause)),
     }
 }
 
@@ -79,7 +79,7 @@ pub(crate) fn walk_on(
     remembered: &mut Remembered,
     name: Name,
     from: u32,
-    entries: &mut [Entry],
+    entries: &mut [KeyValue],
 ) -> (Seat<BlockRules>, Walked)
     requires of { IsSeatOf domain.now seat }
     requires room { 40 ≤ (seat_of seat).write_max }

@@ -10,12 +10,12 @@ ghost use Rattle.set_seats.specs.Calls as calls;
 
 use crate::outside::{attempt_block_in, attempt_in, count_in, tidy_in, walk_on};
 use crate::single::Remembered;
-use crate::walk::{Entry, Walked};
+use crate::walk::{KeyValue, Walked};
 use log_reclaim::Tidy;
 use mv_history::LogTable;
 use mvrlu::Seat;
 use set_blocks::{Block, BlockAttempt, BlockRules};
-use set_catalog::Attempt;
+use set_catalog::CommandAttempt;
 use set_script::{Command, Name};
 use shared_domain::{Closed, Share};
 
@@ -43,7 +43,7 @@ impl SetSeat {
     /// memory. It answers what `set_blocks::attempt_block` answers of that block: its one reply where it took place, and
     /// the cause where its change was given up, which may go through in a new attempt.
     #[inline(always)]
-    pub fn attempt(self, command: &Command) -> (SetSeat, Attempt)
+    pub fn attempt(self, command: &Command) -> (SetSeat, CommandAttempt)
         ensures attempted { calls.Attempted (seat_of self.seat) (seat_of result.0.seat) command.now result.1 }
         ensures replied { calls.Replied (seat_of result.0.seat) command.now result.1 }
         ensures continues { calls.GoesOn self.seat result.0.seat }
@@ -88,7 +88,7 @@ impl SetSeat {
     /// order, as many as there are or as there is room for, and leaves the rest of the room as it was. All of them are of
     /// one state, whose time it tells, with the key to go on from in a further walk, which is of a later state. It makes
     /// no commit, locks nothing, never waits or tries again, and takes no memory.
-    pub fn walk(self, name: Name, from: u32, entries: &mut [Entry]) -> (SetSeat, Walked)
+    pub fn walk(self, name: Name, from: u32, entries: &mut [KeyValue]) -> (SetSeat, Walked)
         ensures walked { calls.WalksOver name from entries.old entries.new (seat_of self.seat) (seat_of result.0.seat) result.1 }
         ensures continues { calls.GoesOn self.seat result.0.seat }
     {

@@ -4,7 +4,7 @@ ghost use Rattle.std.specs.Prelude.{◌≡◌, ◌+◌, [], ◌∷◌};
 use mv_history::{Tag, View, Words};
 use section_work::{Decision, Place, Work};
 use set_blocks::BlockRules;
-use set_catalog::{Gone, Hints, Memo, Outcome, Shortage, find_plan_near};
+use set_catalog::{Gone, Hints, Memo, PlanOutcome, Shortage, find_plan_near};
 use set_script::{Command, Reply};
 use std::marker::Model;
 
@@ -119,8 +119,8 @@ impl Work for Single {
         );
         remembered.memo.known = Shortage { time, few };
         match found {
-            Outcome::Settled(reply) => (view, Decision::Settled(OneReply { reply })),
-            Outcome::Open(gone) => {
+            PlanOutcome::Settled(reply) => (view, Decision::Settled(OneReply { reply })),
+            PlanOutcome::Open(gone) => {
                 remembered.gone = gone;
                 let reply = OneReply { reply: Reply::Yes };
                 (view, Decision::Change { plan: (), reply })

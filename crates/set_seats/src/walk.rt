@@ -12,13 +12,13 @@ ghost use Rattle.set_seats.specs.Walks.{IsWalk, Writes, entries_from, entries_in
 
 use mv_history::{Section, Store, View};
 use set_blocks::BlockRules;
-use set_catalog::{Memo, Outcome, Shortage, find_plan_near};
+use set_catalog::{Memo, PlanOutcome, Shortage, find_plan_near};
 use set_script::{Command, Name, Reply};
 
 /// A key of a set, with its value.
 #[repr(C)]
 #[derive(Clone, Copy, Debug, Drop, PartialEq, Eq)]
-pub struct Entry {
+pub struct KeyValue {
     pub key: u32,
     pub value: u64,
 }
@@ -40,7 +40,7 @@ pub(crate) fn walk_in<S: Store<Rules = BlockRules>>(
     memo: &mut Memo,
     name: Name,
     from: u32,
-    entries: &mut [Entry],
+    entries: &mut [KeyValue],
 ) -> (S, Walked)
     requires known { IsKnown (S.seat_of store) memo.old.known }
     ensures walked { let shows = causes S.Open.may_refuse S.Open.has_trail S.took S.holds_back S.Open.found_held S.Open.loaded in
@@ -61,7 +61,7 @@ fn fill<V: View>(
     memo: &mut Memo,
     name: Name,
     from: u32,
-    entries: &mut [Entry],
+    entries: &mut [KeyValue],
 ) -> (usize, Option<u32>)
     requires lawful { IsLawful (V.state view.old) }
     ensures written { Writes (entries_in (V.state view.old) name from) entries.old entries.new result.0 result.1 }
@@ -82,7 +82,7 @@ fn fill<V: View>(
 }
 
 // The least entry of the set whose key is above this one, or none.
-fn entry_after<V: View>(view: &mut V, memo: &mut Memo, name: Name, key: u32) -> Option<Entry>
+fn entry_after<V: View>(view: &mut V, memo: &mut Memo, name: Name, key: u32) -> Option<KeyValue>
     requires lawful { IsLawful (V.state view.old) }
     ensures entry { result ≡ first_entry (entries_from (key + 1) (map_of name (catalogue_of (V.state view.old)))) }
     ensures known { memo.new.known ≡ memo.old.known }
@@ -95,7 +95,7 @@ fn entry_after<V: View>(view: &mut V, memo: &mut Memo, name: Name, key: u32) -> 
 }
 
 // The least entry of the set whose key is not below this one, or none.
-fn entry_from<V: View>(view: &mut V, memo: &mut Memo, name: Name, key: u32) -> Option<Entry>
+fn entry_from<V: View>(view: &mut V, memo: &mut Memo, name: Name, key: u32) -> Option<KeyValue>
     requires lawful { IsLawful (V.state view.old) }
     ensures entry { result ≡ first_entry (entries_from key (map_of name (catalogue_of (V.state view.old)))) }
     ensures known { memo.new.known ≡ memo.old.known }
@@ -105,7 +105,7 @@ fn entry_from<V: View>(view: &mut V, memo: &mut Memo, name: Name, key: u32) -> O
         return None;
     };
     match ask(view, memo, &Command::Get { name, key }) {
-        Reply::Value { value } => Some(Entry { key, value }),
+        Reply::Value { value } => Some(KeyValue { key, value }),
         _ => unreachable!(),
     }
 }
@@ -128,7 +128,7 @@ fn ask<V: View>(view: &mut V, memo: &mut Memo, command: &Command) -> Reply
         command,
     );
     match found {
-        Outcome::Settled(reply) => reply,
-        Outcome::Open(_) => unreachable!(),
+        PlanOutcome::Settled(reply) => reply,
+        PlanOutcome::Open(_) => unreachable!(),
     }
 }

@@ -2,7 +2,7 @@
 use crate::comparing::{assert_read, assert_row, must};
 use mv_history::{Store, View, Words};
 use section_work::Place;
-use set_catalog::{Attempt, Hints, attempt_with};
+use set_catalog::{CommandAttempt, Hints, attempt_with};
 use set_script::{Command, Name, Reply, SetRules};
 use std::alloc::{AllocError, Global};
 use std::process::Abort;
@@ -76,7 +76,7 @@ pub(crate) fn attempt_hinting<S: Store<Rules = SetRules>>(
     store: S,
     hints: &mut Hints,
     command: &Command,
-) -> (S, Attempt) {
+) -> (S, CommandAttempt) {
     must(rt, store.write_max() >= 5, "a write set of five objects");
     attempt_with(store, hints, command)
 }
@@ -84,13 +84,19 @@ pub(crate) fn attempt_hinting<S: Store<Rules = SetRules>>(
 // Looks that a command was done at this place, with this reply.
 pub(crate) fn expect_attempt(
     rt: &impl Abort,
-    answer: Attempt,
+    answer: CommandAttempt,
     reply: Reply,
     place: Place,
     name: &str,
     row: usize,
 ) {
-    assert_row(rt, &answer, &Attempt::Done { reply, place }, name, row);
+    assert_row(
+        rt,
+        &answer,
+        &CommandAttempt::Done { reply, place },
+        name,
+        row,
+    );
 }
 
 // The commands, in their order.

@@ -6,7 +6,7 @@ use crate::opening::open_sets;
 use mv_history::{Section, Store};
 use section_work::Place;
 use section_work::Place::{Commit, Read};
-use set_catalog::{Attempt, Hints, attempt, read_all};
+use set_catalog::{CommandAttempt, Hints, attempt, read_all};
 use set_script::{Catalogue, Command, Reply, SetRules};
 use std::alloc::{AllocError, Global};
 use std::process::Abort;
@@ -46,7 +46,7 @@ fn attempt_one<S: Store<Rules = SetRules>>(
     rt: &impl Abort,
     store: S,
     command: &Command,
-) -> (S, Attempt) {
+) -> (S, CommandAttempt) {
     must(rt, store.write_max() >= 5, "a write set of five objects");
     attempt(store, command)
 }

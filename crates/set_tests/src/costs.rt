@@ -8,7 +8,7 @@ use crate::opening::open_sets;
 use mv_history::{Section, Store};
 use section_work::Place;
 use section_work::Place::{Commit, Read};
-use set_catalog::{Attempt, HintedStore, Hints, Memo, read_all};
+use set_catalog::{CommandAttempt, HintedStore, Hints, Memo, read_all};
 use set_script::{Catalogue, Command, Reply, SetRules};
 use std::alloc::{AllocError, Global};
 use std::process::Abort;
@@ -31,7 +31,7 @@ fn count_reads<S: Store<Rules = SetRules>>(
     store: S,
     hints: &mut Hints,
     ask: Ask,
-) -> (S, Attempt, u32) {
+) -> (S, CommandAttempt, u32) {
     let counted = Counted {
         view: store,
         reads: 0,
@@ -214,7 +214,7 @@ fn attempt_hinted<S: Store<Rules = SetRules>>(
     rt: &impl Abort,
     store: HintedStore<S>,
     command: &Command,
-) -> (HintedStore<S>, Attempt) {
+) -> (HintedStore<S>, CommandAttempt) {
     let most = store.store().write_max();
     must(rt, most >= 5, "a write set of five objects");
     store.attempt(command)

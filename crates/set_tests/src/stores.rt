@@ -11,7 +11,7 @@ use std::process::Abort;
 use std::test::Fail;
 
 #[derive(Clone, Copy, Debug, PartialEq, Eq)]
-enum Outcome {
+enum CommitEnd {
     Done(u64),
     Refused,
     End,
@@ -29,19 +29,19 @@ fn open(alloc: Global, count: u32, base: u64, room: u32) -> Result<PlainStore<An
 }
 
 // Commits one object, in any store without rules.
-fn commit_one<S: Store<Rules = AnyRules>>(store: S, object: u32, words: Words) -> (S, Outcome)
+fn commit_one<S: Store<Rules = AnyRules>>(store: S, object: u32, words: Words) -> (S, CommitEnd)
     requires in_range { object < length (S.seat_of store).start }
     ensures start { (S.seat_of result.0).start ≡ (S.seat_of store).start }
 {
     let mut section = store.enter();
     let LockAnswer::Held = section.try_lock(object) else {
-        return (section.abort(), Outcome::Refused);
+        return (section.abort(), CommitEnd::Refused);
     };
     section.write(object, words);
     match section.try_commit([1, 2, 3, 4]) {
-        CommitAnswer::Done(store, time) => (store, Outcome::Done(time)),
-        CommitAnswer::Again(section, _) => (section.abort(), Outcome::Refused),
-        CommitAnswer::End(section) => (section.abort(), Outcome::End),
+        CommitAnswer::Done(store, time) => (store, CommitEnd::Done(time)),
+        CommitAnswer::Again(section, _) => (section.abort(), CommitEnd::Refused),
+        CommitAnswer::End(section) => (section.abort(), CommitEnd::End),
     }
 }
 
@@ -50,7 +50,7 @@ fn plain_store_end(rt: HostRuntime) -> Result<(), Fail> {
     let store = open(rt.alloc(), 182, 40, 1)?;
     let (store, first) = commit_one(store, 181, [1, 2, 3, 4, 5, 6]);
     let (store, second) = commit_one(store, 180, [7; 6]);
-    let ended = (Outcome::Done(41), Outcome::End);
+    let ended = (CommitEnd::Done(41), CommitEnd::End);
     assert_same(&rt, &(first, second), &ended, "two commits");
     let states = (store.state(181), store.state(180));
     assert_same(&rt, &states, &([1, 2, 3, 4, 5, 6], [0; 6]), "states");

@@ -4,7 +4,7 @@ ghost use Rattle.mvrlu.specs.Meant.{numbers_of, seat_of, IsSeatOf};
 ghost use Rattle.shared_domain.specs.Tags.{IsTagOf};
 
 use crate::exclusive::Exclusive;
-use crate::place::{LeftSeat, Place};
+use crate::place::{LeftSeat, SeatPlace};
 use counted_slot::{Counted, FREE, PRESENT, TAKEN};
 use mv_history::{Protocol, Store};
 use mvrlu::{Closing, Domain, Seat};
@@ -25,7 +25,7 @@ pub enum Closed<P: Protocol> {
 /// A domain, with a place for each of its seats, and an empty row that has room for all of them.
 pub(crate) struct Gathering<P: Protocol> {
     pub(crate) domain: Domain<P>,
-    pub(crate) places: Vec<Counted<Place<P>>>,
+    pub(crate) places: Vec<Counted<SeatPlace<P>>>,
     pub(crate) row: Exclusive<Vec<Seat<P>>>,
     pub ghost count: { length places.items ≡ (numbers_of domain).seats },
     pub ghost tags: { All (λ tag. IsTagOf domain tag) places.items },
@@ -50,13 +50,13 @@ fn empty_places<P: Protocol>(
     alloc: Global,
     domain: &Domain<P>,
     count: usize,
-) -> Result<Vec<Counted<Place<P>>>, AllocError>
+) -> Result<Vec<Counted<SeatPlace<P>>>, AllocError>
     ensures count { IfOk result (λ places. length places.items ≡ count) }
     ensures tags { IfOk result (λ places. All (λ tag. IsTagOf domain.now tag) places.items) }
 {
     let mut places = Vec::with_capacity(alloc, count)?;
     while places.len() < count {
-        places.push_reserved(Counted::new(Place { left: None }, domain));
+        places.push_reserved(Counted::new(SeatPlace { left: None }, domain));
     }
     Ok(places)
 }
@@ -75,14 +75,14 @@ fn numbered<P: Protocol>(domain: &Domain<P>, seat: Seat<P>) -> (u32, Seat<P>)
 // The seat that stands in the place of this number, if it is the domain's seat of this number.
 fn seat_in<P: Protocol>(
     domain: &Domain<P>,
-    place: Counted<Place<P>>,
+    place: Counted<SeatPlace<P>>,
     number: usize,
 ) -> Option<Seat<P>>
     requires tag { IsTagOf domain.now place }
     ensures own { IfSome result (λ seat. IsSeatOf domain.now seat) }
     ensures number { IfSome result (λ seat. (seat_of seat).number ≡ number) }
 {
-    let Place { left } = place.into_inner();
+    let SeatPlace { left } = place.into_inner();
     let (found, seat) = numbered(domain, left?.into_inner().take());
     if found as usize == number {
         Some(seat)
@@ -95,7 +95,7 @@ fn seat_in<P: Protocol>(
 // The seats that stand in their places, in a row that has room for them: no two of one number.
 fn gathered<P: Protocol>(
     domain: &Domain<P>,
-    mut places: Vec<Counted<Place<P>>>,
+    mut places: Vec<Counted<SeatPlace<P>>>,
     mut row: Vec<Seat<P>>,
 ) -> Vec<Seat<P>>
     requires tags { All (λ tag. IsTagOf domain.now tag) places.items }
@@ -154,7 +154,7 @@ impl<P: Protocol> Gathering<P> {
         let (found, claim) = place.turn(FREE, TAKEN);
         if found == FREE {
             let left = Some(Exclusive::new(LeftSeat { seat }));
-            claim.put(Place { left }, PRESENT);
+            claim.put(SeatPlace { left }, PRESENT);
         } else {
             claim.done();
             seat.let_go();

@@ -31,11 +31,11 @@ impl<P: Protocol> LeftSeat<P> {
 
 /// What stands in a place: a seat of the domain that the place was made for, or none.
 #[derive(Drop)]
-pub(crate) struct Place<P: Protocol> {
+pub(crate) struct SeatPlace<P: Protocol> {
     pub(crate) left: Option<Exclusive<LeftSeat<P>>>,
 }
 
-impl<P: Protocol> Fits for Place<P> {
+impl<P: Protocol> Fits for SeatPlace<P> {
     ghost use Rattle.mvrlu.specs.Meant.{IsSeatOf};
 
     type Tag = Domain<P>;

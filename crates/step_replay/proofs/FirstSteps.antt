@@ -3,12 +3,12 @@ use Rattle.std.proofs.Common.{◌≡◌, ℕ, zero, suc, ◌+◌, ◌-◌, ◌<�
 use Rattle.mv_layout.specs.Words.{clock_time_of}
 use Rattle.mv_core.proofs.Terms.{Config, Clock, Mark, empty_ring, slot_at, set_at}
 use Rattle.mv_core.specs.declared.ring.Slot.TheVariants.{Live}
-use Rattle.mv_core.specs.declared.ring.Status.TheVariants.{Held}
+use Rattle.mv_core.specs.declared.ring.WriteSetStatus.TheVariants.{Held}
 use Rattle.mv_core.specs.declared.view.Phase.{Phase}
 use Rattle.mv_core.specs.declared.view.Phase.TheVariants.{Outside, Lowered, Marked, Inside}
-use Rattle.mv_core.specs.declared.view.Section.{Section}
+use Rattle.mv_core.specs.declared.view.OwnSection.{OwnSection}
 use Rattle.mv_core.specs.declared.view.Mode.TheVariants.{Open}
-use Rattle.mv_core.specs.declared.view.View.{View}
+use Rattle.mv_core.specs.declared.view.Knowledge.{Knowledge}
 use Rattle.mv_core.specs.Views.{low_of}
 use Rattle.mv_core.specs.SeatSteps.{made_one, newly_made}
 use Rattle.mv_core.specs.Moves.{Moment, opening_of}
@@ -20,7 +20,7 @@ use Rattle.step_replay.specs.Machines.{IsNext}
 use Rattle.step_replay.specs.FirstSteps.{low_step, mark_step, time_step, leave_step}
 
 -- a seat that is outside, with no scan and nothing in its log
-abbrev pub IsQuiet : Config → ℕ → View → Type 0
+abbrev pub IsQuiet : Config → ℕ → Knowledge → Type 0
 IsQuiet c n v = (v.number ≡ n) × (v.phase ≡ Outside) × (v.scan ≡ None) × (v.ring ≡ empty_ring c)
 
 quiet_made : (c : Config) (count n : ℕ) → IsQuiet c n ((with_made c count (opening_of c (zeros c))).seats n)
@@ -80,16 +80,16 @@ module _ (machine : Machine) (seat : ℕ) (lt : seat < machine.config.seats) whe
     is_lowered =
         let at = set_at_here (opened c).seats seat _ in
         let q = quiet c seat in
-        (ap (λ (v : View). v.number) at ∙ q.0, ap (λ (v : View). v.phase) at ∙ ap Lowered (sym is), ap (λ (v : View). v.ring) at ∙ q.3)
+        (ap (λ (v : Knowledge). v.number) at ∙ q.0, ap (λ (v : Knowledge). v.phase) at ∙ ap Lowered (sym is), ap (λ (v : Knowledge). v.ring) at ∙ q.3)
 
     is_marked : IsView marked (Marked low)
     unfolding IsView
     is_marked =
         let at = set_at_here lowered.seats seat _ in
         let q = is_lowered in
-        (ap (λ (v : View). v.number) at ∙ q.0, ap (λ (v : View). v.phase) at, ap (λ (v : View). v.ring) at ∙ q.2)
+        (ap (λ (v : Knowledge). v.number) at ∙ q.0, ap (λ (v : Knowledge). v.phase) at, ap (λ (v : Knowledge). v.ring) at ∙ q.2)
 
-    abbrev inside : Section
+    abbrev inside : OwnSection
     inside = record { low = low_of (marked.seats seat).phase; word = marked.memory Clock; mode = Open }
 
     is_timed : IsView timed (Inside inside)
@@ -97,7 +97,7 @@ module _ (machine : Machine) (seat : ℕ) (lt : seat < machine.config.seats) whe
     is_timed =
         let at = set_at_here marked.seats seat _ in
         let q = is_marked in
-        (ap (λ (v : View). v.number) at ∙ q.0, ap (λ (v : View). v.phase) at, ap (λ (v : View). v.ring) at ∙ q.2)
+        (ap (λ (v : Knowledge). v.number) at ∙ q.0, ap (λ (v : Knowledge). v.phase) at, ap (λ (v : Knowledge). v.ring) at ∙ q.2)
 
     pub mark_next : IsNext machine (mark_turn seat low) (Mark seat) (λ found. Some (1 + low))
     unfolding IsView

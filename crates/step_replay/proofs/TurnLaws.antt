@@ -4,7 +4,7 @@ use Rattle.std.proofs.Common.{set, append_assoc, refl, sym, ap, ◌∙◌, arith
 use Rattle.mv_layout.specs.declared.config.Config.{Config}
 use Rattle.replay_rules.specs.declared.plan.CallOf.{CallOf}
 use Rattle.std.proofs.lemmas.List.{map-append}
-use Rattle.step_replay.specs.declared.turns.Seat.{Seat}
+use Rattle.step_replay.specs.declared.turns.ReplaySeat.{ReplaySeat}
 use Rattle.replay_rules.specs.Runs.{SeatOf, TapeOf, Scene, Looked, Replay, no_call, one_looked, looked, looked_on, turned, turn_taken, turns_taken}
 use Rattle.replay_rules.specs.Runs.{new_seat, new_seats, replay_of}
 use Rattle.replay_rules.specs.Plans.{PlanOf}
@@ -37,7 +37,8 @@ turns_next c steps i seat r lt is =
     ap (turns_taken c r) (from_here steps i 0 lt) ∙ ap (λ n. turns_taken c (turn_taken c r n) (drop (i + 1) steps)) is
 
 -- a seat more is made
-pub seats_next : (calls : List CallOf) (seats : List Seat) (first count : ℕ) (seat : Seat) (more : List Seat) → seat_of calls seat ≡ new_seat calls first
+pub seats_next : (calls : List CallOf) (seats : List ReplaySeat) (first count : ℕ) (seat : ReplaySeat) (more : List ReplaySeat)
+    → seat_of calls seat ≡ new_seat calls first
     → first < count → more ≡ seats ++ seat ∷ []
     → seats_of calls seats ++ new_seats calls first (count - first) ≡ new_seats calls 0 count
     → seats_of calls more ++ new_seats calls (first + 1) (count - (first + 1)) ≡ new_seats calls 0 count
@@ -51,14 +52,14 @@ seats_next calls seats first count seat more is lt pushed before =
     ∙ before
 
 -- what a list of seats shows at a place
-pub seat_shown : (calls : List CallOf) (seats : List Seat) (i : ℕ) (seat : Seat) (d : SeatOf) → i < length seats → seat ≡ get_or seats i seat
+pub seat_shown : (calls : List CallOf) (seats : List ReplaySeat) (i : ℕ) (seat : ReplaySeat) (d : SeatOf) → i < length seats → seat ≡ get_or seats i seat
     → seat_of calls seat ≡ get_or (seats_of calls seats) i d
 seat_shown calls [] i seat d lt is = absurd (omega (arith, lt))
 seat_shown calls (x ∷ seats) zero seat d lt is = ap (seat_of calls) is
 seat_shown calls (x ∷ seats) (suc i) seat d lt is = seat_shown calls seats i seat d (omega (arith, lt)) is
 
 -- and with another one at that place
-pub seat_put : (calls : List CallOf) (seats : List Seat) (i : ℕ) (seat : Seat)
+pub seat_put : (calls : List CallOf) (seats : List ReplaySeat) (i : ℕ) (seat : ReplaySeat)
     → seats_of calls (set seats i seat) ≡ set (seats_of calls seats) i (seat_of calls seat)
 seat_put calls [] i seat = refl
 seat_put calls (x ∷ seats) zero seat = refl
@@ -78,7 +79,7 @@ abbrev replay_with : List SeatOf → TapeOf → Replay
 replay_with seats tape = record { seats = seats; tape = tape }
 
 -- a turn of one of the seats is one of the replay
-pub turn_shown : (c : Config) (calls : List CallOf) (seats : List Seat) (n : ℕ) (seat then : Seat) (tape after : TapeOf) → n < length seats
+pub turn_shown : (c : Config) (calls : List CallOf) (seats : List ReplaySeat) (n : ℕ) (seat then : ReplaySeat) (tape after : TapeOf) → n < length seats
     → seat ≡ get_or seats n seat
     → record { seat = seat_of calls then; tape = after } ≡ turned c (record { seat = seat_of calls seat; tape = tape })
     → turn_taken c (record { seats = seats_of calls seats; tape = tape }) n ≡ record { seats = seats_of calls (set seats n then); tape = after }

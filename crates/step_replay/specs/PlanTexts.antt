@@ -15,8 +15,8 @@ use Rattle.replay_rules.specs.declared.plan.PlanFault.{PlanFault}
 use Rattle.replay_rules.specs.declared.plan.PlanFault.TheVariants.{At, Memory}
 use Rattle.step_replay.specs.declared.heads.Heads.{Heads}
 use Rattle.step_replay.specs.declared.heads.Heads.TheVariants.{Seats, Objects, Slots, Base, Whole}
-use Rattle.step_replay.specs.declared.body.Verb.{Verb}
-use Rattle.step_replay.specs.declared.body.Verb.TheVariants.{Enter, Read, Lock, Write, Commit, Abort, Leave, Tidy}
+use Rattle.step_replay.specs.declared.body.CallVerb.{CallVerb}
+use Rattle.step_replay.specs.declared.body.CallVerb.TheVariants.{Enter, Read, Lock, Write, Commit, Abort, Leave, Tidy}
 use Rattle.step_replay.specs.declared.drafts.Draft.{Draft}
 use Rattle.replay_rules.specs.declared.plan.TheConstants.{MOST_STEPS}
 use Rattle.replay_rules.specs.Plans.{PlanOf, config_of}
@@ -71,7 +71,7 @@ head_taken (Base seats objects slots) word words =
 head_taken (Whole config) word words = Err faults.Word
 
 -- what a call does that is no commit, by its name
-abbrev pub other_verb_of : List ℕ → Result Verb PlanKind
+abbrev pub other_verb_of : List ℕ → Result CallVerb PlanKind
 other_verb_of name =
     if bytes_eq name (codes "enter") then Ok Enter
     else (if bytes_eq name (codes "read") then Ok Read
@@ -83,11 +83,11 @@ other_verb_of name =
     else Err faults.Word))))))
 
 -- what a call does, by its name
-abbrev pub verb_of : List ℕ → Result Verb PlanKind
+abbrev pub verb_of : List ℕ → Result CallVerb PlanKind
 verb_of name = if bytes_eq name (codes "commit") then Ok Commit else other_verb_of name
 
 -- how many words stand behind its name
-abbrev pub words_behind : Verb → ℕ
+abbrev pub words_behind : CallVerb → ℕ
 words_behind Read = 1
 words_behind Lock = 1
 words_behind Write = 7
@@ -102,7 +102,7 @@ abbrev pub next_object : Config → List (List ℕ) → Result (ℕ × List (Lis
 next_object config words = next_number 0 (config.objects - 1) words
 
 -- the call that does this, by the words behind its name
-abbrev pub call_with : Verb → Config → List (List ℕ) → Result Call PlanKind
+abbrev pub call_with : CallVerb → Config → List (List ℕ) → Result Call PlanKind
 call_with Enter config words = Ok calls.Enter
 call_with Read config words = do
   object ← next_object config words

@@ -9,10 +9,12 @@ ghost use Rattle.replay_rules.specs.Tasks.{field_word, locking_access, ending_ac
 
 use crate::notes::word_of;
 use mv_layout::{
-    Config, LAST, Place, clock_seat, clock_slot, clock_time, clock_word, link_word,
+    Config, LAST, SharedWord, clock_seat, clock_slot, clock_time, clock_word, link_word,
     slot_of_position, unset_stamp,
 };
-use replay_rules::{Access, Ending, Entering, Helping, Locking, Sweeping, Task, Version, Walking};
+use replay_rules::{
+    Access, Ending, Entering, Helping, Locking, NextStep, NotedVersion, Sweeping, Walking,
+};
 
 /// The seat of a link.
 pub fn seat_of_link(link: u64) -> u32
@@ -80,149 +82,163 @@ pub fn commit_clock(config: &Config, word: u64, seat: u32, at: usize) -> u64
 }
 
 // The stamp of the commit that a clock word names.
-fn named_place(word: u64) -> Place
+fn named_place(word: u64) -> SharedWord
     ensures { result ≡ named_place word }
 {
-    Place::Stamp(clock_seat(word), clock_slot(word))
+    SharedWord::Stamp(clock_seat(word), clock_slot(word))
 }
 
-fn entering_place(seat: u32, step: Entering) -> Place
+fn entering_place(seat: u32, step: Entering) -> SharedWord
     ensures { result ≡ entering_place seat step }
 {
     match step {
-        Entering::LoadLow | Entering::LoadTime => Place::Clock,
-        Entering::StoreMark { mark: _ } => Place::Mark(seat),
+        Entering::LoadLow | Entering::LoadTime => SharedWord::Clock,
+        Entering::StoreMark { mark: _ } => SharedWord::Mark(seat),
     }
 }
 
-fn helping_place(step: Helping) -> Place
+fn helping_place(step: Helping) -> SharedWord
     ensures { result ≡ helping_place step }
 {
     match step {
         Helping::LoadNamed { word } => named_place(word),
-        Helping::LoadCheck { word: _, unset: _ } => Place::Clock,
+        Helping::LoadCheck { word: _, unset: _ } => SharedWord::Clock,
         Helping::SwapStamp { word, unset: _ } => named_place(word),
     }
 }
 
-fn walking_place(config: &Config, object: u32, step: Walking) -> Place
+fn walking_place(config: &Config, object: u32, step: Walking) -> SharedWord
     requires { Checked config.now }
     ensures { result ≡ walking_place config.now object step }
 {
     match step {
-        Walking::LoadHead => Place::Head(object),
-        Walking::LoadFirst { link } => { Place::First(seat_of_link(link), link_slot(config, link)) }
-        Walking::LoadStamp { link, first } => Place::Stamp(
+        Walking::LoadHead => SharedWord::Head(object),
+        Walking::LoadFirst { link } => {
+            SharedWord::First(seat_of_link(link), link_slot(config, link))
+        }
+        Walking::LoadStamp { link, first } => SharedWord::Stamp(
             seat_of_link(link),
             slot_of_position(config, first),
         ),
-        Walking::LoadPrev { link } => { Place::Prev(seat_of_link(link), link_slot(config, link)) }
+        Walking::LoadPrev { link } => {
+            SharedWord::Prev(seat_of_link(link), link_slot(config, link))
+        }
         Walking::LoadWord {
             link,
             words: _,
             word,
         } => {
             if link == 0 {
-                Place::Master(object, word)
+                SharedWord::Master(object, word)
             } else {
-                Place::Data(seat_of_link(link), link_slot(config, link), word)
+                SharedWord::Data(seat_of_link(link), link_slot(config, link), word)
             }
         }
     }
 }
 
 // A word of the slot of a position.
-fn field_place(seat: u32, slot: u32, field: u32) -> Place
+fn field_place(seat: u32, slot: u32, field: u32) -> SharedWord
     ensures { result ≡ field_place seat slot field }
 {
     match field {
-        0 => Place::First(seat, slot),
-        1 => Place::Stamp(seat, slot),
-        2 => Place::Prev(seat, slot),
-        3 => Place::Super(seat, slot),
-        _ => Place::Data(seat, slot, field - 4),
+        0 => SharedWord::First(seat, slot),
+        1 => SharedWord::Stamp(seat, slot),
+        2 => SharedWord::Prev(seat, slot),
+        3 => SharedWord::Super(seat, slot),
+        _ => SharedWord::Data(seat, slot, field - 4),
     }
 }
 
-fn locking_place(config: &Config, seat: u32, object: u32, at: usize, step: Locking) -> Place
+fn locking_place(config: &Config, seat: u32, object: u32, at: usize, step: Locking) -> SharedWord
     requires { Checked config.now }
     ensures { result ≡ locking_place config.now seat object at step }
 {
     match step {
         Locking::Build { field } => field_place(seat, slot_at(config, at), field),
-        Locking::LockHead => Place::Head(object),
-        Locking::ClearPrevious => Place::Prev(seat, slot_at(config, at)),
+        Locking::LockHead => SharedWord::Head(object),
+        Locking::ClearPrevious => SharedWord::Prev(seat, slot_at(config, at)),
         Locking::FoundFirst { link } => {
-            Place::First(seat_of_link(link), link_slot(config, link))
+            SharedWord::First(seat_of_link(link), link_slot(config, link))
         }
-        Locking::FoundStamp { link, first } => Place::Stamp(
+        Locking::FoundStamp { link, first } => SharedWord::Stamp(
             seat_of_link(link),
             slot_of_position(config, first),
         ),
     }
 }
 
-fn ending_place(config: &Config, seat: u32, step: Ending) -> Place
+fn ending_place(config: &Config, seat: u32, step: Ending) -> SharedWord
     requires { Checked config.now }
     ensures { result ≡ ending_place config.now seat step }
 {
     match step {
-        Ending::LoadNow | Ending::LoadDeath => Place::Clock,
-        Ending::Name { word: _, new: _ } => Place::Clock,
-        Ending::StampOwn { first, time: _ } => Place::Stamp(seat, slot_at(config, first)),
+        Ending::LoadNow | Ending::LoadDeath => SharedWord::Clock,
+        Ending::Name { word: _, new: _ } => SharedWord::Clock,
+        Ending::StampOwn { first, time: _ } => SharedWord::Stamp(seat, slot_at(config, first)),
         Ending::StoreSuper {
             at: _,
             link,
             time: _,
-        } => { Place::Super(seat_of_link(link), link_slot(config, link)) }
+        } => { SharedWord::Super(seat_of_link(link), link_slot(config, link)) }
         Ending::Unlock {
             at: _,
             object,
             previous: _,
-        } => Place::Head(object),
-        Ending::Leave(_) => Place::Mark(seat),
+        } => SharedWord::Head(object),
+        Ending::Leave(_) => SharedWord::Mark(seat),
     }
 }
 
-fn sweeping_place(config: &Config, seat: u32, step: Sweeping) -> Place
+fn sweeping_place(config: &Config, seat: u32, step: Sweeping) -> SharedWord
     requires { Checked config.now }
     ensures { result ≡ sweeping_place config.now seat step }
 {
     match step {
-        Sweeping::LoadGrace { again: _ } => Place::Grace,
-        Sweeping::Free { at, left: _ } => Place::Stamp(seat, slot_at(config, at)),
-        Sweeping::LoadScan => Place::Clock,
-        Sweeping::LoadMark { seat } => Place::Mark(seat),
-        Sweeping::RaiseGrace { low: _ } => Place::Grace,
-        Sweeping::LoadSuper { at } => Place::Super(seat, slot_at(config, at)),
-        Sweeping::LoadTop { at: _, object } => Place::Head(object),
+        Sweeping::LoadGrace { again: _ } => SharedWord::Grace,
+        Sweeping::Free { at, left: _ } => SharedWord::Stamp(seat, slot_at(config, at)),
+        Sweeping::LoadScan => SharedWord::Clock,
+        Sweeping::LoadMark { seat } => SharedWord::Mark(seat),
+        Sweeping::RaiseGrace { low: _ } => SharedWord::Grace,
+        Sweeping::LoadSuper { at } => SharedWord::Super(seat, slot_at(config, at)),
+        Sweeping::LoadTop { at: _, object } => SharedWord::Head(object),
         Sweeping::StoreMaster {
             at: _,
             object,
             words: _,
             word,
-        } => Place::Master(object, word),
-        Sweeping::CutHead { at: _, object } => Place::Head(object),
-        Sweeping::LoadCutDeath { at: _ } => Place::Clock,
-        Sweeping::LeaveBack { at: _, back: _ } => Place::Mark(seat),
-        Sweeping::LoadSuperAgain { at } => Place::Super(seat, slot_at(config, at)),
-        Sweeping::NameRest { word: _, new: _ } => Place::Clock,
+        } => SharedWord::Master(object, word),
+        Sweeping::CutHead { at: _, object } => SharedWord::Head(object),
+        Sweeping::LoadCutDeath { at: _ } => SharedWord::Clock,
+        Sweeping::LeaveBack { at: _, back: _ } => SharedWord::Mark(seat),
+        Sweeping::LoadSuperAgain { at } => SharedWord::Super(seat, slot_at(config, at)),
+        Sweeping::NameRest { word: _, new: _ } => SharedWord::Clock,
     }
 }
 
 /// The word that the next step of a seat is of.
-pub fn place_of(config: &Config, seat: u32, task: Task) -> Place
+pub fn place_of(config: &Config, seat: u32, task: NextStep) -> SharedWord
     requires { Checked config.now }
     ensures { result ≡ place_in_task config.now seat task }
 {
     match task {
-        Task::Enters(step) => entering_place(seat, step),
-        Task::Helps(step) => helping_place(step),
-        Task::Walks { object, next } => walking_place(config, object, next),
-        Task::Locks { version, at, next } => locking_place(config, seat, version.object, at, next),
-        Task::Writes { at, words: _, word } => Place::Data(seat, slot_at(config, at), word),
-        Task::EndsSection(step) => ending_place(config, seat, step),
-        Task::Tidies(step) => sweeping_place(config, seat, step),
+        NextStep::Enters(step) => entering_place(seat, step),
+        NextStep::Helps(step) => helping_place(step),
+        NextStep::Walks { object, next } => walking_place(config, object, next),
+        NextStep::Locks { version, at, next } => locking_place(
+            config,
+            seat,
+            version.object,
+            at,
+            next,
+        ),
+        NextStep::Writes { at, words: _, word } => SharedWord::Data(
+            seat,
+            slot_at(config, at),
+            word,
+        ),
+        NextStep::EndsSection(step) => ending_place(config, seat, step),
+        NextStep::Tidies(step) => sweeping_place(config, seat, step),
     }
 }
 
@@ -249,7 +265,7 @@ fn helping_access(step: Helping) -> Access
 }
 
 // The word of a field of a version's slot.
-fn field_word(version: &Version, at: usize, field: u32) -> u64
+fn field_word(version: &NotedVersion, at: usize, field: u32) -> u64
     ensures { result ≡ field_word version.now at field }
 {
     match field {
@@ -261,7 +277,7 @@ fn field_word(version: &Version, at: usize, field: u32) -> u64
     }
 }
 
-fn locking_access(seat: u32, version: &Version, at: usize, step: Locking) -> Access
+fn locking_access(seat: u32, version: &NotedVersion, at: usize, step: Locking) -> Access
     ensures { result ≡ locking_access seat version.now at step }
 {
     match step {
@@ -333,18 +349,18 @@ fn sweeping_access(seat: u32, step: Sweeping) -> Access
 }
 
 /// What the next step of a seat does with its word.
-pub fn access_of(seat: u32, task: Task) -> Access
+pub fn access_of(seat: u32, task: NextStep) -> Access
     ensures { result ≡ access_in_task seat task }
 {
     match task {
-        Task::Enters(step) => entering_access(step),
-        Task::Helps(step) => helping_access(step),
-        Task::Walks { object: _, next: _ } => Access::Load,
-        Task::Locks { version, at, next } => locking_access(seat, &version, at, next),
-        Task::Writes { at: _, words, word } => Access::Store {
+        NextStep::Enters(step) => entering_access(step),
+        NextStep::Helps(step) => helping_access(step),
+        NextStep::Walks { object: _, next: _ } => Access::Load,
+        NextStep::Locks { version, at, next } => locking_access(seat, &version, at, next),
+        NextStep::Writes { at: _, words, word } => Access::Store {
             new: word_of(&words, word),
         },
-        Task::EndsSection(step) => ending_access(step),
-        Task::Tidies(step) => sweeping_access(seat, step),
+        NextStep::EndsSection(step) => ending_access(step),
+        NextStep::Tidies(step) => sweeping_access(seat, step),
     }
 }

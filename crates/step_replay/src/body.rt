@@ -11,7 +11,7 @@ use script_parser::{first_word, same_word};
 
 /// What a call does.
 #[derive(Clone, Copy)]
-pub enum Verb {
+pub enum CallVerb {
     Enter,
     Read,
     Lock,
@@ -23,70 +23,71 @@ pub enum Verb {
 }
 
 // The call of this name, which isn't `commit`. `Err` is `Word`, for any other word.
-fn read_other_verb(name: &[u8]) -> Result<Verb, PlanKind>
+fn read_other_verb(name: &[u8]) -> Result<CallVerb, PlanKind>
     ensures { result ≡ other_verb_of name.now }
 {
     if same_word(name, b"enter") {
-        Ok(Verb::Enter)
+        Ok(CallVerb::Enter)
     } else if same_word(name, b"read") {
-        Ok(Verb::Read)
+        Ok(CallVerb::Read)
     } else if same_word(name, b"lock") {
-        Ok(Verb::Lock)
+        Ok(CallVerb::Lock)
     } else if same_word(name, b"write") {
-        Ok(Verb::Write)
+        Ok(CallVerb::Write)
     } else if same_word(name, b"abort") {
-        Ok(Verb::Abort)
+        Ok(CallVerb::Abort)
     } else if same_word(name, b"leave") {
-        Ok(Verb::Leave)
+        Ok(CallVerb::Leave)
     } else if same_word(name, b"tidy") {
-        Ok(Verb::Tidy)
+        Ok(CallVerb::Tidy)
     } else {
         Err(PlanKind::Word)
     }
 }
 
 // The call of this name. `Err` is `Word`, for any other word.
-fn read_verb(name: &[u8]) -> Result<Verb, PlanKind>
+fn read_verb(name: &[u8]) -> Result<CallVerb, PlanKind>
     ensures { result ≡ verb_of name.now }
 {
     if same_word(name, b"commit") {
-        return Ok(Verb::Commit);
+        return Ok(CallVerb::Commit);
     }
     read_other_verb(name)
 }
 
 // How many words stand behind the name of a call: an object, and what is written.
-fn words_behind(verb: Verb) -> u32
+fn words_behind(verb: CallVerb) -> u32
     ensures { result ≡ words_behind verb }
 {
     match verb {
-        Verb::Read | Verb::Lock => 1,
-        Verb::Write => 7,
-        Verb::Enter | Verb::Commit | Verb::Abort | Verb::Leave | Verb::Tidy => 0,
+        CallVerb::Read | CallVerb::Lock => 1,
+        CallVerb::Write => 7,
+        CallVerb::Enter | CallVerb::Commit | CallVerb::Abort | CallVerb::Leave | CallVerb::Tidy =>
+            0,
     }
 }
 
 // The call that does this, with what the bytes say.
-fn read_rest(verb: Verb, config: &Config, bytes: &[u8]) -> Result<Call, PlanKind>
+fn read_rest(verb: CallVerb, config: &Config, bytes: &[u8]) -> Result<Call, PlanKind>
     requires fit { IsFitConfig config.now }
     ensures is { result ≡ call_with verb config.now (words_in bytes.now) }
     ensures fit { IfOk result (IsFitCall config.now) }
 {
     match verb {
-        Verb::Enter => Ok(Call::Enter),
-        Verb::Read => {
+        CallVerb::Enter => Ok(Call::Enter),
+        CallVerb::Read => {
             let (object, _) = next_number(bytes, 0, config.objects as u64 - 1)?;
             Ok(Call::Read {
                 object: object as u32,
             })
         }
-        Verb::Lock => {
+        CallVerb::Lock => {
             let (object, _) = next_number(bytes, 0, config.objects as u64 - 1)?;
             Ok(Call::Lock {
                 object: object as u32,
             })
         }
-        Verb::Write => {
+        CallVerb::Write => {
             let (object, rest) = next_number(bytes, 0, config.objects as u64 - 1)?;
             let words = read_six(rest)?;
             Ok(Call::Write {
@@ -94,10 +95,10 @@ fn read_rest(verb: Verb, config: &Config, bytes: &[u8]) -> Result<Call, PlanKind
                 words,
             })
         }
-        Verb::Commit => Ok(Call::Commit),
-        Verb::Abort => Ok(Call::Abort),
-        Verb::Leave => Ok(Call::Leave),
-        Verb::Tidy => Ok(Call::Tidy),
+        CallVerb::Commit => Ok(Call::Commit),
+        CallVerb::Abort => Ok(Call::Abort),
+        CallVerb::Leave => Ok(Call::Leave),
+        CallVerb::Tidy => Ok(Call::Tidy),
     }
 }
 

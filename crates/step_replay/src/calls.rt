@@ -6,13 +6,13 @@ use crate::notes::{held, holds, live, place_held, version_at};
 use mv_history::LockAnswer;
 use mv_layout::Config;
 use replay_rules::{
-    Answer, Call, Ending, Entering, Leaving, Scanned, State, Sweep, Sweeping, Task, Then, Version,
-    Walking,
+    Call, CallAnswer, Ending, Entering, Leaving, NextStep, NotedVersion, Scanned, State, Sweep,
+    Sweeping, Then, Walking,
 };
 
 /// Whether a seat that has no call under way may make this one: `enter` and `tidy` outside a section, all others in one;
 /// `read` needs an object that is not held, `write` one that is; `commit` needs something held, and `leave` nothing.
-pub fn may_begin(log: &[Version], state: &State, call: Call) -> bool
+pub fn may_begin(log: &[NotedVersion], state: &State, call: Call) -> bool
     ensures { result ≡ may_begin log.now state.now call }
 {
     let inside = state.time.is_some();
@@ -60,64 +60,64 @@ pub fn begun(state: State, call: Call) -> State
     }
 }
 
-fn begin_lock(config: &Config, log: &[Version], state: &State, object: u32) -> Then
+fn begin_lock(config: &Config, log: &[NotedVersion], state: &State, object: u32) -> Then
     ensures { result ≡ begin_lock config.now log.now state.now object }
 {
     if holds(log, state, object) {
-        return Then::Ends(Answer::Locked(LockAnswer::Held));
+        return Then::Ends(CallAnswer::Locked(LockAnswer::Held));
     }
     if held(log, state) == config.write_max as usize {
-        return Then::Ends(Answer::Locked(LockAnswer::SetFull));
+        return Then::Ends(CallAnswer::Locked(LockAnswer::SetFull));
     }
     if live(log, state) == config.slots as usize {
-        return Then::Ends(Answer::Locked(LockAnswer::LogFull));
+        return Then::Ends(CallAnswer::Locked(LockAnswer::LogFull));
     }
-    Then::Goes(Task::Walks {
+    Then::Goes(NextStep::Walks {
         object,
         next: Walking::LoadHead,
     })
 }
 
 /// The step that gives HEAD of the object back of the version held at a position, which is given up.
-pub fn unlock(log: &[Version], at: usize) -> Task
+pub fn unlock(log: &[NotedVersion], at: usize) -> NextStep
     ensures { result ≡ unlock log.now at }
 {
     let version = version_at(log, at);
-    Task::EndsSection(Ending::Unlock {
+    NextStep::EndsSection(Ending::Unlock {
         at,
         object: version.object,
         previous: version.previous,
     })
 }
 
-fn begin_abort(log: &[Version], state: &State) -> Task
+fn begin_abort(log: &[NotedVersion], state: &State) -> NextStep
     ensures { result ≡ begin_abort log.now state.now }
 {
     if held(log, state) == 0 {
-        return Task::EndsSection(Ending::Leave(Leaving::Plainly));
+        return NextStep::EndsSection(Ending::Leave(Leaving::Plainly));
     }
     unlock(log, state.from)
 }
 
 /// The first step of the call that the seat begins, or the answer of a call that needs no step.
-pub fn begin(config: &Config, log: &[Version], state: &State) -> Then
+pub fn begin(config: &Config, log: &[NotedVersion], state: &State) -> Then
     ensures { result ≡ begin_call (state.now).call config.now log.now state.now }
 {
     match state.call {
-        Call::Enter => Then::Goes(Task::Enters(Entering::LoadLow)),
-        Call::Read { object } => Then::Goes(Task::Walks {
+        Call::Enter => Then::Goes(NextStep::Enters(Entering::LoadLow)),
+        Call::Read { object } => Then::Goes(NextStep::Walks {
             object,
             next: Walking::LoadHead,
         }),
         Call::Lock { object } => begin_lock(config, log, state, object),
-        Call::Write { object, words } => Then::Goes(Task::Writes {
+        Call::Write { object, words } => Then::Goes(NextStep::Writes {
             at: place_held(log, state, object),
             words,
             word: 0,
         }),
-        Call::Commit => Then::Goes(Task::EndsSection(Ending::LoadNow)),
+        Call::Commit => Then::Goes(NextStep::EndsSection(Ending::LoadNow)),
         Call::Abort => Then::Goes(begin_abort(log, state)),
-        Call::Leave => Then::Goes(Task::EndsSection(Ending::Leave(Leaving::Plainly))),
-        Call::Tidy => Then::Goes(Task::Tidies(Sweeping::LoadGrace { again: false })),
+        Call::Leave => Then::Goes(NextStep::EndsSection(Ending::Leave(Leaving::Plainly))),
+        Call::Tidy => Then::Goes(NextStep::Tidies(Sweeping::LoadGrace { again: false })),
     }
 }

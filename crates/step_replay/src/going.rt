@@ -2,7 +2,7 @@
 ghost use Rattle.std.specs.Prelude.{◌≡◌, ◌+◌};
 ghost use Rattle.mv_layout.specs.Limits.{Checked};
 ghost use Rattle.replay_rules.specs.declared.seats.Then.TheVariants.{Goes};
-ghost use Rattle.replay_rules.specs.declared.seats.Task.TheVariants.{EndsSection, Tidies, Walks, Locks};
+ghost use Rattle.replay_rules.specs.declared.seats.NextStep.TheVariants.{EndsSection, Tidies, Walks, Locks};
 ghost use Rattle.replay_rules.specs.GoesOn.{name, helped_in_tidy, helped_in, help, after_entering, after_helping, stand, refusal, is_lock};
 ghost use Rattle.replay_rules.specs.GoesOn.{after_stamp, after_words};
 ghost use Rattle.replay_rules.specs.GoesOn.{after_walking, after_field, after_lock_head, after_locking, after_writing, store_super, after_name};
@@ -19,20 +19,20 @@ use commit_abort::Ended;
 use mv_history::{Holder, LockAnswer, Rival, WORDS, Words};
 use mv_layout::{Config, LAST, NO_SLOT, clock_seat, clock_slot, clock_time, is_unset, mark_word};
 use replay_rules::{
-    Answer, Back, Call, Ending, Entering, Helping, Leaving, Locking, Reclaimed, Scanned, State,
-    Sweep, Sweeping, Task, Test, Then, Version, Walking,
+    Call, CallAnswer, Ending, Entering, Helping, Leaving, Locking, NextStep, NotedVersion,
+    Reclaimed, Scanned, State, Sweep, Sweeping, Test, Then, Walking, WriteBackEnd,
 };
 
 fn end(step: Ending) -> Then
     ensures { result ≡ Goes (EndsSection step) }
 {
-    Then::Goes(Task::EndsSection(step))
+    Then::Goes(NextStep::EndsSection(step))
 }
 
 fn sweep(step: Sweeping) -> Then
     ensures { result ≡ Goes (Tidies step) }
 {
-    Then::Goes(Task::Tidies(step))
+    Then::Goes(NextStep::Tidies(step))
 }
 
 // The exchange of CLOCK that a commit tries once the word is helped.
@@ -41,7 +41,7 @@ fn name(config: &Config, state: &State, word: u64) -> Then
     ensures { result ≡ name config.now state.now word }
 {
     if clock_time(word) == LAST {
-        return Then::Ends(Answer::Committed(Ended::End));
+        return Then::Ends(CallAnswer::Committed(Ended::End));
     }
     end(Ending::Name {
         word,
@@ -51,7 +51,7 @@ fn name(config: &Config, state: &State, word: u64) -> Then
 
 // What a tidy does once a word is helped: in a section it looks at HEAD of the object that it writes back, and outside it
 // tries a rest, but at the last time.
-fn helped_in_tidy(log: &[Version], state: &State, word: u64) -> Then
+fn helped_in_tidy(log: &[NotedVersion], state: &State, word: u64) -> Then
     ensures { result ≡ helped_in_tidy log.now state.now word }
 {
     if state.time.is_some() {
@@ -69,31 +69,31 @@ fn helped_in_tidy(log: &[Version], state: &State, word: u64) -> Then
 }
 
 // What a call does once a clock word is helped.
-fn helped(config: &Config, log: &[Version], state: &State, word: u64) -> Then
+fn helped(config: &Config, log: &[NotedVersion], state: &State, word: u64) -> Then
     requires { Checked config.now }
     ensures { result ≡ helped_in (state.now).call config.now log.now state.now word }
 {
     match state.call {
         Call::Commit => name(config, state, word),
         Call::Tidy => helped_in_tidy(log, state, word),
-        _ => Then::Ends(Answer::AtTime(clock_time(word))),
+        _ => Then::Ends(CallAnswer::AtTime(clock_time(word))),
     }
 }
 
 // The help of a clock word, and what the call does afterwards.
-fn help(config: &Config, log: &[Version], state: &State, word: u64) -> Then
+fn help(config: &Config, log: &[NotedVersion], state: &State, word: u64) -> Then
     requires { Checked config.now }
     ensures { result ≡ help config.now log.now state.now word }
 {
     if clock_slot(word) == NO_SLOT {
         return helped(config, log, state, word);
     }
-    Then::Goes(Task::Helps(Helping::LoadNamed { word }))
+    Then::Goes(NextStep::Helps(Helping::LoadNamed { word }))
 }
 
 fn after_entering(
     config: &Config,
-    log: &[Version],
+    log: &[NotedVersion],
     state: &State,
     step: Entering,
     found: u64,
@@ -102,25 +102,31 @@ fn after_entering(
     ensures { result ≡ after_entering step config.now log.now state.now found }
 {
     match step {
-        Entering::LoadLow => Then::Goes(Task::Enters(Entering::StoreMark {
+        Entering::LoadLow => Then::Goes(NextStep::Enters(Entering::StoreMark {
             mark: mark_word(clock_time(found)),
         })),
-        Entering::StoreMark { mark: _ } => Then::Goes(Task::Enters(Entering::LoadTime)),
+        Entering::StoreMark { mark: _ } => Then::Goes(NextStep::Enters(Entering::LoadTime)),
         Entering::LoadTime => help(config, log, state, found),
     }
 }
 
-fn after_helping(config: &Config, log: &[Version], state: &State, step: Helping, found: u64) -> Then
+fn after_helping(
+    config: &Config,
+    log: &[NotedVersion],
+    state: &State,
+    step: Helping,
+    found: u64,
+) -> Then
     requires { Checked config.now }
     ensures { result ≡ after_helping step config.now log.now state.now found }
 {
     match step {
         Helping::LoadNamed { word } if is_unset(found) => {
-            Then::Goes(Task::Helps(Helping::LoadCheck { word, unset: found }))
+            Then::Goes(NextStep::Helps(Helping::LoadCheck { word, unset: found }))
         }
         Helping::LoadNamed { word } => helped(config, log, state, word),
         Helping::LoadCheck { word, unset } if found == word => {
-            Then::Goes(Task::Helps(Helping::SwapStamp { word, unset }))
+            Then::Goes(NextStep::Helps(Helping::SwapStamp { word, unset }))
         }
         Helping::LoadCheck { word, unset: _ } => helped(config, log, state, word),
         Helping::SwapStamp { word, unset: _ } => helped(config, log, state, word),
@@ -130,7 +136,7 @@ fn after_helping(config: &Config, log: &[Version], state: &State, step: Helping,
 fn walk(object: u32, next: Walking) -> Then
     ensures { result ≡ Goes (Walks object next) }
 {
-    Then::Goes(Task::Walks { object, next })
+    Then::Goes(NextStep::Walks { object, next })
 }
 
 // Where a walk goes on at a link.
@@ -161,7 +167,7 @@ fn refusal(link: u64, stamp: u64) -> Then
     } else {
         LockAnswer::Stale { time: stamp }
     };
-    Then::Ends(Answer::Locked(answer))
+    Then::Ends(CallAnswer::Locked(answer))
 }
 
 fn is_lock(call: Call) -> bool
@@ -191,13 +197,13 @@ fn after_stamp(state: &State, object: u32, link: u64, stamp: u64) -> Then
 }
 
 // A lock builds a version once the words are read, and a read answers them.
-fn after_words(log: &[Version], state: &State, object: u32, link: u64, words: Words) -> Then
+fn after_words(log: &[NotedVersion], state: &State, object: u32, link: u64, words: Words) -> Then
     ensures { result ≡ after_words log.now state.now object link words }
 {
     if !is_lock(state.call) {
-        return Then::Ends(Answer::SixWords(words));
+        return Then::Ends(CallAnswer::SixWords(words));
     }
-    let version = Version {
+    let version = NotedVersion {
         first: state.from,
         object,
         previous: link,
@@ -206,7 +212,7 @@ fn after_words(log: &[Version], state: &State, object: u32, link: u64, words: Wo
         dead: 0,
         above: None,
     };
-    Then::Goes(Task::Locks {
+    Then::Goes(NextStep::Locks {
         version,
         at: log.len(),
         next: Locking::Build { field: 0 },
@@ -215,7 +221,7 @@ fn after_words(log: &[Version], state: &State, object: u32, link: u64, words: Wo
 
 fn after_walking(
     config: &Config,
-    log: &[Version],
+    log: &[NotedVersion],
     state: &State,
     object: u32,
     step: Walking,
@@ -247,14 +253,14 @@ fn after_walking(
     }
 }
 
-fn lock(version: Version, at: usize, next: Locking) -> Then
+fn lock(version: NotedVersion, at: usize, next: Locking) -> Then
     ensures { result ≡ Goes (Locks version at next) }
 {
-    Then::Goes(Task::Locks { version, at, next })
+    Then::Goes(NextStep::Locks { version, at, next })
 }
 
 // The field behind one, if there is one. Only the first slot of a write set has a stamp.
-fn after_field(version: Version, at: usize, field: u32) -> Then
+fn after_field(version: NotedVersion, at: usize, field: u32) -> Then
     ensures { result ≡ after_field version at field }
 {
     if field == 0 && version.first != at {
@@ -267,14 +273,14 @@ fn after_field(version: Version, at: usize, field: u32) -> Then
 }
 
 // A lost exchange looks at the version that it found, or tries once more where the chain was cut.
-fn after_lock_head(version: Version, at: usize, found: u64) -> Then
+fn after_lock_head(version: NotedVersion, at: usize, found: u64) -> Then
     ensures { result ≡ after_lock_head version at found }
 {
     if found == version.previous {
-        return Then::Ends(Answer::Locked(LockAnswer::Held));
+        return Then::Ends(CallAnswer::Locked(LockAnswer::Held));
     }
     if found == 0 {
-        let over = Version {
+        let over = NotedVersion {
             previous: 0,
             ..version
         };
@@ -283,7 +289,7 @@ fn after_lock_head(version: Version, at: usize, found: u64) -> Then
     lock(version, at, Locking::FoundFirst { link: found })
 }
 
-fn after_locking(version: Version, at: usize, step: Locking, found: u64) -> Then
+fn after_locking(version: NotedVersion, at: usize, step: Locking, found: u64) -> Then
     ensures { result ≡ after_locking step version at found }
 {
     match step {
@@ -303,17 +309,17 @@ fn after_writing(at: usize, words: Words, word: u32) -> Then
     ensures { result ≡ after_writing at words word }
 {
     if word < 5 {
-        return Then::Goes(Task::Writes {
+        return Then::Goes(NextStep::Writes {
             at,
             words,
             word: word + 1,
         });
     }
-    Then::Ends(Answer::Silent)
+    Then::Ends(CallAnswer::Silent)
 }
 
 // The store of SUPER below the version at this position, if there is one and something is below.
-fn store_super(log: &[Version], at: usize, time: u64) -> Then
+fn store_super(log: &[NotedVersion], at: usize, time: u64) -> Then
     ensures { result ≡ store_super log.now at time }
 {
     if at < log.len() {
@@ -330,7 +336,7 @@ fn after_name(state: &State, word: u64, found: u64) -> Then
     ensures { result ≡ after_name state.now word found }
 {
     if found != word {
-        return Then::Ends(Answer::Committed(Ended::Again(Rival {
+        return Then::Ends(CallAnswer::Committed(Ended::Again(Rival {
             seat: clock_seat(found),
             time: clock_time(found),
         })));
@@ -341,7 +347,7 @@ fn after_name(state: &State, word: u64, found: u64) -> Then
     })
 }
 
-fn after_unlock(log: &[Version], at: usize) -> Then
+fn after_unlock(log: &[NotedVersion], at: usize) -> Then
     ensures { result ≡ after_unlock log.now at }
 {
     if at < log.len() && at + 1 < log.len() {
@@ -355,23 +361,29 @@ fn after_leaving(leaving: Leaving) -> Then
     ensures { result ≡ after_leaving leaving }
 {
     Then::Ends(match leaving {
-        Leaving::WithCommit { time } => Answer::Committed(Ended::Done(time)),
-        _ => Answer::Silent,
+        Leaving::WithCommit { time } => CallAnswer::Committed(Ended::Done(time)),
+        _ => CallAnswer::Silent,
     })
 }
 
 // A commit at the last time ends; a rest helps there all the same.
-fn after_now(config: &Config, log: &[Version], state: &State, found: u64) -> Then
+fn after_now(config: &Config, log: &[NotedVersion], state: &State, found: u64) -> Then
     requires { Checked config.now }
     ensures { result ≡ after_now (state.now).call config.now log.now state.now found }
 {
     if state.call == Call::Commit && clock_time(found) == LAST {
-        return Then::Ends(Answer::Committed(Ended::End));
+        return Then::Ends(CallAnswer::Committed(Ended::End));
     }
     help(config, log, state, found)
 }
 
-fn after_ending(config: &Config, log: &[Version], state: &State, step: Ending, found: u64) -> Then
+fn after_ending(
+    config: &Config,
+    log: &[NotedVersion],
+    state: &State,
+    step: Ending,
+    found: u64,
+) -> Then
     requires { Checked config.now }
     ensures { result ≡ after_ending step config.now log.now state.now found }
 {
@@ -397,7 +409,7 @@ fn after_ending(config: &Config, log: &[Version], state: &State, step: Ending, f
 }
 
 // Whether a version is dead only from a time above those that the tidy found in CLOCK, and the last time isn't reached.
-fn rest_is_due(log: &[Version], state: &State) -> bool
+fn rest_is_due(log: &[NotedVersion], state: &State) -> bool
     ensures { result ≡ rest_is_due log.now state.now }
 {
     let latest = state.sweep.latest;
@@ -415,7 +427,7 @@ fn by_mark(scan: &Scanned) -> Holder
 }
 
 // Why a version isn't dead by the last scan's watermark.
-fn holder_of(version: &Version, sweep: &Sweep) -> Holder
+fn holder_of(version: &NotedVersion, sweep: &Sweep) -> Holder
     ensures { result ≡ holder_of version.now sweep.now }
 {
     if version.dead > LAST {
@@ -437,7 +449,7 @@ fn holder_of(version: &Version, sweep: &Sweep) -> Holder
 }
 
 // Who holds the oldest write set, if one is left.
-fn holder(log: &[Version], state: &State) -> Option<Holder>
+fn holder(log: &[NotedVersion], state: &State) -> Option<Holder>
     ensures { result ≡ holder log.now state.now }
 {
     let first = state.freed;
@@ -449,10 +461,10 @@ fn holder(log: &[Version], state: &State) -> Option<Holder>
     Some(holder_of(&version_at(log, due), &state.sweep))
 }
 
-fn tidied(log: &[Version], state: &State) -> Then
+fn tidied(log: &[NotedVersion], state: &State) -> Then
     ensures { result ≡ tidied log.now state.now }
 {
-    Then::Ends(Answer::Tidied(Reclaimed {
+    Then::Ends(CallAnswer::Tidied(Reclaimed {
         freed: state.freed.saturating_sub(state.sweep.began),
         live: live(log, state),
         held: holder(log, state),
@@ -460,7 +472,7 @@ fn tidied(log: &[Version], state: &State) -> Then
 }
 
 // Behind all frees of a round: the scan where it hasn't scanned and something is left, and else the end of the round.
-fn after_frees(log: &[Version], state: &State) -> Then
+fn after_frees(log: &[NotedVersion], state: &State) -> Then
     ensures { result ≡ after_frees log.now state.now }
 {
     if !state.sweep.swept && live(log, state) > 0 {
@@ -476,7 +488,7 @@ fn after_frees(log: &[Version], state: &State) -> Then
 }
 
 // The free of the oldest write set, where it is dead.
-fn free(log: &[Version], state: &State) -> Then
+fn free(log: &[NotedVersion], state: &State) -> Then
     ensures { result ≡ free log.now state.now }
 {
     let left = dead_count(log, state, state.sweep.bound);
@@ -489,7 +501,7 @@ fn free(log: &[Version], state: &State) -> Then
     })
 }
 
-fn after_free(log: &[Version], state: &State, left: usize) -> Then
+fn after_free(log: &[NotedVersion], state: &State, left: usize) -> Then
     ensures { result ≡ after_free log.now state.now left }
 {
     if left <= 1 {
@@ -528,7 +540,7 @@ fn after_mark(config: &Config, state: &State, seat: u32) -> Then
 }
 
 // Looks at the version at this position, which has no time of death; behind the last one the round frees.
-fn settle(log: &[Version], state: &State, at: usize) -> Then
+fn settle(log: &[NotedVersion], state: &State, at: usize) -> Then
     ensures { result ≡ settle log.now state.now at }
 {
     if at < log.len() {
@@ -537,34 +549,34 @@ fn settle(log: &[Version], state: &State, at: usize) -> Then
     free(log, state)
 }
 
-fn settle_behind(log: &[Version], state: &State, at: usize) -> Then
+fn settle_behind(log: &[NotedVersion], state: &State, at: usize) -> Then
     ensures { result ≡ settle_behind log.now state.now at }
 {
     settle(log, state, first_behind(log, at, Test::IsUntimed))
 }
 
 // In a round with write-backs a version that is old enough is written back, in a section.
-fn after_super(log: &[Version], state: &State, at: usize, found: u64) -> Then
+fn after_super(log: &[NotedVersion], state: &State, at: usize, found: u64) -> Then
     ensures { result ≡ after_super log.now state.now at found }
 {
     if found != 0 || state.sweep.again || version_at(log, at).time > state.sweep.last.time {
         return settle_behind(log, state, at);
     }
-    Then::Goes(Task::Enters(Entering::LoadLow))
+    Then::Goes(NextStep::Enters(Entering::LoadLow))
 }
 
-fn above(state: &State, link: u64) -> Back
+fn above(state: &State, link: u64) -> WriteBackEnd
     ensures { result ≡ back_by state.now link }
 {
     if link == 0 {
-        return Back::WasGone;
+        return WriteBackEnd::WasGone;
     }
-    Back::WasAbove {
+    WriteBackEnd::WasAbove {
         seat: other_seat(state.seat, link),
     }
 }
 
-fn after_top(log: &[Version], state: &State, at: usize, object: u32, found: u64) -> Then
+fn after_top(log: &[NotedVersion], state: &State, at: usize, object: u32, found: u64) -> Then
     ensures { result ≡ after_top log.now state.now at object found }
 {
     if found == link_to(state.seat, at) {
@@ -604,18 +616,18 @@ fn after_cut(state: &State, at: usize, found: u64) -> Then
     sweep(Sweeping::LeaveBack { at, back })
 }
 
-fn after_back(log: &[Version], state: &State, at: usize, back: Back) -> Then
+fn after_back(log: &[NotedVersion], state: &State, at: usize, back: WriteBackEnd) -> Then
     ensures { result ≡ after_back back log.now state.now at }
 {
     match back {
-        Back::WasGone => sweep(Sweeping::LoadSuperAgain { at }),
+        WriteBackEnd::WasGone => sweep(Sweeping::LoadSuperAgain { at }),
         _ => settle_behind(log, state, at),
     }
 }
 
 fn after_sweeping(
     config: &Config,
-    log: &[Version],
+    log: &[NotedVersion],
     state: &State,
     step: Sweeping,
     found: u64,
@@ -642,7 +654,7 @@ fn after_sweeping(
         Sweeping::CutHead { at, object: _ } => after_cut(state, at, found),
         Sweeping::LoadCutDeath { at } => sweep(Sweeping::LeaveBack {
             at,
-            back: Back::WasCut {
+            back: WriteBackEnd::WasCut {
                 dead: clock_time(found) + 1,
             },
         }),
@@ -653,17 +665,23 @@ fn after_sweeping(
 }
 
 /// How the call of a seat goes on behind a step that found this, with the state and the notes behind the step.
-pub fn then_after(config: &Config, log: &[Version], state: &State, task: Task, found: u64) -> Then
+pub fn then_after(
+    config: &Config,
+    log: &[NotedVersion],
+    state: &State,
+    task: NextStep,
+    found: u64,
+) -> Then
     requires { Checked config.now }
     ensures { result ≡ then_after task config.now log.now state.now found }
 {
     match task {
-        Task::Enters(step) => after_entering(config, log, state, step, found),
-        Task::Helps(step) => after_helping(config, log, state, step, found),
-        Task::Walks { object, next } => after_walking(config, log, state, object, next, found),
-        Task::Locks { version, at, next } => after_locking(version, at, next, found),
-        Task::Writes { at, words, word } => after_writing(at, words, word),
-        Task::EndsSection(step) => after_ending(config, log, state, step, found),
-        Task::Tidies(step) => after_sweeping(config, log, state, step, found),
+        NextStep::Enters(step) => after_entering(config, log, state, step, found),
+        NextStep::Helps(step) => after_helping(config, log, state, step, found),
+        NextStep::Walks { object, next } => after_walking(config, log, state, object, next, found),
+        NextStep::Locks { version, at, next } => after_locking(version, at, next, found),
+        NextStep::Writes { at, words, word } => after_writing(at, words, word),
+        NextStep::EndsSection(step) => after_ending(config, log, state, step, found),
+        NextStep::Tidies(step) => after_sweeping(config, log, state, step, found),
     }
 }

@@ -8,8 +8,8 @@ use crate::access::seat_of_link;
 use crate::notes::word_of;
 use mv_layout::{clock_time, mark_low};
 use replay_rules::{
-    Back, Edit, Ending, Entering, Helping, Leaving, Locking, Scanned, State, Sweep, Sweeping, Task,
-    Version,
+    Edit, Ending, Entering, Helping, Leaving, Locking, NextStep, NotedVersion, Scanned, State,
+    Sweep, Sweeping, WriteBackEnd,
 };
 
 // With a time that was found in CLOCK.
@@ -49,7 +49,7 @@ fn helped(state: State, step: Helping, found: u64) -> State
     }
 }
 
-fn ended(log: &[Version], state: State, step: Ending) -> State
+fn ended(log: &[NotedVersion], state: State, step: Ending) -> State
     ensures { result ≡ ended step log.now state }
 {
     match step {
@@ -121,7 +121,7 @@ fn with_sweep(state: State, sweep: Sweep) -> State
     State { sweep, ..state }
 }
 
-fn freed_one(log: &[Version], state: State) -> State
+fn freed_one(log: &[NotedVersion], state: State) -> State
     ensures { result ≡ freed_one log.now state }
 {
     if state.freed < log.len() {
@@ -134,7 +134,7 @@ fn freed_one(log: &[Version], state: State) -> State
     }
 }
 
-fn swept(log: &[Version], state: State, step: Sweeping, found: u64) -> State
+fn swept(log: &[NotedVersion], state: State, step: Sweeping, found: u64) -> State
     ensures { result ≡ swept step log.now state found }
 {
     let sweep = state.sweep;
@@ -169,25 +169,25 @@ fn swept(log: &[Version], state: State, step: Sweeping, found: u64) -> State
 }
 
 /// What a seat is at behind a step that found this, of which the notes of its log tell nothing yet.
-pub fn state_after(log: &[Version], state: State, task: Task, found: u64) -> State
+pub fn state_after(log: &[NotedVersion], state: State, task: NextStep, found: u64) -> State
     ensures { result ≡ state_after task log.now state found }
 {
     match task {
-        Task::Enters(step) => entered(state, step, found),
-        Task::Helps(step) => helped(state, step, found),
-        Task::Walks { object: _, next: _ } => state,
-        Task::Locks {
+        NextStep::Enters(step) => entered(state, step, found),
+        NextStep::Helps(step) => helped(state, step, found),
+        NextStep::Walks { object: _, next: _ } => state,
+        NextStep::Locks {
             version: _,
             at: _,
             next: _,
         } => state,
-        Task::Writes {
+        NextStep::Writes {
             at: _,
             words: _,
             word: _,
         } => state,
-        Task::EndsSection(step) => ended(log, state, step),
-        Task::Tidies(step) => swept(log, state, step, found),
+        NextStep::EndsSection(step) => ended(log, state, step),
+        NextStep::Tidies(step) => swept(log, state, step, found),
     }
 }
 
@@ -223,33 +223,33 @@ fn edit_of_sweep(state: &State, step: Sweeping, found: u64) -> Edit
         Sweeping::LoadSuperAgain { at } => edit_of_super(at, found),
         Sweeping::LeaveBack {
             at,
-            back: Back::WasCut { dead },
+            back: WriteBackEnd::WasCut { dead },
         } => Edit::Retired { at, dead },
         Sweeping::LeaveBack {
             at,
-            back: Back::WasAbove { seat },
+            back: WriteBackEnd::WasAbove { seat },
         } => Edit::AboveNoted { at, seat },
         _ => Edit::Kept,
     }
 }
 
 /// What the step of a seat that found this changes in the notes of its log.
-pub fn edit_of(state: &State, task: Task, found: u64) -> Edit
+pub fn edit_of(state: &State, task: NextStep, found: u64) -> Edit
     ensures { result ≡ edit_of task state.now found }
 {
     match task {
-        Task::Locks {
+        NextStep::Locks {
             version,
             at: _,
             next: Locking::LockHead,
         } if found == version.previous => { Edit::Pushed(version) }
-        Task::Writes { at, words, word } => Edit::WordPut {
+        NextStep::Writes { at, words, word } => Edit::WordPut {
             at,
             word,
             value: word_of(&words, word),
         },
-        Task::EndsSection(step) => edit_of_end(state.from, step),
-        Task::Tidies(step) => edit_of_sweep(state, step, found),
+        NextStep::EndsSection(step) => edit_of_end(state.from, step),
+        NextStep::Tidies(step) => edit_of_sweep(state, step, found),
         _ => Edit::Kept,
     }
 }

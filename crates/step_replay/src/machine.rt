@@ -5,7 +5,7 @@ ghost use Rattle.mv_layout.specs.Cells.{cells, cell_of};
 ghost use Rattle.mv_layout.specs.Words.{clock_of};
 
 use crate::places::place_cell;
-use mv_layout::{CLOCK_CELL, Config, GRACE_CELL, NO_SLOT, Place, clock_word, total_cells};
+use mv_layout::{CLOCK_CELL, Config, GRACE_CELL, NO_SLOT, SharedWord, clock_word, total_cells};
 use std::alloc::{AllocError, Global};
 
 /// The words of a domain, which one thread alone reads and writes, behind steps of the seats (`IsBehind`): each of
@@ -69,7 +69,7 @@ impl Machine {
     }
 
     /// A load of a word. It answers the word, and changes no word, but the view of the seat.
-    pub fn load(&self, place: Place) -> u64
+    pub fn load(&self, place: SharedWord) -> u64
         requires { IsPlace (config_of self.now) place }
         ensures makes { Makes self.now self.now place result (λ found. None) }
         ensures word { result ≡ word_at (config_of self.now) self.now.words.items place }
@@ -78,7 +78,7 @@ impl Machine {
     }
 
     /// A store of `new` into a word. It answers the word that was there.
-    pub fn store(&mut self, place: Place, new: u64) -> u64
+    pub fn store(&mut self, place: SharedWord, new: u64) -> u64
         requires { IsPlace (config_of self.old) place }
         ensures numbers { config_of self.new ≡ config_of self.old }
         ensures makes { Makes self.old self.new place result (λ found. Some new) }
@@ -93,7 +93,7 @@ impl Machine {
 
     /// An exchange of a word from `old` to `new`, which is won where the word is `old`. It answers the word that was
     /// there.
-    pub fn swap(&mut self, place: Place, old: u64, new: u64) -> u64
+    pub fn swap(&mut self, place: SharedWord, old: u64, new: u64) -> u64
         requires { IsPlace (config_of self.old) place }
         ensures numbers { config_of self.new ≡ config_of self.old }
         ensures makes { Makes self.old self.new place result (λ found. stored_if found old new) }
@@ -109,7 +109,7 @@ impl Machine {
     }
 
     /// A fetch_max of a word by `by`: the greater of the two is stored. It answers the word that was there.
-    pub fn raise(&mut self, place: Place, by: u64) -> u64
+    pub fn raise(&mut self, place: SharedWord, by: u64) -> u64
         requires { IsPlace (config_of self.old) place }
         ensures numbers { config_of self.new ≡ config_of self.old }
         ensures makes { Makes self.old self.new place result (λ found. Some (max found by)) }

@@ -4,11 +4,11 @@ ghost use Rattle.replay_rules.specs.SeatNotes.{passes, first_from, first_behind,
 ghost use Rattle.replay_rules.specs.SeatNotes.{edited_from, applied};
 
 use mv_history::{WORDS, Words};
-use replay_rules::{Edit, State, Test, Version};
+use replay_rules::{Edit, NotedVersion, State, Test};
 use std::alloc::AllocError;
 
 // Whether a version is what is looked for.
-fn passes(test: Test, version: &Version) -> bool
+fn passes(test: Test, version: &NotedVersion) -> bool
     ensures { result ≡ passes test version.now }
 {
     match test {
@@ -23,7 +23,7 @@ fn passes(test: Test, version: &Version) -> bool
 }
 
 /// The position of the first version from one on that is what is looked for, or the next position where none is.
-pub fn first_from(log: &[Version], from: usize, test: Test) -> usize
+pub fn first_from(log: &[NotedVersion], from: usize, test: Test) -> usize
     ensures { result ≡ first_from log.now from test }
 {
     for at in from..log.len() {
@@ -35,7 +35,7 @@ pub fn first_from(log: &[Version], from: usize, test: Test) -> usize
 }
 
 /// The same behind a position.
-pub fn first_behind(log: &[Version], at: usize, test: Test) -> usize
+pub fn first_behind(log: &[NotedVersion], at: usize, test: Test) -> usize
     ensures { result ≡ first_behind log.now at test }
 {
     if at < log.len() {
@@ -46,12 +46,12 @@ pub fn first_behind(log: &[Version], at: usize, test: Test) -> usize
 }
 
 /// The version at a position.
-pub fn version_at(log: &[Version], at: usize) -> Version
+pub fn version_at(log: &[NotedVersion], at: usize) -> NotedVersion
     ensures { result ≡ version_at log.now at }
 {
     match log.get(at) {
         Some(version) => *version,
-        None => Version {
+        None => NotedVersion {
             first: 0,
             object: 0,
             previous: 0,
@@ -85,35 +85,35 @@ pub fn with_word(words: Words, word: u32, value: u64) -> Words
 }
 
 /// How many versions the section holds.
-pub fn held(log: &[Version], state: &State) -> usize
+pub fn held(log: &[NotedVersion], state: &State) -> usize
     ensures { result ≡ held log.now state.now }
 {
     log.len().saturating_sub(state.from)
 }
 
 /// The position of the section's version of an object, or the next position where it doesn't hold the object.
-pub fn place_held(log: &[Version], state: &State, object: u32) -> usize
+pub fn place_held(log: &[NotedVersion], state: &State, object: u32) -> usize
     ensures { result ≡ place_held log.now state.now object }
 {
     first_from(log, state.from, Test::IsOf { object })
 }
 
 /// Whether the section holds the object.
-pub fn holds(log: &[Version], state: &State, object: u32) -> bool
+pub fn holds(log: &[NotedVersion], state: &State, object: u32) -> bool
     ensures { result ≡ holds log.now state.now object }
 {
     place_held(log, state, object) < log.len()
 }
 
 /// How many versions are live.
-pub fn live(log: &[Version], state: &State) -> usize
+pub fn live(log: &[NotedVersion], state: &State) -> usize
     ensures { result ≡ live log.now state.now }
 {
     log.len().saturating_sub(state.freed)
 }
 
 /// How many versions the oldest write set has, where all of them are dead at this time, and else 0.
-pub fn dead_count(log: &[Version], state: &State, time: u64) -> usize
+pub fn dead_count(log: &[NotedVersion], state: &State, time: u64) -> usize
     ensures { result ≡ dead_count log.now state.now time }
 {
     let freed = state.freed;
@@ -125,18 +125,18 @@ pub fn dead_count(log: &[Version], state: &State, time: u64) -> usize
 }
 
 // The version with what a step changes in it, at this position.
-fn edited(edit: Edit, place: usize, version: Version) -> Version
+fn edited(edit: Edit, place: usize, version: NotedVersion) -> NotedVersion
     ensures { result ≡ edited edit place version }
 {
     match edit {
-        Edit::WordPut { at, word, value } if at == place => Version {
+        Edit::WordPut { at, word, value } if at == place => NotedVersion {
             words: with_word(version.words, word, value),
             ..version
         },
-        Edit::CommittedFrom { from, time } if from <= place => Version { time, ..version },
-        Edit::AbortedFrom { from, dead } if from <= place => Version { dead, ..version },
-        Edit::Retired { at, dead } if at == place => Version { dead, ..version },
-        Edit::AboveNoted { at, seat } if at == place => Version {
+        Edit::CommittedFrom { from, time } if from <= place => NotedVersion { time, ..version },
+        Edit::AbortedFrom { from, dead } if from <= place => NotedVersion { dead, ..version },
+        Edit::Retired { at, dead } if at == place => NotedVersion { dead, ..version },
+        Edit::AboveNoted { at, seat } if at == place => NotedVersion {
             above: seat,
             ..version
         },
@@ -145,7 +145,7 @@ fn edited(edit: Edit, place: usize, version: Version) -> Version
 }
 
 // Each version with what a step changes in it.
-fn edit_all(log: &mut Vec<Version>, edit: Edit)
+fn edit_all(log: &mut Vec<NotedVersion>, edit: Edit)
     ensures { log.new.items ≡ edited_from edit 0 log.old.items }
 {
     for at in 0..log.len() {
@@ -154,7 +154,7 @@ fn edit_all(log: &mut Vec<Version>, edit: Edit)
 }
 
 /// Changes the notes so.
-pub fn apply(log: &mut Vec<Version>, edit: Edit) -> Result<(), AllocError>
+pub fn apply(log: &mut Vec<NotedVersion>, edit: Edit) -> Result<(), AllocError>
     ensures { OnOk result (log.new.items ≡ applied edit log.old.items) }
 {
     match edit {

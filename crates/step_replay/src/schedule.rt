@@ -9,13 +9,13 @@ ghost use Rattle.replay_rules.specs.RuledRuns.{IsRuledPlan};
 
 use crate::machine::Machine;
 use crate::text::write_end;
-use crate::turns::{Seat, Tape, new_seat};
-use mv_layout::{Place, clock_time};
+use crate::turns::{ReplaySeat, Tape, new_seat};
+use mv_layout::{SharedWord, clock_time};
 use replay_rules::{CallOf, Plan};
 use std::alloc::{AllocError, Global};
 
 // So many seats that have made no call.
-fn new_seats(alloc: Global, calls: &[CallOf], count: u32) -> Result<Vec<Seat>, AllocError>
+fn new_seats(alloc: Global, calls: &[CallOf], count: u32) -> Result<Vec<ReplaySeat>, AllocError>
     ensures { IfOk result (λ seats. seats_of calls.now seats.items ≡ new_seats calls.now 0 count) }
 {
     let mut seats = Vec::new(alloc);
@@ -44,7 +44,7 @@ pub fn replay(alloc: Global, plan: &Plan) -> Result<Vec<u8>, AllocError>
     for seat in &plan.steps {
         seats[*seat as usize].turn(config, &mut tape, &plan.calls)?;
     }
-    let time = clock_time(tape.machine.load(Place::Clock));
+    let time = clock_time(tape.machine.load(SharedWord::Clock));
     write_end(&mut tape.text, time)?;
     Ok(tape.text.into_bytes())
 }

@@ -6,7 +6,7 @@ ghost use Rattle.replay_rules.specs.Lines.{text_of_held, text_of_answer, answer_
 
 use commit_abort::Ended;
 use mv_history::{Holder, LockAnswer, Words};
-use replay_rules::{Access, Answer, Call, Reclaimed};
+use replay_rules::{Access, Call, CallAnswer, Reclaimed};
 use std::alloc::AllocError;
 use std::fmt::Write;
 
@@ -176,16 +176,16 @@ fn write_tidy(text: &mut String, tidy: &Reclaimed) -> Result<(), AllocError>
     }
 }
 
-fn write_what(text: &mut String, answer: &Answer) -> Result<(), AllocError>
+fn write_what(text: &mut String, answer: &CallAnswer) -> Result<(), AllocError>
     ensures { OnOk result (string_bytes text.new ≡ string_bytes text.old ++ text_of_answer answer.now) }
 {
     match answer {
-        Answer::Silent => Ok(()),
-        Answer::AtTime(time) => write_spaced(text, *time),
-        Answer::SixWords(words) => write_words(text, *words),
-        Answer::Locked(answer) => write_lock(text, *answer),
-        Answer::Committed(ended) => write_commit(text, *ended),
-        Answer::Tidied(tidy) => write_tidy(text, tidy),
+        CallAnswer::Silent => Ok(()),
+        CallAnswer::AtTime(time) => write_spaced(text, *time),
+        CallAnswer::SixWords(words) => write_words(text, *words),
+        CallAnswer::Locked(answer) => write_lock(text, *answer),
+        CallAnswer::Committed(ended) => write_commit(text, *ended),
+        CallAnswer::Tidied(tidy) => write_tidy(text, tidy),
     }
 }
 
@@ -194,7 +194,7 @@ pub fn write_answer(
     text: &mut String,
     seat: u32,
     call: Call,
-    answer: &Answer,
+    answer: &CallAnswer,
 ) -> Result<(), AllocError>
     ensures { OnOk result (string_bytes text.new ≡ string_bytes text.old ++ answer_line seat call answer.now) }
 {

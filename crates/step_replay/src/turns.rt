@@ -16,17 +16,17 @@ use crate::machine::Machine;
 use crate::notes::apply;
 use crate::places::{is_place, place_number};
 use crate::text::{write_answer, write_idle, write_skip, write_step};
-use mv_layout::{Config, Place};
-use replay_rules::{Access, Call, CallOf, State, Task, Then, Version};
+use mv_layout::{Config, SharedWord};
+use replay_rules::{Access, Call, CallOf, NextStep, NotedVersion, State, Then};
 use std::alloc::{AllocError, Global};
 
 /// A seat of a replay: the versions of its log, what it is at, the step that comes next where a call is under way, and
 /// how many of the plan's calls are behind it.
 #[derive(Drop)]
-pub struct Seat {
-    log: Vec<Version>,
+pub struct ReplaySeat {
+    log: Vec<NotedVersion>,
     state: State,
-    task: Option<Task>,
+    task: Option<NextStep>,
     next: usize,
 }
 
@@ -39,7 +39,7 @@ pub struct Tape {
 }
 
 // Does with the word what a step does, and answers what was there.
-fn do_access(machine: &mut Machine, place: Place, access: Access) -> u64
+fn do_access(machine: &mut Machine, place: SharedWord, access: Access) -> u64
     requires { IsPlace (config_of machine.old) place }
     ensures numbers { config_of machine.new ≡ config_of machine.old }
     ensures word { result ≡ word_at (config_of machine.old) machine.old.words.items place }
@@ -55,7 +55,7 @@ fn do_access(machine: &mut Machine, place: Place, access: Access) -> u64
 
 impl Tape {
     // Makes the step of a seat, and writes it.
-    fn make(&mut self, config: &Config, seat: u32, task: Task) -> Result<u64, AllocError>
+    fn make(&mut self, config: &Config, seat: u32, task: NextStep) -> Result<u64, AllocError>
         requires checked { Checked config.now }
         requires same { config_of self.old.machine ≡ config.now }
         requires room { self.old.made + 1 < 2 ^ 64 }
@@ -76,14 +76,14 @@ impl Tape {
     }
 }
 
-impl Seat {
+impl ReplaySeat {
     // Makes the step that comes next.
     fn step(
         &mut self,
         config: &Config,
         tape: &mut Tape,
         calls: &[CallOf],
-        task: Task,
+        task: NextStep,
     ) -> Result<(), AllocError>
         requires checked { Checked config.now }
         requires same { config_of tape.old.machine ≡ config.now }
@@ -117,7 +117,7 @@ impl Seat {
         tape: &mut Tape,
         calls: &[CallOf],
         call: Call,
-    ) -> Result<Option<Task>, AllocError>
+    ) -> Result<Option<NextStep>, AllocError>
         requires same { config_of tape.old.machine ≡ config.now }
         ensures same { config_of tape.new.machine ≡ config.now }
         ensures room { tape.new.made ≡ tape.old.made }
@@ -148,7 +148,7 @@ impl Seat {
         tape: &mut Tape,
         calls: &[CallOf],
         place: usize,
-    ) -> Result<Option<Task>, AllocError>
+    ) -> Result<Option<NextStep>, AllocError>
         requires range { place < length calls.now }
         requires same { config_of tape.old.machine ≡ config.now }
         ensures same { config_of tape.new.machine ≡ config.now }
@@ -171,7 +171,7 @@ impl Seat {
         config: &Config,
         tape: &mut Tape,
         calls: &[CallOf],
-    ) -> Result<Option<Task>, AllocError>
+    ) -> Result<Option<NextStep>, AllocError>
         requires same { config_of tape.old.machine ≡ config.now }
         ensures same { config_of tape.new.machine ≡ config.now }
         ensures room { tape.new.made ≡ tape.old.made }
@@ -211,11 +211,11 @@ impl Seat {
 }
 
 /// A seat of this number that has made no call.
-pub fn new_seat(alloc: Global, calls: &[CallOf], seat: u32) -> Seat
+pub fn new_seat(alloc: Global, calls: &[CallOf], seat: u32) -> ReplaySeat
     ensures { seat_of calls.now result ≡ new_seat calls.now seat }
 {
     let _ = calls;
-    Seat {
+    ReplaySeat {
         log: Vec::new(alloc),
         state: State {
             seat,

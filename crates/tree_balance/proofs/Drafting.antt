@@ -11,10 +11,10 @@ use Rattle.section_work.specs.Held.{count_unheld}
 use Rattle.section_work.proofs.OwnWrites.{touches-with_locks, distinct-with_locks, written-with_writes, written-with_locks}
 use Rattle.set_script.specs.Objects.{revalue}
 use Rattle.tree_set.specs.Places.{redirect}
-use Rattle.tree_balance.specs.declared.steps.Step.{Step}
-use Rattle.tree_balance.specs.declared.steps.Step.TheVariants.{Rank, Rotate}
+use Rattle.tree_balance.specs.declared.steps.BalanceStep.{BalanceStep}
+use Rattle.tree_balance.specs.declared.steps.BalanceStep.TheVariants.{Rank, Rotate}
 use Rattle.tree_balance.specs.Steps.{step_writes, IsStep, stepped, after_steps, AreSteps, names, lowered, raised}
-use Rattle.tree_balance.specs.declared.plan.Plan.{Plan}
+use Rattle.tree_balance.specs.declared.plan.WritePlan.{WritePlan}
 use Rattle.tree_balance.specs.Drafts.{writes_in, IsPlaceOf, merged_one, merged, IsDraft, Extends}
 use Rattle.tree_balance.proofs.Merging.{merged-is, merged-none, merged-distinct, touches-merged, count-less, touches-merged_one}
 
@@ -60,11 +60,11 @@ pub words_elsewhere : (s : State) (ws : Writes) (o : ℕ) → touches ws o ≡ f
 words_elsewhere s ws o out = sym (words-written_other s ws o out)
 
 -- Steps one after another.
-after_steps-push : (s : State) (steps : List Step) (x : Step) → after_steps s (steps ++ x ∷ []) ≡ stepped (after_steps s steps) x
+after_steps-push : (s : State) (steps : List BalanceStep) (x : BalanceStep) → after_steps s (steps ++ x ∷ []) ≡ stepped (after_steps s steps) x
 after_steps-push s [] x = refl
 after_steps-push s (y ∷ steps) x = after_steps-push (stepped s y) steps x
 
-are_steps-push : (s : State) (root : ℕ) (steps : List Step) (x : Step) → AreSteps s root steps → IsStep (after_steps s steps) root x
+are_steps-push : (s : State) (root : ℕ) (steps : List BalanceStep) (x : BalanceStep) → AreSteps s root steps → IsStep (after_steps s steps) root x
     → AreSteps s root (steps ++ x ∷ [])
 are_steps-push s root [] x are is = (is, tt)
 are_steps-push s root (y ∷ steps) x are is = (are.0, are_steps-push (stepped s y) root steps x are.1 is)
@@ -73,7 +73,7 @@ or_assoc : (a b c : Bool) → a || (b || c) ≡ (a || b) || c
 or_assoc true b c = refl
 or_assoc false b c = refl
 
-names-push : (s : State) (steps : List Step) (x : Step) (o : ℕ) → names (steps ++ x ∷ []) o ≡ names steps o || touches (step_writes s x) o
+names-push : (s : State) (steps : List BalanceStep) (x : BalanceStep) (o : ℕ) → names (steps ++ x ∷ []) o ≡ names steps o || touches (step_writes s x) o
 names-push s [] (Rank n r) o = refl
 names-push s [] (Rotate g p c) o = refl
 names-push s (Rank n r ∷ steps) x o =
@@ -89,7 +89,7 @@ names-push s (Rotate g p c ∷ steps) x o =
     four false false false = refl
 
 -- a draft with a further step
-draft_step : (s : State) (root : ℕ) (own ws : Writes) (x : Step) → IsStep (written s ws) root x → IsDraft s root own ws
+draft_step : (s : State) (root : ℕ) (own ws : Writes) (x : BalanceStep) → IsStep (written s ws) root x → IsDraft s root own ws
     → IsDraft s root own (merged ws (step_writes (written s ws) x))
 draft_step s root own ws x is d = record {
   steps = d.steps ++ x ∷ [];
@@ -111,7 +111,7 @@ extends_both s t root limit ws vs us e p q0 =
     let q : Extends s root limit vs us = subst (λ (u : State). Extends u root limit vs us) e q0 in
     record { drafts = λ own x. q.drafts own (p.drafts own x); distinct = q.distinct; few = λ le. q.few (p.few le) }
 
-extends_step : (s : State) (root limit : ℕ) (ws : Writes) (x : Step) (vs : Writes) → are_distinct ws ≡ true → IsStep (written s ws) root x
+extends_step : (s : State) (root limit : ℕ) (ws : Writes) (x : BalanceStep) (vs : Writes) → are_distinct ws ≡ true → IsStep (written s ws) root x
     → length ws + count_unheld ws (objects_of (step_writes (written s ws) x)) ≤ limit → vs ≡ merged ws (step_writes (written s ws) x)
     → Extends s root limit ws vs
 extends_step s root limit ws x vs d is room e = subst (λ (u : Writes). Extends s root limit ws u) (sym e) (record {
@@ -147,7 +147,7 @@ pub merged_first : (xs : Writes) (n : ℕ) → n ≡ 0 → (ws : Writes) → are
 merged_first xs n z ws d = ap (λ (m : ℕ). merged (take m xs) ws) z ∙ merged-none ws d
 
 -- a plan has as many writes as it counts
-pub count_is : (plan : Plan) → length (writes_in plan) ≡ plan.count
+pub count_is : (plan : WritePlan) → length (writes_in plan) ≡ plan.count
 count_is plan = let few : plan.count ≤ 16 = plan.few in omega (arith, length-take plan.count plan.writes, few, plan.whole)
 
 -- what was written to a plan that had nothing is all of it

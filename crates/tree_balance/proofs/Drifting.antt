@@ -9,8 +9,8 @@ use Rattle.section_work.proofs.Objects.{IsIn, in-touches}
 use Rattle.set_script.proofs.ObjectWords.{owned_in_range}
 use Rattle.tree_set.specs.Places.{IsParent}
 use Rattle.tree_set.proofs.TreeWays.{inner_same, child_same, parent_same}
-use Rattle.tree_balance.specs.declared.steps.Step.{Step}
-use Rattle.tree_balance.specs.declared.steps.Step.TheVariants.{Rank, Rotate}
+use Rattle.tree_balance.specs.declared.steps.BalanceStep.{BalanceStep}
+use Rattle.tree_balance.specs.declared.steps.BalanceStep.TheVariants.{Rank, Rotate}
 use Rattle.tree_balance.specs.Steps.{step_writes, IsStep, stepped, after_steps, AreSteps, names}
 use Rattle.tree_balance.specs.Drafts.{IsDraft}
 
@@ -49,12 +49,12 @@ or_none : (a b : Bool) → a || b ≡ false → (a ≡ false) × (b ≡ false)
 or_none true b e = absurd (true≢false e)
 or_none false b e = (refl, e)
 
-length-after_steps : (u : State) (steps : List Step) → length (after_steps u steps) ≡ length u
+length-after_steps : (u : State) (steps : List BalanceStep) → length (after_steps u steps) ≡ length u
 length-after_steps u [] = refl
 length-after_steps u (x ∷ steps) = length-after_steps (stepped u x) steps ∙ length-written u (step_writes u x)
 
 -- what no step names keeps its words
-after_other : (u : State) (steps : List Step) (o : ℕ) → names steps o ≡ false → words_at (after_steps u steps) o ≡ words_at u o
+after_other : (u : State) (steps : List BalanceStep) (o : ℕ) → names steps o ≡ false → words_at (after_steps u steps) o ≡ words_at u o
 after_other u [] o e = refl
 after_other u (Rank n r ∷ steps) o e =
     let x = or_none (eqb n o) (names steps o) e in
@@ -74,7 +74,7 @@ named_first n o rest e = or_left (eqb n o) rest (eq-eqb n o (sym e))
 
 -- Two states in which the objects of the steps have the same words.
 module _ (root : ℕ) (In : ℕ → Type 0) where
-  step_same : (u t : State) (x : Step) (steps : List Step) → ((o : ℕ) → names (x ∷ steps) o ≡ true → words_at t o ≡ words_at u o)
+  step_same : (u t : State) (x : BalanceStep) (steps : List BalanceStep) → ((o : ℕ) → names (x ∷ steps) o ≡ true → words_at t o ≡ words_at u o)
       → IsStep u root x → IsStep t root x × (step_writes t x ≡ step_writes u x)
   step_same u t (Rank n r) steps same is =
       let e = same n (named_first n n (names steps n) refl) in (inner_same u t root n e is, writes e)
@@ -94,13 +94,13 @@ module _ (root : ℕ) (In : ℕ → Type 0) where
           → step_writes t (Rotate g p c) ≡ step_writes u (Rotate g p c)
       writes eg ep ec = cc
 
-  names_later : (x : Step) (steps : List Step) (o : ℕ) → names steps o ≡ true → names (x ∷ steps) o ≡ true
+  names_later : (x : BalanceStep) (steps : List BalanceStep) (o : ℕ) → names steps o ≡ true → names (x ∷ steps) o ≡ true
   names_later (Rank n r) steps o e = or_right (eqb n o) (names steps o) e
   names_later (Rotate g p c) steps o e =
       or_right (eqb g o) (eqb p o || (eqb c o || names steps o)) (or_right (eqb p o) (eqb c o || names steps o) (or_right (eqb c o) (names steps o) e))
 
   -- The steps fit the other state too, and leave the same words of these objects.
-  steps_same : (u t : State) (steps : List Step) → length t ≡ length u → ((o : ℕ) → names steps o ≡ true → In o)
+  steps_same : (u t : State) (steps : List BalanceStep) → length t ≡ length u → ((o : ℕ) → names steps o ≡ true → In o)
       → ((o : ℕ) → In o → words_at t o ≡ words_at u o) → AreSteps u root steps
       → AreSteps t root steps × ((o : ℕ) → In o → words_at (after_steps t steps) o ≡ words_at (after_steps u steps) o)
   steps_same u t [] l are_in same are = (tt, same)
@@ -153,12 +153,12 @@ or_after false true c d = refl
 or_after false false true d = refl
 or_after false false false d = refl
 
-names_split : (u : State) (x : Step) (steps : List Step) (o : ℕ) → names (x ∷ steps) o ≡ touches (step_writes u x) o || names steps o
+names_split : (u : State) (x : BalanceStep) (steps : List BalanceStep) (o : ℕ) → names (x ∷ steps) o ≡ touches (step_writes u x) o || names steps o
 names_split u (Rank n r) steps o = or_between (eqb n o) (names steps o)
 names_split u (Rotate g p c) steps o = or_after (eqb g o) (eqb p o) (eqb c o) (names steps o)
 
 module _ (root : ℕ) (lt : root < 180) where
-  step_in_range : (u : State) (x : Step) (o : ℕ) → 180 < length u → IsStep u root x → IsIn o (objects_of (step_writes u x)) → o < length u
+  step_in_range : (u : State) (x : BalanceStep) (o : ℕ) → 180 < length u → IsStep u root x → IsIn o (objects_of (step_writes u x)) → o < length u
   step_in_range u (Rank n r) o some is (inl e) = subst (λ (z : ℕ). z < length u) (sym e) (owned_in_range u n root is.1)
   step_in_range u (Rank n r) o some is (inr i) = absurd i
   step_in_range u (Rotate g p c) o some is (inl e) =
@@ -167,7 +167,7 @@ module _ (root : ℕ) (lt : root < 180) where
   step_in_range u (Rotate g p c) o some is (inr (inr (inl e))) = subst (λ (z : ℕ). z < length u) (sym e) (owned_in_range u c root is.3.1)
   step_in_range u (Rotate g p c) o some is (inr (inr (inr i))) = absurd i
 
-  pub steps_in_range : (u : State) (steps : List Step) (o : ℕ) → 180 < length u → AreSteps u root steps → names steps o ≡ true → o < length u
+  pub steps_in_range : (u : State) (steps : List BalanceStep) (o : ℕ) → 180 < length u → AreSteps u root steps → names steps o ≡ true → o < length u
   steps_in_range u [] o some are e = absurd (true≢false (sym e))
   steps_in_range u (x ∷ steps) o some are e =
       go (touches (step_writes u x) o) refl (sym (names_split u x steps o) ∙ e)

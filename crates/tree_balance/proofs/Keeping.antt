@@ -3,8 +3,8 @@ use Rattle.std.proofs.Common.{ℕ, ◌<◌, ◌≤◌, [], ◌∷◌, refl, arit
 use Rattle.mv_history.specs.State.{State}
 use Rattle.set_script.specs.Trees.{Tree, IsTree}
 use Rattle.set_script.specs.Lawful.{IsLawful}
-use Rattle.tree_balance.specs.declared.steps.Step.{Step}
-use Rattle.tree_balance.specs.declared.steps.Step.TheVariants.{Rank, Rotate}
+use Rattle.tree_balance.specs.declared.steps.BalanceStep.{BalanceStep}
+use Rattle.tree_balance.specs.declared.steps.BalanceStep.TheVariants.{Rank, Rotate}
 use Rattle.tree_balance.specs.Steps.{IsStep, after_steps}
 use Rattle.tree_balance.specs.Laws.{KeepsTree, StepsKeepTheTree, StepsAfterAnAdd}
 use Rattle.tree_balance.proofs.Reshaping.{Rebalances, rebalances_lawful, rebalances_ends}
@@ -12,7 +12,7 @@ use Rattle.tree_balance.proofs.Stepping.{steps_rebalance}
 use Rattle.tree_balance.proofs.Balancing.{rebalances_catalogue, balanced_half}
 
 -- a tree that is empty has no step
-no_step : (s : State) (root : ℕ) (step : Step) → IsTree s root None → IsStep s root step → ⊥
+no_step : (s : State) (root : ℕ) (step : BalanceStep) → IsTree s root None → IsStep s root step → ⊥
 no_step s root (Rank n r) t is = t.1 n is.0 is.1
 no_step s root (Rotate g p c) t (above, p_inner, child, c_inner) = t.1 p p_inner.0 p_inner.1
 

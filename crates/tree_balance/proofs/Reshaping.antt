@@ -12,7 +12,7 @@ use Rattle.set_script.proofs.Frames.{IsWithin, lawful_by_tree}
 use Rattle.set_script.proofs.Ways.{IsAt}
 use Rattle.section_work.proofs.Objects.{IsIn, in_either}
 use Rattle.tree_set.specs.Paths.{Path, plug}
-use Rattle.tree_set.specs.Paths.Turn.{left, right}
+use Rattle.tree_set.specs.Paths.PathStep.{left, right}
 use Rattle.tree_set.proofs.Plugging.{IsWithin as IsBeside}
 use Rattle.tree_balance.proofs.Shapes.{IsReshaped}
 

@@ -17,8 +17,8 @@ use Rattle.tree_set.specs.Places.{IsInner, IsParent}
 use Rattle.tree_set.proofs.Replacing.{ranked}
 use Rattle.tree_set.proofs.TreeWays.{parent_at_root}
 use Rattle.tree_balance.specs.Steps.{step_writes, IsStep, stepped, after_steps, AreSteps}
-use Rattle.tree_balance.specs.declared.steps.Step.{Step}
-use Rattle.tree_balance.specs.declared.steps.Step.TheVariants.{Rank, Rotate}
+use Rattle.tree_balance.specs.declared.steps.BalanceStep.{BalanceStep}
+use Rattle.tree_balance.specs.declared.steps.BalanceStep.TheVariants.{Rank, Rotate}
 use Rattle.tree_balance.proofs.Reshaping.{Rebalances, rebalances_none, rebalances_both}
 use Rattle.tree_balance.proofs.Turning.{Rotates, rotation_rebalances}
 
@@ -121,7 +121,7 @@ step_rotates s root g p c lt some above p_inner c_inner pg cg pc = record {
     )
 
 -- A step keeps what the tree stands for,
-pub step_rebalances : (s : State) (root : ℕ) (step : Step) (t : Tree) → root < 180 → 180 < length s → IsGrown s root t → IsStep s root step
+pub step_rebalances : (s : State) (root : ℕ) (step : BalanceStep) (t : Tree) → root < 180 → 180 < length s → IsGrown s root t → IsStep s root step
     → Rebalances s (stepped s step) root
 step_rebalances s root (Rank n r) t lt some g is = rank_rebalances s root n r lt is t g
 step_rebalances s root (Rotate g p c) t lt some gr (above, p_inner, child, c_inner) =
@@ -129,7 +129,7 @@ step_rebalances s root (Rotate g p c) t lt some gr (above, p_inner, child, c_inn
     (step_rotates s root g p c lt some above p_inner c_inner)
 
 -- and so do several.
-pub steps_rebalance : (s : State) (root : ℕ) (steps : List Step) (t : Tree) → root < 180 → 180 < length s → IsGrown s root t → AreSteps s root steps
+pub steps_rebalance : (s : State) (root : ℕ) (steps : List BalanceStep) (t : Tree) → root < 180 → 180 < length s → IsGrown s root t → AreSteps s root steps
     → Rebalances s (after_steps s steps) root
 steps_rebalance s root [] t lt some g are = rebalances_none s root t g
 steps_rebalance s root (step ∷ steps) t lt some g are =

@@ -6,12 +6,12 @@ use Rattle.set_script.specs.Catalogue.{with_key}
 use Rattle.set_script.specs.CatalogueOf.{name_of, catalogue_of}
 use Rattle.set_script.specs.Lawful.{IsLawful}
 use Rattle.tree_set.specs.Places.{grow_writes}
-use Rattle.tree_balance.specs.declared.plan.Plan.{Plan}
-use Rattle.tree_balance.specs.declared.steps.Step.{Step}
+use Rattle.tree_balance.specs.declared.plan.WritePlan.{WritePlan}
+use Rattle.tree_balance.specs.declared.steps.BalanceStep.{BalanceStep}
 use Rattle.tree_balance.specs.Steps.{after_steps, AreSteps, names}
 
 -- the writes, in the order of locking
-abbrev pub writes_in : Plan → Writes
+abbrev pub writes_in : WritePlan → Writes
 writes_in plan = take plan.count plan.writes
 
 -- the first of the writes of this object is here
@@ -30,7 +30,7 @@ merged own (w ∷ ws) = merged (merged_one own w.0 w.1) ws
 -- The second writes leave the state that the first ones and some steps after them leave. They are of the objects of the first
 -- and of those that the steps name.
 pub record IsDraft (s : State) (root : ℕ) (own ws : Writes) : Type 0 where
-  pub steps : List Step
+  pub steps : List BalanceStep
   pub fits : AreSteps (written s own) root steps
   pub leaves : written s ws ≡ after_steps (written s own) steps
   pub distinct : are_distinct ws ≡ true

@@ -12,7 +12,7 @@ use Rattle.set_script.specs.Rules.{Keeps, IsSetCommit}
 use Rattle.set_script.specs.Tags.{tag_of}
 use Rattle.set_script.specs.declared.commands.Command.TheVariants.{Add, Put}
 use Rattle.tree_set.specs.Places.{IsGrowPlace, grow_writes}
-use Rattle.tree_balance.specs.declared.steps.Step.{Step}
+use Rattle.tree_balance.specs.declared.steps.BalanceStep.{BalanceStep}
 use Rattle.tree_balance.specs.Steps.{after_steps, AreSteps}
 use Rattle.tree_balance.specs.Drafts.{IsDraft}
 
@@ -29,7 +29,7 @@ pub record KeepsTree (s s' : State) (root : ℕ) : Type 0 where
 -- steps keep all that a tree stands for
 abbrev pub StepsKeepTheTree : Type 0
 StepsKeepTheTree =
-    (s : State) (root : ℕ) (steps : List Step) → 170 ≤ root → root < 180 → IsLawful s → AreSteps s root steps → KeepsTree s (after_steps s steps) root
+    (s : State) (root : ℕ) (steps : List BalanceStep) → 170 ≤ root → root < 180 → IsLawful s → AreSteps s root steps → KeepsTree s (after_steps s steps) root
 
 -- what an add and steps after it leave is what the add alone would leave: it keeps what a commit of the sets must keep, and has
 -- the key at its value

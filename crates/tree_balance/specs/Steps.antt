@@ -3,8 +3,8 @@ use Rattle.std.specs.Prelude.{ℕ, suc, ◌≡◌, ◌≤◌, Bool, false, ◌==
 use Rattle.mv_history.specs.State.{State, Writes, written}
 use Rattle.mv_history.specs.Meaning.{words_at}
 use Rattle.set_script.specs.Objects.{revalue}
-use Rattle.tree_balance.specs.declared.steps.Step.{Step}
-use Rattle.tree_balance.specs.declared.steps.Step.TheVariants.{Rank, Rotate}
+use Rattle.tree_balance.specs.declared.steps.BalanceStep.{BalanceStep}
+use Rattle.tree_balance.specs.declared.steps.BalanceStep.TheVariants.{Rank, Rotate}
 use Rattle.tree_set.specs.Places.{IsInner, IsChild, IsParent, redirect}
 
 -- the words of the parent after a rotation: the child's inner subtree stands where the child stood
@@ -18,33 +18,33 @@ raised parent_words parent child words =
     if slice_index_or parent_words 3 0 == child then set words 4 parent else set words 3 parent
 
 -- what a step writes
-abbrev pub step_writes : State → Step → Writes
+abbrev pub step_writes : State → BalanceStep → Writes
 step_writes s (Rank node rank) = (node, revalue (words_at s node) rank) ∷ []
 step_writes s (Rotate grand parent child) =
     (grand, redirect (words_at s grand) parent child) ∷ (parent, lowered (words_at s parent) child (words_at s child))
     ∷ (child, raised (words_at s parent) parent child (words_at s child)) ∷ []
 
 -- the objects of the step are inner nodes of the tree, each a child of the one before it; the grandparent may be the root
-abbrev pub IsStep : State → ℕ → Step → Type 0
+abbrev pub IsStep : State → ℕ → BalanceStep → Type 0
 IsStep s root (Rank node rank) = IsInner s root node
 IsStep s root (Rotate grand parent child) = IsParent s root grand parent × IsInner s root parent × IsChild s parent child × IsInner s root child
 
 -- the state after a step
-abbrev pub stepped : State → Step → State
+abbrev pub stepped : State → BalanceStep → State
 stepped s step = written s (step_writes s step)
 
 -- the state after several steps
-abbrev pub after_steps : State → List Step → State
+abbrev pub after_steps : State → List BalanceStep → State
 after_steps s [] = s
 after_steps s (step ∷ steps) = after_steps (stepped s step) steps
 
 -- each step fits the state that those before it leave
-abbrev pub AreSteps : State → ℕ → List Step → Type 0
+abbrev pub AreSteps : State → ℕ → List BalanceStep → Type 0
 AreSteps s root [] = ⊤
 AreSteps s root (step ∷ steps) = IsStep s root step × AreSteps (stepped s step) root steps
 
 -- whether a step names the object
-abbrev pub names : List Step → ℕ → Bool
+abbrev pub names : List BalanceStep → ℕ → Bool
 names [] o = false
 names (Rank node rank ∷ steps) o = eqb node o || names steps o
 names (Rotate grand parent child ∷ steps) o = eqb grand o || (eqb parent o || (eqb child o || names steps o))

@@ -7,8 +7,8 @@ ghost use Rattle.tree_set.specs.Forks.{EndsHere};
 ghost use Rattle.tree_set.specs.Places.{grow_writes};
 ghost use Rattle.tree_balance.specs.Drafts.{writes_in, Extends, IsAddOnWay};
 
-use crate::plan::Plan;
-use crate::steps::Step;
+use crate::plan::WritePlan;
+use crate::steps::BalanceStep;
 use crate::way::Way;
 use mv_history::{View, Words};
 use tree_set::Fork;
@@ -19,7 +19,7 @@ pub const SHORT: usize = 9;
 // The steps at one inner node of the way, and the node that is on the way above it then.
 #[derive(Clone, Copy)]
 struct Choice {
-    steps: [Step; 5],
+    steps: [BalanceStep; 5],
     count: usize,
     next: u32,
     ghost few: { count ≤ 5 },
@@ -27,7 +27,7 @@ struct Choice {
 
 // Where a climb stands: at an inner node of this rank.
 #[derive(Clone, Copy)]
-struct Place {
+struct ClimbPlace {
     node: u32,
     rank: u64,
 }
@@ -55,7 +55,7 @@ fn child_inside(parent: Words, child: u32, words: Words) -> u64 {
     }
 }
 
-impl Plan {
+impl WritePlan {
     // The object of this number, with its words once they are written, if there is such an object.
     fn look<V: View>(&self, view: &mut V, object: u64) -> Option<(u32, Words)>
         requires distinct { are_distinct (writes_in self.now) ≡ true }
@@ -91,7 +91,7 @@ impl Plan {
         let beside = rank_of(sibling);
         if above[5] <= beside.saturating_add(1) {
             let most = if here[5] < beside { beside } else { here[5] };
-            let raise = Step::Rank {
+            let raise = BalanceStep::Rank {
                 node: parent,
                 rank: most.saturating_add(1),
             };
@@ -120,12 +120,12 @@ impl Plan {
         ensures as_before { V.as_before view.old view.new }
     {
         let (inside, words) = self.look(view, child_inside(above, child, here))?;
-        let lower = Step::Rank {
+        let lower = BalanceStep::Rank {
             node: parent,
             rank: above[5].saturating_sub(1),
         };
         if words[1] != 2 || here[5] >= words[5].saturating_add(2) {
-            let turn = Step::Rotate {
+            let turn = BalanceStep::Rotate {
                 grand,
                 parent,
                 child,
@@ -139,21 +139,21 @@ impl Plan {
         if self.count() + 4 > limit {
             return None;
         }
-        let first = Step::Rotate {
+        let first = BalanceStep::Rotate {
             grand: parent,
             parent: child,
             child: inside,
         };
-        let second = Step::Rotate {
+        let second = BalanceStep::Rotate {
             grand,
             parent,
             child: inside,
         };
-        let raise = Step::Rank {
+        let raise = BalanceStep::Rank {
             node: inside,
             rank: words[5].saturating_add(1),
         };
-        let lower_child = Step::Rank {
+        let lower_child = BalanceStep::Rank {
             node: child,
             rank: here[5].saturating_sub(1),
         };
@@ -175,7 +175,7 @@ impl Plan {
         child: u32,
         above: Words,
         limit: usize,
-    ) -> Option<Place>
+    ) -> Option<ClimbPlace>
         requires root_in { root < 180 }
         requires limit { limit ≤ 16 }
         requires distinct { are_distinct (writes_in self.old) ≡ true }
@@ -187,7 +187,7 @@ impl Plan {
             return None;
         }
         let (node, words) = self.look(view, choice.next as u64)?;
-        Some(Place {
+        Some(ClimbPlace {
             node,
             rank: words[5],
         })
@@ -201,10 +201,10 @@ impl Plan {
         root: u32,
         grand: u32,
         parent: u32,
-        at: Place,
+        at: ClimbPlace,
         falls: bool,
         limit: usize,
-    ) -> Option<Place>
+    ) -> Option<ClimbPlace>
         requires root_in { root < 180 }
         requires limit { limit ≤ 16 }
         requires distinct { are_distinct (writes_in self.old) ≡ true }
@@ -218,7 +218,7 @@ impl Plan {
         if falls {
             return None;
         }
-        Some(Place {
+        Some(ClimbPlace {
             node: parent,
             rank: above[5],
         })
@@ -232,7 +232,7 @@ impl Plan {
         ensures extends { Extends (V.state view.old) root limit (writes_in self.old) (writes_in self.new) }
         ensures as_before { V.as_before view.old view.new }
     {
-        let first = Step::Rank {
+        let first = BalanceStep::Rank {
             node: from,
             rank: 1,
         };
@@ -241,7 +241,7 @@ impl Plan {
         }
         let falls = way.falls();
         let way = way.objects();
-        let mut at = Place {
+        let mut at = ClimbPlace {
             node: from,
             rank: 1,
         };
@@ -291,7 +291,7 @@ impl Plan {
 /// A commit of these writes is an add. Where the way has at most [`SHORT`] objects the writes are
 /// those of the add alone.
 pub fn plan_add<V: View>(
-    plan: &mut Plan,
+    plan: &mut WritePlan,
     view: &mut V,
     root: u32,
     key: u32,

@@ -4,7 +4,7 @@
 //! # The model
 //!
 //! An inner node of a tree has a rank, its sixth word, which is advice: a tree is lawful with any. A leaf
-//! has rank 0. A step ([`Step`]) gives an inner node another rank, or lets it take the place of its
+//! has rank 0. A step ([`BalanceStep`]) gives an inner node another rank, or lets it take the place of its
 //! parent; a double rotation is two steps. By such steps a tree is kept short as relaxed AVL trees are
 //! (Sen, Tarjan and Kim, "Deletion without rebalancing in binary search trees", ACM Transactions on
 //! Algorithms, 2016): where a node's rank isn't below that of its parent, the parent gets a higher one,
@@ -54,6 +54,6 @@ mod way;
 
 pub use balance::{SHORT, plan_add};
 pub use laws::{adds_with_steps_are_fit, steps_after_an_add, steps_keep_the_tree};
-pub use plan::Plan;
-pub use steps::Step;
+pub use plan::WritePlan;
+pub use steps::BalanceStep;
 pub use way::{MOST_REMEMBERED, Way, find_way};

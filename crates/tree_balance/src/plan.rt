@@ -6,27 +6,27 @@ ghost use Rattle.mv_history.specs.Meaning.{words_at};
 ghost use Rattle.section_work.specs.OwnWrites.{objects_of};
 ghost use Rattle.section_work.specs.Held.{count_unheld};
 
-use crate::steps::{Step, is_child, is_inner, is_parent, lowered, raised, redirected};
+use crate::steps::{BalanceStep, is_child, is_inner, is_parent, lowered, raised, redirected};
 use mv_history::{View, Words};
 
 /// The objects to lock, in this order, each with the words to write: at most 16. No change of the sets writes more of them:
 /// a move writes 5, and an add to a tree as many more than its own 4 as [`plan_add`](crate::plan_add) is told.
 #[derive(Drop)]
-pub struct Plan {
+pub struct WritePlan {
     writes: [(u32, Words); 16],
     count: usize,
     ghost few: { count ≤ 16 },
     ghost whole: { length writes ≡ 16 },
 }
 
-impl Plan {
+impl WritePlan {
     ghost use Rattle.tree_balance.specs.Drafts.{writes_in, IsPlaceOf, merged_one, merged, Extends};
 
     /// No writes.
-    pub fn nothing() -> Plan
+    pub fn nothing() -> WritePlan
         ensures count { result.count ≡ 0 }
     {
-        Plan {
+        WritePlan {
             writes: [(0, [0; 6]); 16],
             count: 0,
         }
@@ -187,7 +187,7 @@ impl Plan {
     }
 
     // Makes the step. Whether it did.
-    fn take<V: View>(&mut self, view: &mut V, root: u32, step: Step, limit: usize) -> bool
+    fn take<V: View>(&mut self, view: &mut V, root: u32, step: BalanceStep, limit: usize) -> bool
         requires root_in { root < 180 }
         requires limit { limit ≤ 16 }
         requires distinct { are_distinct (writes_in self.old) ≡ true }
@@ -195,8 +195,8 @@ impl Plan {
         ensures as_before { V.as_before view.old view.new }
     {
         match step {
-            Step::Rank { node, rank } => self.rank(view, root, node, rank, limit),
-            Step::Rotate {
+            BalanceStep::Rank { node, rank } => self.rank(view, root, node, rank, limit),
+            BalanceStep::Rotate {
                 grand,
                 parent,
                 child,
@@ -209,7 +209,7 @@ impl Plan {
         &mut self,
         view: &mut V,
         root: u32,
-        steps: &[Step],
+        steps: &[BalanceStep],
         limit: usize,
     ) -> bool
         requires root_in { root < 180 }

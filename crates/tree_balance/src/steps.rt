@@ -7,7 +7,7 @@ use mv_history::Words;
 
 /// A step by which a tree is rebalanced. It changes links and ranks of inner nodes alone.
 #[derive(Clone, Copy)]
-pub enum Step {
+pub enum BalanceStep {
     /// Gives an inner node this rank.
     Rank { node: u32, rank: u64 },
     /// Lets an inner node take the place of its parent, which is an inner node too, under the

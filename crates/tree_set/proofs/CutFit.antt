@@ -16,7 +16,7 @@ use Rattle.set_script.proofs.TreeMaps.{seek_leaf}
 use Rattle.set_script.proofs.Written.{distinct-objects_of}
 use Rattle.set_script.proofs.Halves.{Half}
 use Rattle.set_script.proofs.Ways.{Has}
-use Rattle.tree_set.specs.Paths.{Turn, Path, plug, node_of, parent_of, Follows}
+use Rattle.tree_set.specs.Paths.{PathStep, Path, plug, node_of, parent_of, Follows}
 use Rattle.tree_set.specs.Places.{IsParent, IsLeaf, IsCutPlace, cut_writes}
 use Rattle.tree_set.proofs.Plugging.{path_to, stands_part, distinct_part, seek_plug}
 use Rattle.tree_set.proofs.Around.{part_owner, parent_at, part_not_parent, at_in_range}
@@ -58,7 +58,7 @@ path_to_leaf s root k l t g is = (r.3, r.0, subst (λ (j : ℕ). IsGrown s root 
 
 -- The last turn of the search's path, where the place of a del is.
 pub cut_twig : (s : State) (root k g p l : ℕ) → IsLawful s → 170 ≤ root → root < 180 → IsCutPlace s root k g p l
-    → (x : ℕ) × (ps : Path) × (q : Turn) × IsTwig s root k g p l x ps q
+    → (x : ℕ) × (ps : Path) × (q : PathStep) × IsTwig s root k g p l x ps q
 cut_twig s root k g p l law lo lt place =
     let t = tree_with s root l law lo lt place.is_leaf.0 place.is_leaf.1 in
     let r = path_to_leaf s root k l t.0 t.1 place.is_leaf in
@@ -66,7 +66,7 @@ cut_twig s root k g p l law lo lt place =
     from r.0 r.1 r.2 r.3 e
   where
     from : (x : ℕ) (qs : Path) → IsGrown s root (plug qs (leaf l k x)) → Follows k qs → parent_of root qs ≡ p
-        → (x : ℕ) × (ps : Path) × (q : Turn) × IsTwig s root k g p l x ps q
+        → (x : ℕ) × (ps : Path) × (q : PathStep) × IsTwig s root k g p l x ps q
     from x [] grown f e = let up : 180 ≤ p = place.is_inner.0 in absurd (omega arith)
     from x (t ∷ qs) grown f e =
         let r = last_turn t qs in
@@ -88,7 +88,7 @@ cut_twig s root k g p l law lo lt place =
           },
         )
 
-module _ (s : State) (root k g p l x : ℕ) (ps : Path) (q : Turn) (law : IsLawful s) (lt : root < 180) (a : IsTwig s root k g p l x ps q) where
+module _ (s : State) (root k g p l x : ℕ) (ps : Path) (q : PathStep) (law : IsLawful s) (lt : root < 180) (a : IsTwig s root k g p l x ps q) where
   parent_part : IsIn p (objects_in (plug (q ∷ []) (leaf l k x)))
   parent_part = subst (λ (o : ℕ). IsIn o (objects_in (plug (q ∷ []) (leaf l k x)))) a.parent (turn_in q (leaf l k x))
 
@@ -124,7 +124,7 @@ pub cut_half : (s : State) (root k v g p l : ℕ) → IsLawful s → 170 ≤ roo
 cut_half s root k v g p l law lo lt place val =
     let r = cut_twig s root k g p l law lo lt place in from r.0 r.1 r.2 r.3
   where
-    from : (x : ℕ) (ps : Path) (q : Turn) → IsTwig s root k g p l x ps q
+    from : (x : ℕ) (ps : Path) (q : PathStep) → IsTwig s root k g p l x ps q
         → Half s (written s (cut_writes s g p l)) (cut_writes s g p l) root (Has k v) (take_out k)
     from x ps q a =
         let s' : State = written s (cut_writes s g p l) in

@@ -13,8 +13,8 @@ use Rattle.set_script.proofs.MapParts.{take_out-behind}
 use Rattle.section_work.proofs.Objects.{IsIn}
 use Rattle.set_script.proofs.TreeShape.{Stands-same, only_in}
 use Rattle.set_script.proofs.TreeMaps.{leaf_value}
-use Rattle.tree_set.specs.Paths.{Turn, Path, plug, node_of, parent_of, Follows, around, before, after}
-use Rattle.tree_set.specs.Paths.Turn.{left, right}
+use Rattle.tree_set.specs.Paths.{PathStep, Path, plug, node_of, parent_of, Follows, around, before, after}
+use Rattle.tree_set.specs.Paths.PathStep.{left, right}
 use Rattle.tree_set.specs.Places.{redirect, sibling}
 use Rattle.tree_set.proofs.Plugging.{part_in, plug_in, plug_apart, distinct_part, stands_part, ordered_part, ordered_within, entries_plug}
 use Rattle.tree_set.proofs.Plugging.{before_under, seek_plug, seek_beside}
@@ -31,14 +31,14 @@ pub record Prunes (s s' : State) (g p l : ℕ) : Type 0 where
   pub others : (o : ℕ) → o ≢ g → o ≢ p → o ≢ l → words_at s' o ≡ words_at s o
 
 -- The leaf l behind the last turn of the search's path, at the parent p, and the grandparent g before it.
-pub record IsTwig (s : State) (root k g p l x : ℕ) (ps : Path) (q : Turn) : Type 0 where
+pub record IsTwig (s : State) (root k g p l x : ℕ) (ps : Path) (q : PathStep) : Type 0 where
   pub grown : IsGrown s root (plug ps (plug (q ∷ []) (leaf l k x)))
   pub follows : Follows k ps
   pub turns : Follows k (q ∷ [])
   pub grand : parent_of root ps ≡ g
   pub parent : node_of q ≡ p
 
-module _ (s s' : State) (root k g p l x : ℕ) (ps : Path) (q : Turn) (lt : root < 180) (a : IsTwig s root k g p l x ps q) (c : Prunes s s' g p l) where
+module _ (s s' : State) (root k g p l x : ℕ) (ps : Path) (q : PathStep) (lt : root < 180) (a : IsTwig s root k g p l x ps q) (c : Prunes s s' g p l) where
   stood : Stands s root (plug (q ∷ []) (leaf l k x))
   stood = stands_part s root ps (plug (q ∷ []) (leaf l k x)) a.grown.stands
 
@@ -155,7 +155,7 @@ module _ (s s' : State) (root k g p l x : ℕ) (ps : Path) (q : Turn) (lt : root
   ]
 
 -- the entries without that of the leaf
-pub entries_cut : (s : State) (root k g p l x : ℕ) (ps : Path) (q : Turn) → IsTwig s root k g p l x ps q
+pub entries_cut : (s : State) (root k g p l x : ℕ) (ps : Path) (q : PathStep) → IsTwig s root k g p l x ps q
     → entries_in (plug ps (beside q)) ≡ take_out k (entries_in (plug ps (plug (q ∷ []) (leaf l k x))))
 entries_cut s root k g p l x ps q a =
     entries_plug ps (beside q)
@@ -163,11 +163,11 @@ entries_cut s root k g p l x ps q a =
     ∙ sym (take_out-behind k (before ps) (entries_in (plug (q ∷ []) (leaf l k x)) ++ after ps)
     (before_under k ps (plug (q ∷ []) (leaf l k x)) a.grown.ordered a.follows)) ∙ ap (take_out k) (sym (entries_plug ps (plug (q ∷ []) (leaf l k x))))
 
-leaf_words_of : (s : State) (root : ℕ) (q : Turn) (l k x : ℕ) → Stands s root (plug (q ∷ []) (leaf l k x)) → Stands s root (leaf l k x)
+leaf_words_of : (s : State) (root : ℕ) (q : PathStep) (l k x : ℕ) → Stands s root (plug (q ∷ []) (leaf l k x)) → Stands s root (leaf l k x)
 leaf_words_of s root (left n d b) l k x q = q.3
 leaf_words_of s root (right n d a) l k x q = q.4
 
-pub twig_value : (s : State) (root k g p l x : ℕ) (ps : Path) (q : Turn) → IsTwig s root k g p l x ps q
+pub twig_value : (s : State) (root k g p l x : ℕ) (ps : Path) (q : PathStep) → IsTwig s root k g p l x ps q
     → value_of k (entries_in (plug ps (plug (q ∷ []) (leaf l k x)))) ≡ Some (value s l)
 twig_value s root k g p l x ps q a =
     let w = (leaf_words_of s root q l k x (stands_part s root ps (plug (q ∷ []) (leaf l k x)) a.grown.stands)).2 in

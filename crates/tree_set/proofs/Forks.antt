@@ -17,7 +17,7 @@ use Rattle.set_script.proofs.MapLemmas.{value_of-above}
 use Rattle.set_script.proofs.MapParts.{IsUnderKey, has_key-at, value_of-behind, next_key-behind}
 use Rattle.set_script.proofs.TreeMaps.{map_of-tree, map_of-empty}
 use Rattle.tree_set.specs.Paths.{Path, plug, right_of, before, after}
-use Rattle.tree_set.specs.Paths.Turn.{left, right}
+use Rattle.tree_set.specs.Paths.PathStep.{left, right}
 use Rattle.tree_set.specs.Walks.{IsFork, IsSubtree, first_key}
 use Rattle.tree_set.proofs.Plugging.{stands_part, entries_plug, before_under, after_above}
 use Rattle.tree_set.proofs.Walking.{few_nodes}

@@ -13,7 +13,7 @@ use Rattle.section_work.proofs.Objects.{IsIn}
 use Rattle.set_script.proofs.TreeShape.{is_in-none, only_in}
 use Rattle.set_script.proofs.Ways.{IsVacant}
 use Rattle.tree_set.specs.Paths.{Path, plug, parent_of, Follows, around}
-use Rattle.tree_set.specs.Paths.Turn.{left, right}
+use Rattle.tree_set.specs.Paths.PathStep.{left, right}
 use Rattle.tree_set.specs.Places.{redirect, inner_over}
 use Rattle.tree_set.proofs.Plugging.{plug_in, plug_apart, stands_part, IsWithin as IsBeside, ordered_within, seek_plug, seek_beside}
 use Rattle.tree_set.proofs.Around.{around_owner, parent_at, part_not_parent, owned_not_vacant}

@@ -11,8 +11,8 @@ use Rattle.section_work.proofs.Objects.{IsIn, in_left, in_right, in_either}
 use Rattle.set_script.proofs.TreeShape.{not_in, is_in-none, distinct_left, distinct_right, distinct_apart}
 use Rattle.set_script.proofs.TreeShape.{distinct_join, seek_left, seek_right}
 use Rattle.set_script.proofs.TreeMaps.{below_entries, from_entries}
-use Rattle.tree_set.specs.Paths.{Turn, Path, plug, node_of, parent_of, Follows, around, before, after}
-use Rattle.tree_set.specs.Paths.Turn.{left, right}
+use Rattle.tree_set.specs.Paths.{PathStep, Path, plug, node_of, parent_of, Follows, around, before, after}
+use Rattle.tree_set.specs.Paths.PathStep.{left, right}
 
 -- The objects of the tree are those of the part and those around it.
 pub around_in : (ps : Path) (u : Tree) (o : ℕ) → IsIn o (around ps) → IsIn o (objects_in (plug ps u))
@@ -118,11 +118,11 @@ ordered_part [] u o = o
 ordered_part (left n d b ∷ ps) u o = ordered_part ps u o.2
 ordered_part (right n d a ∷ ps) u o = ordered_part ps u o.3
 
-pub top_plug : (p : Turn) (ps : Path) (u : Tree) → top (plug (p ∷ ps) u) ≡ node_of p
+pub top_plug : (p : PathStep) (ps : Path) (u : Tree) → top (plug (p ∷ ps) u) ≡ node_of p
 top_plug (left n d b) ps u = refl
 top_plug (right n d a) ps u = refl
 
-pub parent_in : (parent : ℕ) (p : Turn) (ps : Path) → IsIn (parent_of parent (p ∷ ps)) (around (p ∷ ps))
+pub parent_in : (parent : ℕ) (p : PathStep) (ps : Path) → IsIn (parent_of parent (p ∷ ps)) (around (p ∷ ps))
 parent_in parent (left n d b) [] = inl refl
 parent_in parent (right n d a) [] = inl refl
 parent_in parent (left n d b) (q ∷ ps) = inr (in_left (around (q ∷ ps)) (objects_in b) _ (parent_in n q ps))

@@ -19,7 +19,7 @@ use Rattle.set_script.proofs.TreeShape.{only_in}
 use Rattle.set_script.proofs.Halves.{Half}
 use Rattle.set_script.proofs.Ways.{HasOther}
 use Rattle.tree_set.specs.Paths.{Path, plug, parent_of, Follows, around, before, after}
-use Rattle.tree_set.specs.Paths.Turn.{left, right}
+use Rattle.tree_set.specs.Paths.PathStep.{left, right}
 use Rattle.list_set.specs.Places.{put_writes}
 use Rattle.tree_set.specs.Places.{IsLeaf, IsParent}
 use Rattle.tree_set.proofs.Plugging.{plug_in, plug_apart, stands_part, IsWithin as IsBeside, ordered_within, entries_plug, before_under, seek_plug, seek_beside}

@@ -12,8 +12,8 @@ use Rattle.set_script.proofs.ObjectWords.{word}
 use Rattle.section_work.proofs.Objects.{IsIn, in_left, in_right, in_either}
 use Rattle.set_script.proofs.TreeShape.{not_in, is_in-from, distinct_left, distinct_right, distinct_apart, top_in}
 use Rattle.set_script.proofs.TreeShape.{child_in, only_in, Stands-same, Stands-node}
-use Rattle.tree_set.specs.Paths.{Turn, Path, plug, parent_of, around}
-use Rattle.tree_set.specs.Paths.Turn.{left, right}
+use Rattle.tree_set.specs.Paths.{PathStep, Path, plug, parent_of, around}
+use Rattle.tree_set.specs.Paths.PathStep.{left, right}
 use Rattle.tree_set.specs.Places.{IsInner, IsChild, IsParent, redirect}
 use Rattle.tree_set.proofs.Plugging.{around_in, part_in, top_plug, parent_in, IsWithin, ordered_plug, distinct_plug}
 
@@ -148,7 +148,7 @@ child_not_top s root (inner n d a b) q dis p (inr i) z c = elim (in_either (obje
 ]
 
 -- the top of a longer path is not that of the part
-top_apart : (p : Turn) (ps : Path) (u : Tree) → IsDistinct (objects_in (plug (p ∷ ps) u)) → top (plug (p ∷ ps) u) ≢ top u
+top_apart : (p : PathStep) (ps : Path) (u : Tree) → IsDistinct (objects_in (plug (p ∷ ps) u)) → top (plug (p ∷ ps) u) ≢ top u
 top_apart (left n d b) ps u dis e =
     not_in n (objects_in (plug ps u) ++ objects_in b) dis.0
     (in_left (objects_in (plug ps u)) (objects_in b) n (subst (λ (x : ℕ). IsIn x (objects_in (plug ps u))) (sym e) (part_in ps u (top u) (top_in u))))
@@ -194,7 +194,7 @@ parent_is s root ps u g p (inr (i, c)) =
     inner_parent s root root ps u g.stands g.distinct p (only_in s root (plug ps u) g p i.0 i.1) i.2 c
 
 -- and it does lead to the part
-inner_leads : (s : State) (root parent : ℕ) (p : Turn) (ps : Path) (u : Tree) → Stands s root (plug (p ∷ ps) u)
+inner_leads : (s : State) (root parent : ℕ) (p : PathStep) (ps : Path) (u : Tree) → Stands s root (plug (p ∷ ps) u)
     → IsInner s root (parent_of parent (p ∷ ps)) × IsChild s (parent_of parent (p ∷ ps)) (top u)
 inner_leads s root parent (left n d b) [] u q = ((q.0, ap (word 0) q.2, ap (word 1) q.2), inl (ap (word 3) q.2))
 inner_leads s root parent (right n d a) [] u q = ((q.0, ap (word 0) q.2, ap (word 1) q.2), inr (ap (word 4) q.2))

@@ -14,7 +14,7 @@ use Rattle.set_script.specs.Lawful.{IsLawful}
 use Rattle.set_script.proofs.ObjectWords.{word, owned_in_range}
 use Rattle.set_script.proofs.TreeShape.{IsIn-from, top_in, Stands-owner}
 use Rattle.tree_set.specs.Paths.{Path, plug, right_of, Follows}
-use Rattle.tree_set.specs.Paths.Turn.{left, right}
+use Rattle.tree_set.specs.Paths.PathStep.{left, right}
 use Rattle.tree_set.specs.Walks.{nodes_under, walk_left, IsDescent, IsFork, IsSubtree, IsLeftmost, first_key}
 use Rattle.tree_set.proofs.Plugging.{stands_part}
 use Rattle.tree_set.proofs.Turns.{plug_last, parent_last, grand_last}

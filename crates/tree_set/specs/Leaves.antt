@@ -4,7 +4,7 @@ use Rattle.std.specs.Prelude.{◌∷◌, ◌++◌, length, slice_index_or, Optio
 use Rattle.mv_history.specs.State.{State}
 use Rattle.set_script.specs.Catalogue.{Map}
 use Rattle.tree_set.specs.declared.leaves.Leaves.{Leaves}
-use Rattle.tree_set.specs.declared.leaves.Entry.{Entry}
+use Rattle.tree_set.specs.declared.leaves.Leaf.{Leaf}
 use Rattle.set_script.specs.Trees.{Tree, top, objects_in, entries_in, Stands}
 use Rattle.tree_set.specs.Walks.{walk_left}
 
@@ -55,7 +55,7 @@ pub record IsPassed (s : State) (table : List ℕ) (node held : ℕ) (m : Map) (
   pub walk : IsWalk s table node held rest
 
 -- a walk that had these entries to pass, after one more was asked for, by the answer
-abbrev pub AfterNext : State → List ℕ → Leaves → Map → Option Entry → Type 0
+abbrev pub AfterNext : State → List ℕ → Leaves → Map → Option Leaf → Type 0
 AfterNext s table walk m None = IsStopped s table walk.node walk.held m
 AfterNext s table walk m (Some e) = IsPassed s table walk.node walk.held m e.key e.value
 

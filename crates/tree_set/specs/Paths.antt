@@ -5,13 +5,13 @@ use Rattle.set_script.specs.Trees.{Tree, top, objects_in, entries_in}
 use Rattle.set_script.specs.Trees.Tree.{inner}
 
 -- one turn at an inner node, with its dividing key and the tree on the side that is not taken
-pub data Turn : Type 0 where
-  left : ℕ → ℕ → Tree → Turn
-  right : ℕ → ℕ → Tree → Turn
+pub data PathStep : Type 0 where
+  left : ℕ → ℕ → Tree → PathStep
+  right : ℕ → ℕ → Tree → PathStep
 
 -- the turns from the root of a tree down to a part of it
 abbrev pub Path : Type 0
-Path = List Turn
+Path = List PathStep
 
 -- the tree with this part at the end of the path
 abbrev pub plug : Path → Tree → Tree
@@ -20,7 +20,7 @@ plug (left n d b ∷ ps) u = inner n d (plug ps u) b
 plug (right n d a ∷ ps) u = inner n d a (plug ps u)
 
 -- the inner node of a turn
-abbrev pub node_of : Turn → ℕ
+abbrev pub node_of : PathStep → ℕ
 node_of (left n d b) = n
 node_of (right n d a) = n
 

@@ -9,7 +9,7 @@ use mv_history::View;
 
 /// A leaf's key and value.
 #[derive(Clone, Copy, Debug, PartialEq, Eq)]
-pub struct Entry {
+pub struct Leaf {
     pub key: u32,
     pub value: u64,
 }
@@ -53,7 +53,7 @@ impl Leaves {
     /// begins with the same links.
     ///
     /// It reads the inner nodes down to the leaf, and the leaf. It never refuses, and takes no memory.
-    pub fn next<V: View>(&mut self, view: &mut V, pending: &mut [u32]) -> Option<Entry>
+    pub fn next<V: View>(&mut self, view: &mut V, pending: &mut [u32]) -> Option<Leaf>
         requires lawful { IsLawful (V.state view.old) }
         requires walk { (m : Map) × Passes (V.state view.old) pending.old self.old m }
         ensures next { (m : Map) → Passes (V.state view.old) pending.old self.old m → AfterNext (V.state view.old) pending.new self.new m result }
@@ -79,7 +79,7 @@ impl Leaves {
             self.held -= 1;
             self.node = pending[self.held];
         }
-        Some(Entry {
+        Some(Leaf {
             key: words[2] as u32,
             value: words[5],
         })

@@ -58,7 +58,7 @@ mod sizes;
 mod writes;
 
 pub use changes::{add_in, del_in, put_in};
-pub use leaves::{Entry, Leaves};
+pub use leaves::{Leaf, Leaves};
 pub use reads::{empty_in, get_in, has_in, next_in};
 pub use search::{Fork, find};
 pub use sizes::size_in;

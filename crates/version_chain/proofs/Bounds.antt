@@ -4,14 +4,14 @@ use Rattle.std.proofs.Common.{if◌then◌else◌, length, sym, ap, ◌∙◌, s
 use Rattle.std.proofs.lemmas.Bool.{lt-leb, cases_lt}
 use Rattle.mv_layout.specs.declared.Config.{Config}
 use Rattle.mv_layout.specs.Words.{IsUnset}
-use Rattle.mv_core.specs.declared.view.View.{View}
-use Rattle.mv_core.specs.declared.view.Walk as core
-use Rattle.mv_core.specs.declared.view.Walk.TheVariants as place
+use Rattle.mv_core.specs.declared.view.Knowledge.{Knowledge}
+use Rattle.mv_core.specs.declared.view.WalkStage as core
+use Rattle.mv_core.specs.declared.view.WalkStage.TheVariants as place
 use Rattle.mv_core.specs.declared.view.Passed.{Passed}
 use Rattle.mv_core.specs.declared.view.Passed.TheVariants.{Nothing, Unset, Time}
 use Rattle.mv_core.specs.WalkFacts.{HasPassed, IsBelowPassed}
 use Rattle.mv_core.specs.WalkSteps.{stand_at, passed_unset, passed_too}
-use Rattle.mv_core.specs.declared.view.Section.{Section}
+use Rattle.mv_core.specs.declared.view.OwnSection.{OwnSection}
 use Rattle.mv_core.specs.WalkSteps.{head_loaded}
 use Rattle.version_chain.specs.declared.walking.Walk.{Walk}
 use Rattle.version_chain.specs.declared.walking.FoundVersion.{FoundVersion}
@@ -26,7 +26,7 @@ PassedWithin base at long Unset before after = after ≤ before + 4
 PassedWithin base at long (Time least) before after = (base + at < least) × (least ≤ base + long) × (after ≤ before + (7 + 3 * (base + long - least)))
 
 -- the same of where the walk stands
-abbrev pub WalkedWithin : ℕ → ℕ → ℕ → core.Walk → ℕ → ℕ → Type 0
+abbrev pub WalkedWithin : ℕ → ℕ → ℕ → core.WalkStage → ℕ → ℕ → Type 0
 WalkedWithin base at long (place.At stand) before after = PassedWithin base at long stand.passed before after
 WalkedWithin base at long _ before after = after ≤ before + (4 + 3 * (long - at))
 
@@ -37,7 +37,7 @@ passed_left Unset = 9223372036854775808
 passed_left (Time least) = least
 
 -- the same of where the walk stands; at a master nothing is left
-abbrev pub walk_left : core.Walk → ℕ
+abbrev pub walk_left : core.WalkStage → ℕ
 walk_left (place.At stand) = 1 + passed_left stand.passed
 walk_left _ = 0
 
@@ -48,7 +48,7 @@ passed_few base at long Unset before after few = omega arith
 passed_few base at long (Time least) before after few = let a = few.0 in let b = few.1 in let d = few.2 in omega arith
 
 -- wherever it stands, a walk may look at one version more
-pub few_steps : (base at long : ℕ) (walk : core.Walk) (before after : ℕ) → WalkedWithin base at long walk before after → after ≤ before +
+pub few_steps : (base at long : ℕ) (walk : core.WalkStage) (before after : ℕ) → WalkedWithin base at long walk before after → after ≤ before +
     (4 + 3 * (long - at))
 few_steps base at long (place.At stand) before after few = passed_few base at long stand.passed before after few
 few_steps base at long (place.Master o) before after few = few
@@ -114,7 +114,7 @@ module _ (base at time long longer found before here after : ℕ) (at_is : at �
       ]
 
 -- a walk that goes on has made three steps more, and less is left
-pub went_on : (c : Config) (v w : View) (walk on : Walk) (at before here after : ℕ) → StandsAt c v walk → GoesOn c v w walk on → after ≡ here + 3
+pub went_on : (c : Config) (v w : Knowledge) (walk on : Walk) (at before here after : ℕ) → StandsAt c v walk → GoesOn c v w walk on → after ≡ here + 3
     → at ≡ snapshot_length c v → WalkedWithin c.base at (length v.past.seen) v.walk before here
     → WalkedWithin c.base at (length w.past.seen) w.walk before after × (walk_left w.walk < walk_left v.walk)
 went_on c v w walk on at before here after stands goes steps at_is few =
@@ -122,26 +122,26 @@ went_on c v w walk on at before here after stands goes steps at_is few =
     let is : v.walk ≡ place.At stand = stand_is v _ (stands_here v walk.object walk.link stand.passed goes.linked stands.stands) in
     let longer : length v.past.seen ≤ length w.past.seen =
     let more = goes.says.sees.more in let l = ap length more.1 ∙ length-append v.past.seen more.0 in omega arith in
-    let on_is : w.walk ≡ stand_at stand.object on.link (passed_too stand.passed (Some goes.found)) false = ap (λ (u : View). u.walk) goes.view in
+    let on_is : w.walk ≡ stand_at stand.object on.link (passed_too stand.passed (Some goes.found)) false = ap (λ (u : Knowledge). u.walk) goes.view in
     let t = passes c.base at (time_at v) (length v.past.seen) (length w.past.seen) goes.found before here after at_is steps longer
     (λ low. ((goes.says.write low).1.0, goes.says.sees.time low))
-    stand.passed (subst (λ (k : core.Walk). WalkedWithin c.base at (length v.past.seen) k before here) is few) goes.says.falls goes.later in (
-      subst (λ (k : core.Walk). WalkedWithin c.base at (length w.past.seen) k before after) (sym on_is)
+    stand.passed (subst (λ (k : core.WalkStage). WalkedWithin c.base at (length v.past.seen) k before here) is few) goes.says.falls goes.later in (
+      subst (λ (k : core.WalkStage). WalkedWithin c.base at (length w.past.seen) k before after) (sym on_is)
           (stands_within c.base at (length w.past.seen) stand.object on.link (passed_too stand.passed (Some goes.found)) before after t.0),
-      subst (λ (k : core.Walk). walk_left w.walk < walk_left k) (sym is)
-          (subst (λ (k : core.Walk). walk_left k < 1 + passed_left stand.passed) (sym on_is)
+      subst (λ (k : core.WalkStage). walk_left w.walk < walk_left k) (sym is)
+          (subst (λ (k : core.WalkStage). walk_left k < 1 + passed_left stand.passed) (sym on_is)
           (left_below stand.object on.link (passed_left stand.passed) (passed_too stand.passed (Some goes.found)) t.1)),
     )
 
 -- HEAD was loaded
-pub started_within : (c : Config) (v w : View) (inside : Section) (object link at before after : ℕ) → w ≡ head_loaded c v inside object link
+pub started_within : (c : Config) (v w : Knowledge) (inside : OwnSection) (object link at before after : ℕ) → w ≡ head_loaded c v inside object link
     → after ≡ before + 1 → WalkedWithin c.base at (length w.past.seen) w.walk before after
 started_within c v w inside object link at before after is one =
-    subst (λ (k : core.Walk). WalkedWithin c.base at (length w.past.seen) k before after) (sym (ap (λ (u : View). u.walk) is))
+    subst (λ (k : core.WalkStage). WalkedWithin c.base at (length w.past.seen) k before after) (sym (ap (λ (u : Knowledge). u.walk) is))
     (stands_within c.base at (length w.past.seen) object link Nothing before after (let le : after ≤ before + 1 = omega arith in le))
 
 -- and where it ends it has made at most two more
-pub ends_within : (c : Config) (v w : View) (walk : Walk) (at before here after : ℕ) (found : Option FoundVersion)
+pub ends_within : (c : Config) (v w : Knowledge) (walk : Walk) (at before here after : ℕ) (found : Option FoundVersion)
     → WalkedWithin c.base at (length v.past.seen) v.walk before here → Walks v w here after → Answers c v w walk here after (Ok (found_of found))
     → after ≤ before + (6 + 3 * (length w.past.seen - at))
 ends_within c v w walk at before here after None few walks answers =

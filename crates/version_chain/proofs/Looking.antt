@@ -10,14 +10,14 @@ use Rattle.mv_history.specs.declared.Entry.{Entry}
 use Rattle.mv_history.specs.declared.Step.{Step}
 use Rattle.mv_history.specs.declared.StepKind.TheVariants.{LoadHead, LoadFirst, LoadStamp, LoadPrev}
 use Rattle.mv_layout.specs.declared.Config.{Config}
-use Rattle.mv_layout.specs.declared.Place.TheVariants.{Head, First, Stamp, Prev}
+use Rattle.mv_layout.specs.declared.SharedWord.TheVariants.{Head, First, Stamp, Prev}
 use Rattle.mv_layout.specs.Places.{place_of}
 use Rattle.mv_layout.specs.Words.{IsUnset, link_seat_of, link_position_of}
 use Rattle.mv_layout.proofs.Unpacking as unpacking
-use Rattle.mv_core.specs.declared.view.View.{View}
-use Rattle.mv_core.specs.declared.view.Section.{Section}
-use Rattle.mv_core.specs.declared.view.Walk as core
-use Rattle.mv_core.specs.declared.view.Walk.TheVariants as place
+use Rattle.mv_core.specs.declared.view.Knowledge.{Knowledge}
+use Rattle.mv_core.specs.declared.view.OwnSection.{OwnSection}
+use Rattle.mv_core.specs.declared.view.WalkStage as core
+use Rattle.mv_core.specs.declared.view.WalkStage.TheVariants as place
 use Rattle.mv_core.specs.declared.view.Stand.{Stand}
 use Rattle.mv_core.specs.declared.view.Passed.{Passed}
 use Rattle.mv_core.specs.Rings.{index_of}
@@ -34,11 +34,11 @@ abbrev IsWalks : Step → Type 0
 IsWalks s = IsWalkStep s.kind
 
 -- the view z with all that a walk may change as it is in y
-abbrev rest_of : View → View → View
+abbrev rest_of : Knowledge → Knowledge → Knowledge
 rest_of y z = record z { past = record z.past { seen = y.past.seen }; walk = y.walk; empty = y.empty; trail = y.trail }
 
 -- a look that makes no step
-pub walks_none : (v : View) (steps : ℕ) → Walks v v steps steps
+pub walks_none : (v : Knowledge) (steps : ℕ) → Walks v v steps steps
 walks_none v steps = record {
   seen = ([], sym (append-nil v.past.seen));
   trail = ([], sym (append-nil v.trail), (omega arith), All-nil IsWalks);
@@ -57,57 +57,57 @@ stands_so object link passed =
       | false ↦ refl
     ]
 
-pub stands_at : (c : Config) (w : View) (object link : ℕ) (passed : Passed) → IsLinkOf c link → w.walk ≡ stand_at object link passed false
+pub stands_at : (c : Config) (w : Knowledge) (object link : ℕ) (passed : Passed) → IsLinkOf c link → w.walk ≡ stand_at object link passed false
     → StandsAt c w (record { object = object; link = link })
 stands_at c w object link passed packed is = record {
   link = packed;
-  stands = is ∙ stands_so object link passed ∙ ap (λ (k : core.Walk). stand_at object link (stand_of k).passed false) (sym is);
+  stands = is ∙ stands_so object link passed ∙ ap (λ (k : core.WalkStage). stand_at object link (stand_of k).passed false) (sym is);
 }
 
 -- at link 0 it is the master
-pub at_master : (v : View) (object link : ℕ) (passed : Passed) → link ≡ 0 → v.walk ≡ stand_at object link passed false → v.walk ≡ place.Master
+pub at_master : (v : Knowledge) (object link : ℕ) (passed : Passed) → link ≡ 0 → v.walk ≡ stand_at object link passed false → v.walk ≡ place.Master
     object
 at_master v object link passed none is = subst (λ (k : ℕ). v.walk ≡ stand_at object k passed false) none is
 
 -- HEAD was loaded
-pub walks_started : (c : Config) (v w : View) (inside : Section) (object link before after : ℕ) → w ≡ head_loaded c v inside object link → after ≡
+pub walks_started : (c : Config) (v w : Knowledge) (inside : OwnSection) (object link before after : ℕ) → w ≡ head_loaded c v inside object link → after ≡
     before + 1
     → Walks v w before after
 walks_started c v w inside object link before after is one =
     let step : Step = record { kind = LoadHead; word = place_of c (Head object); found = Some link; stored = None } in
     record {
-      seen = ([], ap (λ (u : View). u.past.seen) is ∙ sym (append-nil v.past.seen));
-      trail = (step ∷ [], ap (λ (u : View). u.trail) is, one, All-cons IsWalks step [] tt (All-nil IsWalks));
+      seen = ([], ap (λ (u : Knowledge). u.past.seen) is ∙ sym (append-nil v.past.seen));
+      trail = (step ∷ [], ap (λ (u : Knowledge). u.trail) is, one, All-cons IsWalks step [] tt (All-nil IsWalks));
       rest = ap (rest_of w) is;
     }
 
 -- FIRST of a version may be loaded where a walk stands at it
-pub may_first : (v : View) (object link : ℕ) (passed : Passed) → link ≢ 0 → v.walk ≡ stand_at object link passed false → MayLoadFirst v link
+pub may_first : (v : Knowledge) (object link : ℕ) (passed : Passed) → link ≢ 0 → v.walk ≡ stand_at object link passed false → MayLoadFirst v link
     (stand_in v)
 may_first v object link passed ne is =
     let stand : Stand = record { object = object; link = link; first = None; stamp = None; passed = passed; late = false } in
     let at = stands_here v object link passed ne is in
-    record { stands = stand_is v stand at; link_is = ap (λ (k : core.Walk). (stand_of k).link) at }
+    record { stands = stand_is v stand at; link_is = ap (λ (k : core.WalkStage). (stand_of k).link) at }
 
-module _ (c : Config) (v w : View) (link first : ℕ) (may : MayLoadFirst v link (stand_in v)) (firsts : w ≡ first_loaded c v (stand_in v) first) where
+module _ (c : Config) (v w : Knowledge) (link first : ℕ) (may : MayLoadFirst v link (stand_in v)) (firsts : w ≡ first_loaded c v (stand_in v) first) where
   at_first : stand_in w ≡ with_first (stand_in v) first
   at_first = ap stand_in firsts
 
   -- and then its STAMP
   pub may_stamp : MayLoadStamp w link first (stand_in w)
   may_stamp = record {
-    stands = stand_is w (with_first (stand_in v) first) (ap (λ (u : View). u.walk) firsts);
+    stands = stand_is w (with_first (stand_in v) first) (ap (λ (u : Knowledge). u.walk) firsts);
     link_is = ap (λ (s : Stand). s.link) at_first ∙ may.link_is;
     first_is = ap (λ (s : Stand). s.first) at_first;
   }
 
-  module _ (x : View) (found : ℕ) (stamps : x ≡ stamp_loaded c w (stand_in w) first found x.past.seen)
+  module _ (x : Knowledge) (found : ℕ) (stamps : x ≡ stamp_loaded c w (stand_in w) first found x.past.seen)
       (says : StampSays c w (stand_in w) found x.past.seen) where
     looked : x ≡ version_looked_at c v first found x.past.seen
     looked = stamps ∙ (λ i. stamp_loaded c (firsts i) (at_first i) first found x.past.seen)
 
     told : LookSays c v first found x.past.seen
-    told = subst (λ (p : View × Stand). StampSays c p.0 p.1 found x.past.seen) (λ i. (firsts i, at_first i)) says
+    told = subst (λ (p : Knowledge × Stand). StampSays c p.0 p.1 found x.past.seen) (λ i. (firsts i, at_first i)) says
 
     at_stamp : stand_in x ≡ with_stamp (stand_in v) first found
     at_stamp = ap stand_in looked
@@ -120,7 +120,7 @@ module _ (c : Config) (v w : View) (link first : ℕ) (may : MayLoadFirst v link
     may_prev walks later = record {
       inside = section_in x;
       phase = walks.phase;
-      stands = stand_is x (with_stamp (stand_in v) first found) (ap (λ (u : View). u.walk) looked);
+      stands = stand_is x (with_stamp (stand_in v) first found) (ap (λ (u : Knowledge). u.walk) looked);
       link_is = ap (λ (s : Stand). s.link) at_stamp ∙ may.link_is;
       found = found;
       stamp_is = ap (λ (s : Stand). s.stamp) at_stamp;
@@ -142,7 +142,7 @@ module _ (c : Config) (v w : View) (link first : ℕ) (may : MayLoadFirst v link
           seen = told.sees.more;
           trail = (
             s ∷ t ∷ [],
-            ap (λ (u : View). u.trail) looked ∙ append_assoc v.trail (s ∷ []) (t ∷ []),
+            ap (λ (u : Knowledge). u.trail) looked ∙ append_assoc v.trail (s ∷ []) (t ∷ []),
             (omega arith),
             All-cons IsWalks s (t ∷ []) tt (All-cons IsWalks t [] tt (All-nil IsWalks)),
           );
@@ -169,7 +169,7 @@ module _ (c : Config) (v w : View) (link first : ℕ) (may : MayLoadFirst v link
         )
 
     -- or goes on to PREV
-    module _ (y : View) (next : ℕ) (prevs : y ≡ prev_loaded c x (stand_in x) next) where
+    module _ (y : Knowledge) (next : ℕ) (prevs : y ≡ prev_loaded c x (stand_in x) next) where
       passed : y ≡ prev_loaded c (version_looked_at c v first found x.past.seen) (with_stamp (stand_in v) first found) next
       passed = prevs ∙ (λ i. prev_loaded c (looked i) (at_stamp i) next)
 
@@ -177,7 +177,7 @@ module _ (c : Config) (v w : View) (link first : ℕ) (may : MayLoadFirst v link
           → (before here there after : ℕ) → here ≡ before + 1 → there ≡ here + 1 → after ≡ there + 1
           → GoesOn c v y walk (record { object = walk.object; link = next }) × (after ≡ before + 3)
       goes_on walk is ne later before here there after one two three =
-          let seen : y.past.seen ≡ x.past.seen = ap (λ (u : View). u.past.seen) prevs in (
+          let seen : y.past.seen ≡ x.past.seen = ap (λ (u : Knowledge). u.past.seen) prevs in (
             record {
               linked = subst (λ (k : ℕ). k ≢ 0) (sym is) ne;
               object = refl;
@@ -194,15 +194,15 @@ module _ (c : Config) (v w : View) (link first : ℕ) (may : MayLoadFirst v link
       pub stands_next : (object : ℕ) → (stand_in v).object ≡ object → IsLinkOf c next → StandsAt c y (record { object = object; link = next })
       stands_next object is packed =
           stands_at c y object next (passed_too (stand_in v).passed (Some found)) packed
-          (ap (λ (u : View). u.walk) passed ∙ ap (λ (o : ℕ). stand_at o next (passed_too (stand_in v).passed (Some found)) false) is)
+          (ap (λ (u : Knowledge). u.walk) passed ∙ ap (λ (o : ℕ). stand_at o next (passed_too (stand_in v).passed (Some found)) false) is)
 
       pub walks_passed : (before here there after : ℕ) → here ≡ before + 1 → there ≡ here + 1 → after ≡ there + 1 → Walks v y before after
       walks_passed before here there after one two three =
           let at : Stand = stand_in x in
           let s : Step = record { kind = LoadPrev; word = place_of c (Prev (link_seat_of at.link) (slot_named c at.link)); found = Some next; stored = None } in
           walks_on v x y before there after (walks_looked before here there one two) (record {
-            seen = ([], ap (λ (u : View). u.past.seen) prevs ∙ sym (append-nil x.past.seen));
-            trail = (s ∷ [], ap (λ (u : View). u.trail) prevs, three, All-cons IsWalks s [] tt (All-nil IsWalks));
+            seen = ([], ap (λ (u : Knowledge). u.past.seen) prevs ∙ sym (append-nil x.past.seen));
+            trail = (s ∷ [], ap (λ (u : Knowledge). u.trail) prevs, three, All-cons IsWalks s [] tt (All-nil IsWalks));
             rest = ap (rest_of y) prevs;
           })
 

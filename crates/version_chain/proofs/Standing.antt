@@ -3,8 +3,8 @@ use Rattle.std.proofs.Common.{◌≡◌, ◌≢◌, ℕ, ◌<◌, ◌≤◌, Boo
 use Rattle.mv_history.specs.declared.Entry.{Entry}
 use Rattle.mv_layout.specs.declared.Config.{Config}
 use Rattle.mv_layout.specs.Words.{link_of}
-use Rattle.mv_core.specs.declared.view.View.{View}
-use Rattle.mv_core.specs.declared.view.Walk.TheVariants as place
+use Rattle.mv_core.specs.declared.view.Knowledge.{Knowledge}
+use Rattle.mv_core.specs.declared.view.WalkStage.TheVariants as place
 use Rattle.mv_core.specs.declared.view.Stand.{Stand}
 use Rattle.mv_core.specs.declared.view.Passed.{Passed}
 use Rattle.mv_core.specs.declared.view.Phase.TheVariants.{Inside}
@@ -16,7 +16,7 @@ use Rattle.mv_core.specs.Slots.{IsSlotLinked}
 use Rattle.version_chain.specs.Walks.{time_at, stand_of, stand_in, section_in, with_first, with_stamp, MayWalk, StandsAtVersion}
 
 -- a walk at a link that isn't 0 stands at the version of that link
-pub stands_here : (v : View) (object link : ℕ) (passed : Passed) → link ≢ 0 → v.walk ≡ stand_at object link passed false
+pub stands_here : (v : Knowledge) (object link : ℕ) (passed : Passed) → link ≢ 0 → v.walk ≡ stand_at object link passed false
     → v.walk ≡ place.At (record { object = object; link = link; first = None; stamp = None; passed = passed; late = false })
 stands_here v object link passed ne is =
     subst (λ (b : Bool). v.walk
@@ -24,10 +24,10 @@ stands_here v object link passed ne is =
     (ne_eqb link 0 ne) is
 
 -- a walk that stands at a version does so at the one that the view says
-pub stand_is : (v : View) (stand : Stand) → v.walk ≡ place.At stand → v.walk ≡ place.At (stand_in v)
+pub stand_is : (v : Knowledge) (stand : Stand) → v.walk ≡ place.At stand → v.walk ≡ place.At (stand_in v)
 stand_is v stand is = is ∙ ap place.At (sym (ap stand_of is))
 
-module _ (c : Config) (v w x : View) (object link first found slot : ℕ) (seen : List Entry) (ne : link ≢ 0) (packed : IsLinkOf c link)
+module _ (c : Config) (v w x : Knowledge) (object link first found slot : ℕ) (seen : List Entry) (ne : link ≢ 0) (packed : IsLinkOf c link)
     (stands : v.walk ≡ stand_at object link (stand_in v).passed false) where
   -- where a walk stands once FIRST and STAMP of a version were loaded
   abbrev looked : Stand
@@ -37,7 +37,7 @@ module _ (c : Config) (v w x : View) (object link first found slot : ℕ) (seen 
   looked_is firsts stamps =
       let here = ap stand_of (stands_here v object link (stand_in v).passed ne stands) in
       let at : stand_in w ≡ with_first (stand_in v) first = ap stand_in firsts in
-      ap (λ (u : View). u.walk) stamps ∙ ap (λ (s : Stand). place.At (record s { stamp = Some found })) at
+      ap (λ (u : Knowledge). u.walk) stamps ∙ ap (λ (s : Stand). place.At (record s { stamp = Some found })) at
       ∙ ap (λ (s : Stand). place.At (with_stamp s first found)) here
 
   -- a walk that ends at a version stands at it
@@ -59,7 +59,7 @@ module _ (c : Config) (v w x : View) (object link first found slot : ℕ) (seen 
       )
 
 -- and one of a seat and a position is at the cell of its slot
-pub slot_here : (c : Config) (v : View) (seat position link slot : ℕ) → StandsAtVersion c v seat position → link ≡ link_of seat position
+pub slot_here : (c : Config) (v : Knowledge) (seat position link slot : ℕ) → StandsAtVersion c v seat position → link ≡ link_of seat position
     → IsSlotLinked c link slot → StandsAtSlot c v (record { link = link; slot = slot })
 slot_here c v seat position link slot here is slot_is = record {
   stands = here.stands;
@@ -72,19 +72,19 @@ slot_here c v seat position link slot here is slot_is = record {
 }
 
 -- and its link is a packed one
-pub linked_here : (c : Config) (v : View) (object : ℕ) (found : Option FoundVersion) → HasFoundSlot c v object found → IsLinked found
+pub linked_here : (c : Config) (v : Knowledge) (object : ℕ) (found : Option FoundVersion) → HasFoundSlot c v object found → IsLinked found
 linked_here c v object None here = tt
 linked_here c v object (Some at) here = here.0.packed.0
 
 -- after a load that only joins the trail a further word of the version may be loaded
-pub may_data : (c : Config) (v x : View) (at : FoundVersion) (word : ℕ) (steps : List Step) → MayWalk v → StandsAtSlot c v at
+pub may_data : (c : Config) (v x : Knowledge) (at : FoundVersion) (word : ℕ) (steps : List Step) → MayWalk v → StandsAtSlot c v at
     → x ≡ record v { trail = steps } → word < 6 → MayLoadData x at.link word (stand_in x) (section_in x)
 may_data c v x at word steps may here so lt = record {
-  phase = ap (λ (u : View). u.phase) so ∙ may.phase ∙ ap Inside (sym (ap section_in so));
-  stands = ap (λ (u : View). u.walk) so ∙ here.stands ∙ ap place.At (sym (ap stand_in so));
-  link_is = ap (λ (u : View). (stand_in u).link) so ∙ here.link_is;
+  phase = ap (λ (u : Knowledge). u.phase) so ∙ may.phase ∙ ap Inside (sym (ap section_in so));
+  stands = ap (λ (u : Knowledge). u.walk) so ∙ here.stands ∙ ap place.At (sym (ap stand_in so));
+  link_is = ap (λ (u : Knowledge). (stand_in u).link) so ∙ here.link_is;
   found = here.time;
-  stamp_is = ap (λ (u : View). (stand_in u).stamp) so ∙ here.stamp_is;
-  time_is = subst (λ (u : View). here.time ≤ time_at u) (sym so) here.not_above;
+  stamp_is = ap (λ (u : Knowledge). (stand_in u).stamp) so ∙ here.stamp_is;
+  time_is = subst (λ (u : Knowledge). here.time ≤ time_at u) (sym so) here.not_above;
   in_range = lt;
 }

@@ -2,8 +2,8 @@
 use Rattle.std.specs.Prelude.{◌≡◌, ℕ, ◌≤◌, Some, None, Option, Result, Ok, Err}
 use Rattle.mv_layout.specs.declared.Config.{Config}
 use Rattle.mv_layout.specs.Words.{IsLink, link_seat_of, link_position_of}
-use Rattle.mv_core.specs.declared.view.View.{View}
-use Rattle.mv_core.specs.declared.view.Walk.TheVariants as place
+use Rattle.mv_core.specs.declared.view.Knowledge.{Knowledge}
+use Rattle.mv_core.specs.declared.view.WalkStage.TheVariants as place
 use Rattle.mv_core.specs.Slots.{IsSlotLinked}
 use Rattle.mv_core.specs.WalkSteps.{IsPackedOf}
 use Rattle.version_chain.specs.declared.walking.Walk.{Walk}
@@ -28,7 +28,7 @@ answer_of (Ok found) = Ok (found_of found)
 answer_of (Err on) = Err on
 
 -- the walk stands at this version, whose stamp it found to be a time not above the section's, and the cell is that of its slot
-pub record StandsAtSlot (c : Config) (v : View) (at : FoundVersion) : Type 0 where
+pub record StandsAtSlot (c : Config) (v : Knowledge) (at : FoundVersion) : Type 0 where
   pub stands : v.walk ≡ place.At (stand_in v)
   pub link_is : (stand_in v).link ≡ at.link
   pub packed : IsPackedOf c at.link
@@ -38,11 +38,11 @@ pub record StandsAtSlot (c : Config) (v : View) (at : FoundVersion) : Type 0 whe
   pub not_above : time ≤ time_at v
 
 -- the walk stands at what was found for the object
-abbrev pub HasFoundSlot : Config → View → ℕ → Option FoundVersion → Type 0
+abbrev pub HasFoundSlot : Config → Knowledge → ℕ → Option FoundVersion → Type 0
 HasFoundSlot c v object None = v.walk ≡ place.Master object
 HasFoundSlot c v object (Some at) = StandsAtSlot c v at × ((stand_in v).object ≡ object)
 
 -- where a look at one link puts the walk
-abbrev pub IsPutAtSlot : Config → View → Walk → Result (Option FoundVersion) Walk → Type 0
+abbrev pub IsPutAtSlot : Config → Knowledge → Walk → Result (Option FoundVersion) Walk → Type 0
 IsPutAtSlot c w walk (Ok found) = HasFoundSlot c w walk.object found
 IsPutAtSlot c w walk (Err on) = StandsAt c w on

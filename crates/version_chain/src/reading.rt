@@ -4,7 +4,7 @@
 ghost use Rattle.std.specs.Prelude.{◌≡◌, ◌+◌, ◌<◌, slice_index};
 ghost use Rattle.mv_history.specs.declared.StepKind.TheVariants.{LoadData, LoadMaster};
 ghost use Rattle.mv_history.specs.Fours.{four_from};
-ghost use Rattle.mv_core.specs.declared.view.Walk.TheVariants as walk;
+ghost use Rattle.mv_core.specs.declared.view.WalkStage.TheVariants as walk;
 ghost use Rattle.mv_core.specs.Passes.{view, IsOf, IsSame, config_of};
 ghost use Rattle.version_chain.specs.Walks.{MayWalk, StandsAtVersion, stand_in};
 ghost use Rattle.version_chain.specs.Reads.{Reads, ReadsSome, words_in};

@@ -6,7 +6,7 @@ use Rattle.std.proofs.lemmas.List.Elements.{All-head, All-tail}
 use Rattle.mv_history.specs.declared.Entry.{Entry}
 use Rattle.mv_history.specs.declared.Entry.TheVariants.{Rest, Change}
 use Rattle.mv_history.specs.State.{State, Writes, maker_of, commits_of, rests_of}
-use Rattle.seat_log.specs.mv_core.declared.view.View.{View}
+use Rattle.seat_log.specs.mv_core.declared.view.Knowledge.{Knowledge}
 use Rattle.seat_log.specs.mv_core.Known.{Known}
 
 -- a history of one seat is as long as its commits and rests are many
@@ -25,7 +25,8 @@ all_own n (Change c ∷ es) one all =
     ap (λ (b : Bool). length (if b then c ∷ commits_of n es else commits_of n es)) (eq-eqb c.seat n (omega arith)) in
     omega arith
 
-pub alone_seen : (starts : State → Type 0) (allows : List ℕ → State → Writes → Type 0) (w : View) (seats : ℕ) → ∥ Known starts allows w ∥₁ → w.number < seats
+pub alone_seen : (starts : State → Type 0) (allows : List ℕ → State → Writes → Type 0) (w : Knowledge) (seats : ℕ) → ∥ Known starts allows w ∥₁
+    → w.number < seats
     → All (λ e. maker_of e < seats) w.past.seen → seats ≡ 1 → length w.past.seen ≡ length w.past.mine + w.past.rests
 alone_seen starts allows w seats known own makers one =
     let all : All (λ e. maker_of e < 1) w.past.seen = subst (λ (n : ℕ). All (λ e. maker_of e < n) w.past.seen) one makers in

@@ -5,13 +5,13 @@ use Rattle.std.proofs.Math.Bridge.{le_prop}
 use Rattle.mv_history.specs.State.{State, Writes}
 use Rattle.mv_history.specs.declared.Step.{Step}
 use Rattle.mv_layout.specs.declared.Config.{Config}
-use Rattle.seat_log.specs.mv_core.declared.view.View.{View}
+use Rattle.seat_log.specs.mv_core.declared.view.Knowledge.{Knowledge}
 use Rattle.seat_log.specs.mv_core.Known.{Known}
 use Rattle.seat_log.specs.declared.version.Note.{Note}
 use Rattle.seat_log.specs.Notes.{Noted, IsNoteAt}
 use Rattle.seat_log.specs.Stands.{Stands}
-use Rattle.log_reclaim.specs.declared.settling.Found.{Found}
-use Rattle.log_reclaim.specs.declared.rounds.Scanned.{Scanned}
+use Rattle.log_reclaim.specs.declared.settling.HeadHolders.{HeadHolders}
+use Rattle.log_reclaim.specs.declared.rounds.RoundScan.{RoundScan}
 use Rattle.log_reclaim.specs.Parts.{TimesDeath}
 use Rattle.log_reclaim.specs.Sweeps.{Sweeps}
 use Rattle.log_reclaim.specs.Holders.{FindsLast}
@@ -19,7 +19,7 @@ use Rattle.log_reclaim.proofs.causes.ScanCauses.{end_found}
 use Rattle.log_reclaim.proofs.Needed.{death_known}
 
 -- no time is above the last
-pub time_in_range : (starts : State → Type 0) (allows : List ℕ → State → Writes → Type 0) (w : View) → ∥ Known starts allows w ∥₁
+pub time_in_range : (starts : State → Type 0) (allows : List ℕ → State → Writes → Type 0) (w : Knowledge) → ∥ Known starts allows w ∥₁
     → w.base + length w.past.seen ≤ 35184372088831
 time_in_range starts allows w known = ∥∥₁_elim known le_prop (λ a. a.in_time)
 
@@ -28,8 +28,8 @@ timed_found : (made : List Step) (dead : ℕ) → TimesDeath made dead → dead 
 timed_found made dead t is =
     record { step = t.step; there = t.there; clock = t.clock; word = t.word; found = t.found; last = (let e = t.dead_is in omega arith) }
 
-module _ (starts : State → Type 0) (allows : List ℕ → State → Writes → Type 0) (c : Config) (v w : View) (l m : Noted) (made : List Step) (back : Bool)
-    (scanned : Scanned) (found : Found) (freed : ℕ)
+module _ (starts : State → Type 0) (allows : List ℕ → State → Writes → Type 0) (c : Config) (v w : Knowledge) (l m : Noted) (made : List Step) (back : Bool)
+    (scanned : RoundScan) (found : HeadHolders) (freed : ℕ)
     (k : Sweeps c v w l m made back scanned found freed) (stands : Stands c v l) (before : ∥ Known starts allows v ∥₁)
     (after : ∥ Known starts allows w ∥₁) where
   pub end_cause : (i : ℕ) (n : Note) → IsNoteAt m i n → 35184372088831 < n.dead → FindsLast made

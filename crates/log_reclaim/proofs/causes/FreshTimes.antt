@@ -4,11 +4,11 @@ use Rattle.mv_history.specs.State.{State, Writes}
 use Rattle.mv_history.specs.declared.answers.Holder.{Holder}
 use Rattle.mv_history.specs.declared.answers.Holder.TheVariants.{Fresh}
 use Rattle.mv_layout.specs.declared.Config.{Config}
-use Rattle.seat_log.specs.mv_core.declared.view.View.{View}
+use Rattle.seat_log.specs.mv_core.declared.view.Knowledge.{Knowledge}
 use Rattle.seat_log.specs.declared.version.Note.{Note}
 use Rattle.seat_log.specs.Notes.{Noted}
-use Rattle.log_reclaim.specs.declared.settling.Found.{Found}
-use Rattle.log_reclaim.specs.declared.rounds.Scanned.{Scanned}
+use Rattle.log_reclaim.specs.declared.settling.HeadHolders.{HeadHolders}
+use Rattle.log_reclaim.specs.declared.rounds.RoundScan.{RoundScan}
 use Rattle.log_reclaim.specs.Sweeps.{SweepsSo, found_at}
 use Rattle.log_reclaim.specs.Rounds.{untimed_holder, holder_of, IsHolder}
 use Rattle.log_reclaim.specs.Tidies.{HeldBy, TidiesLeft}
@@ -19,7 +19,7 @@ use Rattle.log_reclaim.proofs.Reclaiming.{reclaims_base, reclaims_more}
 abbrev IsLate : ℕ → Holder → Type 0
 IsLate clock h = (time : ℕ) → h ≡ Fresh time → clock < time
 
-not_untimed : (clock : ℕ) (first : Scanned) (n : Note) (above : Option ℕ) → IsLate clock (untimed_holder first n above)
+not_untimed : (clock : ℕ) (first : RoundScan) (n : Note) (above : Option ℕ) → IsLate clock (untimed_holder first n above)
 not_untimed clock first n None time is = absurd cc
 not_untimed clock first n (Some seat) time is = absurd cc
 
@@ -28,7 +28,7 @@ abbrev time_in : Holder → ℕ
 time_in (Fresh time) = time
 time_in _ = 0
 
-fresh_late : (first last : Scanned) (found : Found) (n : Note) → IsLate last.clock (holder_of first last true found n)
+fresh_late : (first last : RoundScan) (found : HeadHolders) (n : Note) → IsLate last.clock (holder_of first last true found n)
 fresh_late first last found n =
     by_cases (IsLate last.clock) first last true found n
     (λ late time is. absurd cc)
@@ -37,7 +37,7 @@ fresh_late first last found n =
     (λ none back. not_untimed last.clock first n (found_at found n.position))
     (λ none back. absurd cc)
 
-module _ (starts : State → Type 0) (allows : List ℕ → State → Writes → Type 0) (c : Config) (v w : View) (l m : Noted) (freed : ℕ)
+module _ (starts : State → Type 0) (allows : List ℕ → State → Writes → Type 0) (c : Config) (v w : Knowledge) (l m : Noted) (freed : ℕ)
     (held : Option Holder) (t : TidiesLeft starts allows c v w l m freed held) where
   after_both : v.base + length v.past.seen ≤ t.rest_view.base + length t.rest_view.past.seen
   after_both =
@@ -45,7 +45,7 @@ module _ (starts : State → Type 0) (allows : List ℕ → State → Writes →
       let one = reclaims_more v t.scan_view t.scan_steps t.scan.reclaims in
       let two = reclaims_more t.scan_view t.rest_view t.rest_steps t.rest.reclaims in omega arith
 
-  by_last : (last : Option Scanned) → SweepsSo c t.rest_view w t.rest_log m t.last_steps false t.unused t.last_freed last
+  by_last : (last : Option RoundScan) → SweepsSo c t.rest_view w t.rest_log m t.last_steps false t.unused t.last_freed last
       → HeldBy m t.first last t.found held → (time : ℕ) → held ≡ Some (Fresh time) → v.base + length v.past.seen < time
   by_last None again by time is = let e : None ≡ Some (Fresh time) = sym by ∙ is in absurd cc
   by_last (Some last) again by time is =

@@ -4,12 +4,12 @@ use Rattle.std.proofs.lemmas.Bool.{ltb-true, ltb-false}
 use Rattle.mv_history.specs.declared.answers.Holder.{Holder}
 use Rattle.mv_history.specs.declared.answers.Holder.TheVariants.{Fresh, End}
 use Rattle.seat_log.specs.declared.version.Note.{Note}
-use Rattle.log_reclaim.specs.declared.settling.Found.{Found}
-use Rattle.log_reclaim.specs.declared.rounds.Scanned.{Scanned}
+use Rattle.log_reclaim.specs.declared.settling.HeadHolders.{HeadHolders}
+use Rattle.log_reclaim.specs.declared.rounds.RoundScan.{RoundScan}
 use Rattle.log_reclaim.specs.Sweeps.{found_at}
 use Rattle.log_reclaim.specs.Rounds.{by_mark_of, untimed_holder, holder_of}
 
-module _ (Causes : Holder → Type 0) (first last : Scanned) (back : Bool) (found : Found) (n : Note)
+module _ (Causes : Holder → Type 0) (first last : RoundScan) (back : Bool) (found : HeadHolders) (n : Note)
     (ends : 35184372088831 < n.dead → Causes End)
     (fresh : last.clock < n.dead → n.dead ≤ 35184372088831 → Causes (Fresh n.dead))
     (marked : 0 < n.dead → n.dead ≤ last.clock → Causes (by_mark_of last.mark))

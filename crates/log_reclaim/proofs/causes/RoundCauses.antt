@@ -6,15 +6,15 @@ use Rattle.mv_history.specs.Trail.{clock_exchanges}
 use Rattle.mv_history.specs.declared.Step.{Step}
 use Rattle.mv_history.specs.declared.answers.Holder.{Holder}
 use Rattle.mv_layout.specs.declared.Config.{Config}
-use Rattle.seat_log.specs.mv_core.declared.view.View.{View}
+use Rattle.seat_log.specs.mv_core.declared.view.Knowledge.{Knowledge}
 use Rattle.seat_log.specs.mv_core.Known.{Known}
 use Rattle.seat_log.specs.declared.version.Note.{Note}
 use Rattle.seat_log.specs.Notes.{Noted, IsNoteAt}
 use Rattle.seat_log.specs.Stands.{Stands}
 use Rattle.seat_log.specs.Frees.{IsDeadNote}
 use Rattle.seat_log.proofs.Places.{get_within}
-use Rattle.log_reclaim.specs.declared.settling.Found.{Found}
-use Rattle.log_reclaim.specs.declared.rounds.Scanned.{Scanned}
+use Rattle.log_reclaim.specs.declared.settling.HeadHolders.{HeadHolders}
+use Rattle.log_reclaim.specs.declared.rounds.RoundScan.{RoundScan}
 use Rattle.log_reclaim.specs.Parts.{Reclaims, HasScanned}
 use Rattle.log_reclaim.specs.Untimed.{StaysUntimed}
 use Rattle.log_reclaim.specs.Sweeps.{found_at, Sweeps, SweepsAll}
@@ -27,8 +27,8 @@ use Rattle.log_reclaim.proofs.causes.ScanCauses.{low_known, marked_cause, fresh_
 use Rattle.log_reclaim.proofs.causes.EndCause.{end_cause}
 use Rattle.log_reclaim.proofs.causes.HolderCases.{by_cases}
 
-module _ (starts : State → Type 0) (allows : List ℕ → State → Writes → Type 0) (c : Config) (v w : View) (l m : Noted) (made : List Step) (back : Bool)
-    (scanned : Scanned) (found : Found) (freed : ℕ) (k : Sweeps c v w l m made back scanned found freed) where
+module _ (starts : State → Type 0) (allows : List ℕ → State → Writes → Type 0) (c : Config) (v w : Knowledge) (l m : Noted) (made : List Step) (back : Bool)
+    (scanned : RoundScan) (found : HeadHolders) (freed : ℕ) (k : Sweeps c v w l m made back scanned found freed) where
   scan : HasScanned c w.number made scanned.mark scanned.clock
   scan = subst (λ (own : ℕ). HasScanned c own made scanned.mark scanned.clock) (sym (reclaims_number v w made k.reclaims)) k.scan
 
@@ -110,15 +110,16 @@ module _ (starts : State → Type 0) (allows : List ℕ → State → Writes →
     round_scanned held is = (k.reclaims, round_swept, round_holds held is, none_exchanged made k.leaves)
 
 -- it wrote nothing back unless it was to
-pub round_plain : (c : Config) (v w : View) (l m : Noted) (made : List Step) (back : Bool) (scanned : Scanned) (found : Found) (freed : ℕ)
+pub round_plain : (c : Config) (v w : Knowledge) (l m : Noted) (made : List Step) (back : Bool) (scanned : RoundScan) (found : HeadHolders) (freed : ℕ)
     → Sweeps c v w l m made back scanned found freed → HasMade v w back
 round_plain c v w l m made back scanned found freed k = (made, k.reclaims.trail, k.plain)
 
 -- and where the log was empty before that
-pub emptied_plain : (c : Config) (v w : View) (l m : Noted) (made : List Step) (back : Bool) (freed : ℕ) → SweepsAll c v w l m made freed → HasMade v w back
+pub emptied_plain : (c : Config) (v w : Knowledge) (l m : Noted) (made : List Step) (back : Bool) (freed : ℕ) → SweepsAll c v w l m made freed
+    → HasMade v w back
 emptied_plain c v w l m made back freed k = (made, k.reclaims.trail, λ off. k.plain refl)
 
-pub round_emptied : (c : Config) (v w : View) (l m : Noted) (made : List Step) (back : Bool) (freed : ℕ) → SweepsAll c v w l m made freed
+pub round_emptied : (c : Config) (v w : Knowledge) (l m : Noted) (made : List Step) (back : Bool) (freed : ℕ) → SweepsAll c v w l m made freed
     → (held : Option Holder) → held ≡ None → Reclaims v w made × SweptSo c w m made back × HeldSo (RoundHolds c w m made back) m held
     × (clock_exchanges made ≡ [])
 round_emptied c v w l m made back freed k held none =

@@ -9,14 +9,14 @@ use Rattle.mv_history.specs.declared.Step.{Step}
 use Rattle.mv_history.specs.declared.answers.Holder.{Holder}
 use Rattle.mv_history.specs.declared.answers.Holder.TheVariants.{Fresh, End}
 use Rattle.mv_layout.specs.declared.Config.{Config}
-use Rattle.seat_log.specs.mv_core.declared.view.View.{View}
+use Rattle.seat_log.specs.mv_core.declared.view.Knowledge.{Knowledge}
 use Rattle.seat_log.specs.mv_core.Known.{Known}
 use Rattle.seat_log.specs.declared.version.Note.{Note}
 use Rattle.seat_log.specs.Notes.{Noted, IsNoteAt}
 use Rattle.seat_log.specs.Stands.{Stands}
 use Rattle.seat_log.specs.Frees.{IsDeadNote}
-use Rattle.log_reclaim.specs.declared.settling.Found.{Found}
-use Rattle.log_reclaim.specs.declared.rounds.Scanned.{Scanned}
+use Rattle.log_reclaim.specs.declared.settling.HeadHolders.{HeadHolders}
+use Rattle.log_reclaim.specs.declared.rounds.RoundScan.{RoundScan}
 use Rattle.log_reclaim.specs.Parts.{BeginsNoScan, HasScan}
 use Rattle.log_reclaim.specs.Untimed.{StaysUntimed}
 use Rattle.log_reclaim.specs.Sweeps.{Sweeps, found_at}
@@ -36,8 +36,9 @@ use Rattle.log_reclaim.proofs.rests.TidyDeaths.{untimed_first, death_others}
 dead_above : (time : ℕ) (n : Note) → (IsDeadNote time n → ⊥) → 0 < n.dead → time < n.dead
 dead_above time n alive some = ⊎_elim (λ lt. lt) (λ le. absurd (alive (some, le))) (cases_lt time n.dead)
 
-module _ (starts : State → Type 0) (allows : List ℕ → State → Writes → Type 0) (c : Config) (v u x w : View) (k l m o : Noted) (made rested later : List Step)
-    (first last : Scanned) (found unused : Found) (freed more : ℕ)
+module _ (starts : State → Type 0) (allows : List ℕ → State → Writes → Type 0) (c : Config) (v u x w : Knowledge) (k l m o : Noted)
+    (made rested later : List Step)
+    (first last : RoundScan) (found unused : HeadHolders) (freed more : ℕ)
     (sweep : Sweeps c v u k l made true first found freed) (rest : RestsSo c u x l m rested first.latest)
     (again : Sweeps c x w m o later false last unused more)
     (stands : Stands c v k) (stands_x : Stands c x m) (stands_w : Stands c w o) (known : ∥ Known starts allows v ∥₁) (known_x : ∥ Known starts allows x ∥₁)

@@ -6,9 +6,9 @@ use Rattle.mv_layout.specs.Words.{clock_time_of, link_of, link_seat_of}
 use Rattle.seat_log.specs.mv_core.declared.ring.Ring.{Ring}
 use Rattle.seat_log.specs.mv_core.declared.ring.Slot.TheVariants.{Live}
 use Rattle.seat_log.specs.mv_core.declared.ring.Version.{Version}
-use Rattle.seat_log.specs.mv_core.declared.ring.Status.TheVariants.{Committed}
+use Rattle.seat_log.specs.mv_core.declared.ring.WriteSetStatus.TheVariants.{Committed}
 use Rattle.seat_log.specs.mv_core.declared.ring.CommitNote.{CommitNote}
-use Rattle.seat_log.specs.mv_core.declared.view.View.{View}
+use Rattle.seat_log.specs.mv_core.declared.view.Knowledge.{Knowledge}
 use Rattle.seat_log.specs.mv_core.Rings.{slot_at, index_of, put_slot, is_held, HoldsNothing}
 use Rattle.seat_log.specs.mv_core.EnterSteps.{IsWhole, mark_cleared}
 use Rattle.seat_log.specs.mv_core.Tops.{NamesNewer}
@@ -28,7 +28,7 @@ use Rattle.seat_log.proofs.NotedSlots.{NotedSlot, noted_in}
 use Rattle.seat_log.proofs.Aborts.{held_timed}
 use Rattle.seat_log.proofs.Retired.{noted_live}
 use Rattle.seat_log.proofs.CutLogs.{note_cut_room, stands_cut, stands_uncut}
-use Rattle.log_reclaim.specs.declared.writing_back.Back.{Back}
+use Rattle.log_reclaim.specs.declared.writing_back.StartedWriteBack.{StartedWriteBack}
 use Rattle.log_reclaim.specs.Backs.{IsWriting, HasCut, HasLostTo, HasTimed, IsCut, IsCutAt, IsUncut}
 use Rattle.log_reclaim.proofs.looks.Picks.{committed_in}
 
@@ -48,7 +48,7 @@ none_dead : (dead : ℕ) → death_of dead ≡ None → dead ≡ 0
 none_dead zero e = refl
 none_dead (suc dead) e = absurd (cc)
 
-module _ (c : Config) (v : View) (b : Back) (is : IsWriting c v b) where
+module _ (c : Config) (v : Knowledge) (b : StartedWriteBack) (is : IsWriting c v b) where
   -- what the exchange is given is that version
   pub picked : committed_in c v b.position ≡ (is.version, is.note)
   picked = λ q. (version_in (is.own q), note_in (is.own q))
@@ -64,7 +64,7 @@ module _ (c : Config) (v : View) (b : Back) (is : IsWriting c v b) where
       })
 
   -- it was won, and the version waits for its time of death in an open section
-  pub has_cut : (w : View) → w ≡ head_cut c v b.object b.position (committed_in c v b.position).0 (committed_in c v b.position).1 → HasCut c v w b
+  pub has_cut : (w : Knowledge) → w ≡ head_cut c v b.object b.position (committed_in c v b.position).0 (committed_in c v b.position).1 → HasCut c v w b
   has_cut w won = record {
     version = is.version;
     note = is.note;
@@ -75,7 +75,7 @@ module _ (c : Config) (v : View) (b : Back) (is : IsWriting c v b) where
   abbrev cut_now : CommitNote
   cut_now = record is.note { cut = true }
 
-  pub cut_waits : (w : View) → w ≡ head_cut c v b.object b.position (committed_in c v b.position).0 (committed_in c v b.position).1 → MayLoadDeath w
+  pub cut_waits : (w : Knowledge) → w ≡ head_cut c v b.object b.position (committed_in c v b.position).0 (committed_in c v b.position).1 → MayLoadDeath w
   cut_waits w won =
       subst MayLoadDeath (sym (won ∙ ap (λ (t : Version × CommitNote). head_cut c v b.object b.position t.0 t.1) picked)) (
         index_of c b.position,
@@ -86,7 +86,7 @@ module _ (c : Config) (v : View) (b : Back) (is : IsWriting c v b) where
         (refl, is.no_death),
       )
 
-  pub open_cut : (w : View) → w ≡ head_cut c v b.object b.position (committed_in c v b.position).0 (committed_in c v b.position).1 → IsOpen w
+  pub open_cut : (w : Knowledge) → w ≡ head_cut c v b.object b.position (committed_in c v b.position).0 (committed_in c v b.position).1 → IsOpen w
   open_cut w won =
       subst IsOpen (sym (won ∙ ap (λ (t : Version × CommitNote). head_cut c v b.object b.position t.0 t.1) picked))
       (record {
@@ -97,7 +97,7 @@ module _ (c : Config) (v : View) (b : Back) (is : IsWriting c v b) where
       })
 
   -- it was lost to a link
-  pub has_lost : (w : View) (link seat : ℕ) → w ≡ cut_lost c v b.object b.position link → seat ≡ link_seat_of link → link ≢ link_of v.number b.position
+  pub has_lost : (w : Knowledge) (link seat : ℕ) → w ≡ cut_lost c v b.object b.position link → seat ≡ link_seat_of link → link ≢ link_of v.number b.position
       → IsLinkOf c link → IsOfOther v link → NamesNewer c v b.object link → HasLostTo c v w b seat
   has_lost w link seat lost seat_is other packed of_other newer = record {
     link = link;
@@ -110,10 +110,10 @@ module _ (c : Config) (v : View) (b : Back) (is : IsWriting c v b) where
     view = lost;
   }
 
-  pub open_lost : (w : View) (link : ℕ) → w ≡ cut_lost c v b.object b.position link → IsOpen w
+  pub open_lost : (w : Knowledge) (link : ℕ) → w ≡ cut_lost c v b.object b.position link → IsOpen w
   open_lost w link lost = subst IsOpen (sym lost) (record { inside = is.inside; phase = is.phase; open_is = is.open_is; nothing = is.nothing })
 
-module _ (c : Config) (v : View) (l : Noted) (b : Back) (k : Stands c v l) (is : IsWriting c v b) where
+module _ (c : Config) (v : Knowledge) (l : Noted) (b : StartedWriteBack) (k : Stands c v l) (is : IsWriting c v b) where
   -- the note of the version
   noted : NotedSlot c l (index_of c b.position) is.version (Committed is.note)
   noted = noted_in c v l k (index_of c b.position) is.version (Committed is.note) is.own
@@ -137,10 +137,10 @@ module _ (c : Config) (v : View) (l : Noted) (b : Back) (k : Stands c v l) (is :
   here = ap (λ (p : ℕ). slot_at v.ring (index_of c p)) place ∙ is.own ∙ ap (λ (x : Version). Live x (Committed is.note)) (sym same)
 
   -- the view once it was won
-  cut_view : View
+  cut_view : Knowledge
   cut_view = head_cut c v n.object n.position (version_of n) is.note
 
-  module _ (w : View) (won : w ≡ head_cut c v b.object b.position (committed_in c v b.position).0 (committed_in c v b.position).1) where
+  module _ (w : Knowledge) (won : w ≡ head_cut c v b.object b.position (committed_in c v b.position).0 (committed_in c v b.position).1) where
     won_is : w ≡ head_cut c v b.object b.position is.version is.note
     won_is = won ∙ ap (λ (t : Version × CommitNote). head_cut c v b.object b.position t.0 t.1) (picked c v b is)
 
@@ -149,12 +149,12 @@ module _ (c : Config) (v : View) (l : Noted) (b : Back) (k : Stands c v l) (is :
     cut_is = won_is ∙ (λ q. head_cut c v (sym of_object q) (sym place q) (sym same q) is.note)
 
     -- and CLOCK was loaded
-    module _ (x : View) (word : ℕ) (loaded : (h : List Entry) × IsWhole c w word h × (x ≡ death_loaded c w word h)) where
-      abbrev after : View
+    module _ (x : Knowledge) (word : ℕ) (loaded : (h : List Entry) × IsWhole c w word h × (x ≡ death_loaded c w word h)) where
+      abbrev after : Knowledge
       after = death_loaded c (head_cut c v b.object b.position is.version is.note) word loaded.0
 
       after_is : x ≡ after
-      after_is = loaded.2 ∙ ap (λ (u : View). death_loaded c u word loaded.0) won_is
+      after_is = loaded.2 ∙ ap (λ (u : Knowledge). death_loaded c u word loaded.0) won_is
 
       pub open_then : IsOpen x
       open_then =
@@ -176,7 +176,7 @@ module _ (c : Config) (v : View) (l : Noted) (b : Back) (k : Stands c v l) (is :
           subst (λ (n : Noted). n.back < next_of n) (sym (is_retired ∙ ap (λ (p : ℕ). retired l p dead) (sym place)))
           (note_cut_room c v l noted.index n dead k noted.at noted.as_noted.1 alive)
 
-      module _ (y : View) (m : Noted) (left : y ≡ mark_cleared c x) (log : m ≡ back_noted (retired l b.position (clock_time_of word + 1))) where
+      module _ (y : Knowledge) (m : Noted) (left : y ≡ mark_cleared c x) (log : m ≡ back_noted (retired l b.position (clock_time_of word + 1))) where
         left_is : y ≡ mark_cleared c after
         left_is = left ∙ ap (mark_cleared c) after_is
 
@@ -187,7 +187,7 @@ module _ (c : Config) (v : View) (l : Noted) (b : Back) (k : Stands c v l) (is :
           own = is.own;
           word = word;
           history = loaded.0;
-          whole = subst (λ (u : View). IsWhole c u word loaded.0) won_is loaded.1;
+          whole = subst (λ (u : Knowledge). IsWhole c u word loaded.0) won_is loaded.1;
           view = left_is;
           log = log;
         }
@@ -199,15 +199,15 @@ module _ (c : Config) (v : View) (l : Noted) (b : Back) (k : Stands c v l) (is :
         pub stands_then : Stands c y m
         unfolding cut_view
         stands_then =
-            subst (λ (t : View × Noted). Stands c t.0 t.1)
+            subst (λ (t : Knowledge × Noted). Stands c t.0 t.1)
             (sym (λ q. (
-              (left ∙ ap (mark_cleared c) (loaded.2 ∙ ap (λ (u : View). death_loaded c u word loaded.0) cut_is)) q,
+              (left ∙ ap (mark_cleared c) (loaded.2 ∙ ap (λ (u : Knowledge). death_loaded c u word loaded.0) cut_is)) q,
               (log ∙ ap (λ (p : ℕ). back_noted (retired l p (clock_time_of word + 1))) (sym place)) q,
             )))
             (stands_cut c v l noted.index n is.note k noted.at here alive word loaded.0)
 
   -- the exchange was lost, and the section was left
-  module _ (w : View) (seat : ℕ) (lost : HasLostTo c v w b seat) (y : View) (left : y ≡ mark_cleared c w) where
+  module _ (w : Knowledge) (seat : ℕ) (lost : HasLostTo c v w b seat) (y : Knowledge) (left : y ≡ mark_cleared c w) where
     lost_is : y ≡ mark_cleared c (cut_lost c v b.object b.position lost.link)
     lost_is = left ∙ ap (mark_cleared c) lost.view
 
@@ -225,10 +225,10 @@ module _ (c : Config) (v : View) (l : Noted) (b : Back) (k : Stands c v l) (is :
     }
 
     pub stands_lost : Stands c y l
-    stands_lost = subst (λ (u : View). Stands c u l) (sym lost_is) (stands_uncut c v l b.object b.position lost.link k)
+    stands_lost = subst (λ (u : Knowledge). Stands c u l) (sym lost_is) (stands_uncut c v l b.object b.position lost.link k)
 
 -- the chain was cut and the time found: the section may be left, the version noted as dead, and so the write-back ends
-module _ (c : Config) (from v : View) (l : Noted) (b : Back) (time : ℕ) (k : HasTimed c from v l b time) where
+module _ (c : Config) (from v : Knowledge) (l : Noted) (b : StartedWriteBack) (time : ℕ) (k : HasTimed c from v l b time) where
   won : k.cut_view ≡ head_cut c from b.object b.position (committed_in c from b.position).0 (committed_in c from b.position).1
   won = k.cut.view ∙ (λ q. head_cut c from b.object b.position (version_in (sym k.cut.own q)) (note_in (sym k.cut.own q)))
 
@@ -244,7 +244,7 @@ module _ (c : Config) (from v : View) (l : Noted) (b : Back) (time : ℕ) (k : H
   pub may_note_timed : (m : Noted) → m ≡ retired l b.position (time + 1) → m.back < next_of m
   may_note_timed m is = may_note_cut c from l b k.stands k.writing k.cut_view won v k.death.word loaded (time + 1) m is
 
-  module _ (w : View) (m : Noted) (left : w ≡ mark_cleared c v) (log : m ≡ back_noted (retired l b.position (time + 1))) where
+  module _ (w : Knowledge) (m : Noted) (left : w ≡ mark_cleared c v) (log : m ≡ back_noted (retired l b.position (time + 1))) where
     log_is : m ≡ back_noted (retired l b.position (clock_time_of k.death.word + 1))
     log_is = log ∙ ap (λ (t : ℕ). back_noted (retired l b.position (t + 1))) k.death.time_is
 

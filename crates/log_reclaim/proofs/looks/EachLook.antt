@@ -7,13 +7,13 @@ use native.Mathlib.Decide.{ℕ_discrete}
 use Rattle.mv_history.specs.State.{State, Writes}
 use Rattle.mv_history.specs.declared.Step.{Step}
 use Rattle.mv_layout.specs.declared.Config.{Config}
-use Rattle.seat_log.specs.mv_core.declared.view.View.{View}
+use Rattle.seat_log.specs.mv_core.declared.view.Knowledge.{Knowledge}
 use Rattle.seat_log.specs.mv_core.Known.{Known}
 use Rattle.seat_log.specs.reader_marks.declared.scanning.Watermark.{Watermark}
 use Rattle.seat_log.specs.declared.version.Note.{Note}
 use Rattle.seat_log.specs.Notes.{Noted, IsNoteAt}
 use Rattle.seat_log.specs.Stands.{Stands}
-use Rattle.log_reclaim.specs.declared.settling.Found.{Found}
+use Rattle.log_reclaim.specs.declared.settling.HeadHolders.{HeadHolders}
 use Rattle.log_reclaim.specs.Parts.{IsOtherKind, IsPlainKind, DiesFrom, super_load, TimesDeath}
 use Rattle.log_reclaim.specs.Untimed.{StaysUntimed, DatedSo}
 use Rattle.log_reclaim.specs.Tries.{MaySettle}
@@ -24,7 +24,7 @@ use Rattle.log_reclaim.proofs.Reclaiming.{reclaims_none, reclaims_on, reclaims_m
 use Rattle.log_reclaim.proofs.Untimed.{untimed_on, untimed_then, dated_on, dated_then}
 
 -- a death that comes from none but the steps after it comes from where the first did
-dated_both : (c : Config) (w : View) (made : List Step) (top : ℕ) (back : Bool) (old was n : Note) → n.position ≡ was.position
+dated_both : (c : Config) (w : Knowledge) (made : List Step) (top : ℕ) (back : Bool) (old was n : Note) → n.position ≡ was.position
     → DatedSo c w made top back old was → DatedSo c w made top back was n → DatedSo c w made top back old n
 dated_both c w made top back old was n place a b =
     ⊎_elim
@@ -34,8 +34,9 @@ dated_both c w made top back old was n place a b =
     inr b
 
 -- before the first
-pub settles_first : (starts : State → Type 0) (allows : List ℕ → State → Writes → Type 0) (c : Config) (v : View) (l : Noted) (mark : Watermark) (clock : ℕ)
-    (back : Bool) (found : Found) → ∥ Known starts allows v ∥₁ → MaySettle v l mark clock → IsTableOf l found
+pub settles_first : (starts : State → Type 0) (allows : List ℕ → State → Writes → Type 0) (c : Config) (v : Knowledge) (l : Noted) (mark : Watermark)
+    (clock : ℕ)
+    (back : Bool) (found : HeadHolders) → ∥ Known starts allows v ∥₁ → MaySettle v l mark clock → IsTableOf l found
     → Settles c v v l l [] mark clock back found clock 0
 settles_first starts allows c v l mark clock back found known may table = record {
   reclaims = reclaims_none v may.outside (still_of starts allows v known may.outside.outside);
@@ -53,7 +54,7 @@ settles_first starts allows c v l mark clock back found known may table = record
 }
 
 -- what has been looked at so far, and one version more
-module _ (c : Config) (v u w : View) (l m p : Noted) (made more : List Step) (mark : Watermark) (clock : ℕ) (back : Bool) (old found : Found)
+module _ (c : Config) (v u w : Knowledge) (l m p : Noted) (made more : List Step) (mark : Watermark) (clock : ℕ) (back : Bool) (old found : HeadHolders)
     (top one index : ℕ) (may : MaySettle v l mark clock) (k : Stands c w p) (s : Settles c v u l m made mark clock back old top index)
     (o : SettlesOne c u w m p more mark clock back old found index one) where
   low_seen : mark.low ≤ u.base + length u.past.seen
@@ -126,7 +127,8 @@ module _ (c : Config) (v u w : View) (l m p : Noted) (made more : List Step) (ma
   }
 
 -- the next version may be looked at
-pub settles_may : (c : Config) (v w : View) (l p : Noted) (made : List Step) (mark : Watermark) (clock : ℕ) (back : Bool) (found : Found) (top done : ℕ)
+pub settles_may : (c : Config) (v w : Knowledge) (l p : Noted) (made : List Step) (mark : Watermark) (clock : ℕ) (back : Bool) (found : HeadHolders)
+    (top done : ℕ)
     → MaySettle v l mark clock → Settles c v w l p made mark clock back found top done → MaySettle w p mark clock
 settles_may c v w l p made mark clock back found top done may s = record {
   outside = reclaims_may v w made s.reclaims;
@@ -138,6 +140,7 @@ settles_may c v w l p made mark clock back found top done may s = record {
 }
 
 -- and the table is the log's
-pub settles_table : (c : Config) (v w : View) (l p : Noted) (made : List Step) (mark : Watermark) (clock : ℕ) (back : Bool) (found : Found) (top done : ℕ)
+pub settles_table : (c : Config) (v w : Knowledge) (l p : Noted) (made : List Step) (mark : Watermark) (clock : ℕ) (back : Bool) (found : HeadHolders)
+    (top done : ℕ)
     → Settles c v w l p made mark clock back found top done → IsTableOf p found
 settles_table c v w l p made mark clock back found top done s = (s.table.0 ∙ sym (ap (λ (x : Noted). x.freed) s.log), s.table.1)

@@ -2,7 +2,7 @@
 use Rattle.std.proofs.Common.{◌≡◌, ◌≢◌, ℕ, ◌+◌, ◌-◌, ◌<◌, refl, sym, ap, ◌∙◌, arith, get_or, Option, Some, None}
 use Rattle.std.proofs.lemmas.List.{length-set, get_or-set_same, get_or-set_other}
 use Rattle.seat_log.specs.Notes.{Noted}
-use Rattle.log_reclaim.specs.declared.settling.Found.{Found}
+use Rattle.log_reclaim.specs.declared.settling.HeadHolders.{HeadHolders}
 use Rattle.log_reclaim.specs.Sweeps.{seat_of_byte, byte_of_seat, found_at, found_set, IsTableOf}
 
 -- a seat is told by its byte
@@ -10,9 +10,9 @@ seat_back : (above : Option ℕ) → seat_of_byte (byte_of_seat above) ≡ above
 seat_back None = refl
 seat_back (Some seat) = refl
 
-module _ (l : Noted) (found : Found) (index : ℕ) (above : Option ℕ) (table : IsTableOf l found) where
+module _ (l : Noted) (found : HeadHolders) (index : ℕ) (above : Option ℕ) (table : IsTableOf l found) where
   -- the entry of a place
-  read_is : (f : Found) (i : ℕ) → f.base ≡ l.freed → found_at f (l.freed + i) ≡ seat_of_byte (get_or f.seats i 0)
+  read_is : (f : HeadHolders) (i : ℕ) → f.base ≡ l.freed → found_at f (l.freed + i) ≡ seat_of_byte (get_or f.seats i 0)
   read_is f i base = ap (λ j. seat_of_byte (get_or f.seats j 0)) (let e : l.freed + i - f.base ≡ i = omega arith in e)
 
   pub table_set : IsTableOf l (found_set found index above)

@@ -9,7 +9,7 @@ use native.Mathlib.Decide.{dec_lt}
 use Rattle.mv_history.specs.State.{State, Writes}
 use Rattle.mv_history.specs.declared.Step.{Step}
 use Rattle.mv_layout.specs.declared.Config.{Config}
-use Rattle.seat_log.specs.mv_core.declared.view.View.{View}
+use Rattle.seat_log.specs.mv_core.declared.view.Knowledge.{Knowledge}
 use Rattle.seat_log.specs.mv_core.Times.{latest, latest_at}
 use Rattle.seat_log.specs.mv_core.Known.{Known}
 use Rattle.seat_log.proofs.mv_core_lemmas.history.Latest.{latest_at-mono, latest_at-latest}
@@ -20,8 +20,8 @@ use Rattle.seat_log.specs.Notes.{Noted, IsNoteAt, retired}
 use Rattle.seat_log.specs.Stands.{Stands}
 use Rattle.seat_log.proofs.Places.{length-at_place, at_before, get_within}
 use Rattle.seat_log.proofs.Retired.{committed_at}
-use Rattle.log_reclaim.specs.declared.settling.Found.{Found}
-use Rattle.log_reclaim.specs.declared.settling.Tried.{Tried}
+use Rattle.log_reclaim.specs.declared.settling.HeadHolders.{HeadHolders}
+use Rattle.log_reclaim.specs.declared.settling.WriteBackSeen.{WriteBackSeen}
 use Rattle.log_reclaim.specs.Backs.{HasLater}
 use Rattle.log_reclaim.specs.Parts.{IsPlainKind, IsPlain, super_load, super_step, FindsOther}
 use Rattle.log_reclaim.specs.Untimed.{TriedSo, StaysUntimed, DatedSo}
@@ -37,11 +37,11 @@ use Rattle.log_reclaim.proofs.looks.FoundSeats.{table_set, found_here, found_els
 one_plain : (s : Step) → IsPlainKind s.kind → All (λ (t : Step). IsPlainKind t.kind) (s ∷ [])
 one_plain s is = All-cons (λ (t : Step). IsPlainKind t.kind) s [] is (All-nil (λ (t : Step). IsPlainKind t.kind))
 
-module _ (starts : State → Type 0) (allows : List ℕ → State → Writes → Type 0) (c : Config) (v : View) (l : Noted) (mark : Watermark) (clock : ℕ)
+module _ (starts : State → Type 0) (allows : List ℕ → State → Writes → Type 0) (c : Config) (v : Knowledge) (l : Noted) (mark : Watermark) (clock : ℕ)
     (known : ∥ Known starts allows v ∥₁) (base : v.base ≡ c.base) (k : Stands c v l) (may : MaySettle v l mark clock) (index : ℕ) (n : Note)
     (at : IsNoteAt l index n) where
   -- a version with a time of death was left alone
-  pub settles_timed : (back : Bool) (found : Found) → IsTableOf l found → n.dead ≢ 0 → SettlesOne c v v l l [] mark clock back found found index 0
+  pub settles_timed : (back : Bool) (found : HeadHolders) → IsTableOf l found → n.dead ≢ 0 → SettlesOne c v v l l [] mark clock back found found index 0
   settles_timed back found table timed =
       let makes = makes_none v may.outside (still_of starts allows v known may.outside.outside) in record {
         reclaims = makes.reclaims;
@@ -59,7 +59,7 @@ module _ (starts : State → Type 0) (allows : List ℕ → State → Writes →
       }
 
   -- it is noted as dead now
-  module _ (w : View) (m : Noted) (made : List Step) (back : Bool) (old found : Found) (dead backs top : ℕ) (some_time : 0 < dead)
+  module _ (w : Knowledge) (m : Noted) (made : List Step) (back : Bool) (old found : HeadHolders) (dead backs top : ℕ) (some_time : 0 < dead)
       (log : m ≡ record (retired l n.position dead) { back = backs }) (makes : Makes v w made) (plain : IsPlain back made)
       (within : top ≤ w.base + length w.past.seen)
       (table : IsTableOf l found) (kept : (i : ℕ) → i ≢ index → found_at found (l.freed + i) ≡ found_at old (l.freed + i)) where
@@ -98,7 +98,7 @@ module _ (starts : State → Type 0) (allows : List ℕ → State → Writes →
     }
 
   -- it is left without one, for a reason
-  pub settles_kept : (w : View) (made : List Step) (back : Bool) (old found : Found) (top : ℕ) → Makes v w made → IsPlain back made
+  pub settles_kept : (w : Knowledge) (made : List Step) (back : Bool) (old found : HeadHolders) (top : ℕ) → Makes v w made → IsPlain back made
       → top ≤ w.base + length w.past.seen
       → IsTableOf l found → ((i : ℕ) → i ≢ index → found_at found (l.freed + i) ≡ found_at old (l.freed + i))
       → StaysUntimed c w made mark clock back n (found_at found n.position) → SettlesOne c v w l l made mark clock back old found index top
@@ -119,7 +119,7 @@ module _ (starts : State → Type 0) (allows : List ℕ → State → Writes →
   }
 
   -- SUPER told a time of death
-  pub settles_found : (u : View) (m : Noted) (back : Bool) (found : Found) → IsTableOf l found → n.dead ≡ 0 → LoadsSuper c v u l m n true
+  pub settles_found : (u : Knowledge) (m : Noted) (back : Bool) (found : HeadHolders) → IsTableOf l found → n.dead ≡ 0 → LoadsSuper c v u l m n true
       → (made : List Step) × SettlesOne c v u l m made mark clock back found found index 0
   settles_found u m back found table none loads =
       let f = loads.some refl in
@@ -131,7 +131,7 @@ module _ (starts : State → Type 0) (allows : List ℕ → State → Writes →
       )
 
   -- SUPER was 0
-  module _ (u : View) (loads : LoadsSuper c v u l l n false) (none : n.dead ≡ 0) where
+  module _ (u : Knowledge) (loads : LoadsSuper c v u l l n false) (none : n.dead ≡ 0) where
     abbrev load : Step
     load = super_load c v.number n loads.time
 
@@ -154,7 +154,7 @@ module _ (starts : State → Type 0) (allows : List ℕ → State → Writes →
           tried = λ e. absurd (cc);
         }
 
-    pub settles_unbacked : (m : Noted) (back : Bool) (found : Found) → IsTableOf l found → back ≡ false → m ≡ l
+    pub settles_unbacked : (m : Noted) (back : Bool) (found : HeadHolders) → IsTableOf l found → back ≡ false → m ≡ l
         → (made : List Step) × SettlesOne c v u l m made mark clock back found found index 0
     settles_unbacked m back found table off log =
         let l0 = loaded in (
@@ -171,7 +171,7 @@ module _ (starts : State → Type 0) (allows : List ℕ → State → Writes →
         )
 
     -- and a write-back was tried
-    module _ (w : View) (m : Noted) (tried : Tried) (t : TriesOne c u w l m n mark tried) where
+    module _ (w : Knowledge) (m : Noted) (tried : WriteBackSeen) (t : TriesOne c u w l m n mark tried) where
       abbrev made : List Step
       made = load ∷ t.made
 
@@ -237,8 +237,8 @@ module _ (starts : State → Type 0) (allows : List ℕ → State → Writes →
       tried_untimed : (above : Option ℕ) → TriedSo c w made mark clock n above → StaysUntimed c w made mark clock true n above
       tried_untimed above why = record { committed = still.committed; super = still.super; unwritten = still.unwritten; tried = λ e. why }
 
-      module _ (found : Found) (table : IsTableOf l found) where
-        abbrev then : Found
+      module _ (found : HeadHolders) (table : IsTableOf l found) where
+        abbrev then : HeadHolders
         then = found_set found index tried.above
 
         fits : index < 4096

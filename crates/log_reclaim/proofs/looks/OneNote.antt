@@ -5,9 +5,9 @@ use Rattle.std.specs.Prelude.{unwrap_or}
 use Rattle.mv_history.specs.State.{State, Writes}
 use Rattle.mv_layout.specs.declared.Config.{Config}
 use Rattle.seat_log.specs.mv_core.declared.ring.Slot.TheVariants.{Live}
-use Rattle.seat_log.specs.mv_core.declared.ring.Status.{Status}
-use Rattle.seat_log.specs.mv_core.declared.ring.Status.TheVariants.{Held, Aborted, Committed}
-use Rattle.seat_log.specs.mv_core.declared.view.View.{View}
+use Rattle.seat_log.specs.mv_core.declared.ring.WriteSetStatus.{WriteSetStatus}
+use Rattle.seat_log.specs.mv_core.declared.ring.WriteSetStatus.TheVariants.{Held, Aborted, Committed}
+use Rattle.seat_log.specs.mv_core.declared.view.Knowledge.{Knowledge}
 use Rattle.seat_log.specs.mv_core.declared.view.Phase.TheVariants.{Outside}
 use Rattle.seat_log.specs.mv_core.Rings.{slot_at, index_of}
 use Rattle.seat_log.specs.mv_core.EnterSteps.{MayLoadLow}
@@ -17,7 +17,7 @@ use Rattle.seat_log.specs.reader_marks.Scans.{IsKnown}
 use Rattle.seat_log.specs.declared.version.Note.{Note}
 use Rattle.seat_log.specs.Notes.{Noted, held_from, IsNoteAt}
 use Rattle.seat_log.specs.Stands.{version_of, IsAsNoted, Stands}
-use Rattle.log_reclaim.specs.declared.settling.Tried.{Tried}
+use Rattle.log_reclaim.specs.declared.settling.WriteBackSeen.{WriteBackSeen}
 use Rattle.log_reclaim.specs.Tries.{IsUntimed, LoadsSuper, TriesOne}
 use Rattle.log_reclaim.proofs.Reclaiming.{reclaims_may}
 
@@ -32,7 +32,7 @@ note_of l position = unwrap_or (slice_get l.live (position - l.freed)) no_note
 nothing_once : IsProp ⊥
 nothing_once = λ a b. absurd a
 
-module _ (c : Config) (v : View) (l : Noted) (k : Stands c v l) (index : ℕ) (n : Note) (at : IsNoteAt l index n) where
+module _ (c : Config) (v : Knowledge) (l : Noted) (k : Stands c v l) (index : ℕ) (n : Note) (at : IsNoteAt l index n) where
   pub position_is : n.position ≡ l.freed + index
   position_is = k.log.notes.position index n at
 
@@ -48,27 +48,27 @@ module _ (c : Config) (v : View) (l : Noted) (k : Stands c v l) (index : ℕ) (n
   one_note other is = let e : Some other ≡ Some n = sym is ∙ at in cc
 
   -- the call of a load of SUPER is of this note
-  pub loads_is : (u : View) (m : Noted) (found : Bool) → LoadsSuper c v u l m (note_of l n.position) found → LoadsSuper c v u l m n found
+  pub loads_is : (u : Knowledge) (m : Noted) (found : Bool) → LoadsSuper c v u l m (note_of l n.position) found → LoadsSuper c v u l m n found
   loads_is u m found loads = subst (λ (x : Note). LoadsSuper c v u l m x found) note_is loads
 
   -- where it found 0 the log is the same
-  pub log_same : (u : View) (m : Noted) → LoadsSuper c v u l m n false → m ≡ l
+  pub log_same : (u : Knowledge) (m : Noted) → LoadsSuper c v u l m n false → m ≡ l
   log_same u m loads = (loads.none refl).1
 
   -- and the next call is of this note too
   pub note_same : (m : Noted) → m ≡ l → note_of m n.position ≡ n
   note_same m same = ap (λ z. note_of z n.position) same ∙ note_is
 
-  pub tries_is : (u w : View) (m z : Noted) (mark : Watermark) (tried : Tried) → m ≡ l → TriesOne c u w m z (note_of m n.position) mark tried
+  pub tries_is : (u w : Knowledge) (m z : Noted) (mark : Watermark) (tried : WriteBackSeen) → m ≡ l → TriesOne c u w m z (note_of m n.position) mark tried
       → TriesOne c u w l z n mark tried
   tries_is u w m z mark tried same t =
       subst (λ (y : Noted). TriesOne c u w y z n mark tried) same (subst (λ (x : Note). TriesOne c u w m z x mark tried) (note_same m same) t)
 
   -- what that call needs of the view
-  pub may_try : (u : View) (m : Noted) (found : Bool) → LoadsSuper c v u l m n found → MayLoadLow u
+  pub may_try : (u : Knowledge) (m : Noted) (found : Bool) → LoadsSuper c v u l m n found → MayLoadLow u
   may_try u m found loads = reclaims_may v u _ loads.makes.reclaims
 
-  pub knows_still : (u : View) (m : Noted) (found : Bool) (mark : Watermark) → LoadsSuper c v u l m n found → IsKnown v mark → IsKnown u mark
+  pub knows_still : (u : Knowledge) (m : Noted) (found : Bool) (mark : Watermark) → LoadsSuper c v u l m n found → IsKnown v mark → IsKnown u mark
   knows_still u m found mark loads is = let same = loads.grace in omega arith
 
   module _ (starts : State → Type 0) (allows : List ℕ → State → Writes → Type 0) (known : ∥ Known starts allows v ∥₁) (out : v.phase ≡ Outside) where
@@ -76,7 +76,8 @@ module _ (c : Config) (v : View) (l : Noted) (k : Stands c v l) (index : ℕ) (n
     pub committed : n.dead ≡ 0 → 0 < n.time
     committed none = let h = k.live index n at in go h.status h.lives h.as_noted
       where
-        go : (st : Status) → slot_at v.ring (index_of c (l.freed + index)) ≡ Live (version_of n) st → IsAsNoted (nat_le (held_from l) index) n st → 0 < n.time
+        go : (st : WriteSetStatus) → slot_at v.ring (index_of c (l.freed + index)) ≡ Live (version_of n) st → IsAsNoted (nat_le (held_from l) index) n st
+            → 0 < n.time
         go Held lives a = absurd (∥∥₁_elim known nothing_once (λ f. f.idle out (index_of c (l.freed + index)) (version_of n) lives))
         go (Aborted dead) lives a = let some = a.2 in absurd (omega arith)
         go (Committed note) lives a = a.1

@@ -11,12 +11,12 @@ use Rattle.mv_layout.specs.declared.Config.{Config}
 use Rattle.mv_layout.specs.Words.{link_of, link_seat_of, link_position_of}
 use Rattle.mv_layout.proofs.Unpacking.{link_seat_back, link_position_back}
 use Rattle.seat_log.specs.mv_core.declared.ring.Slot.TheVariants.{Live}
-use Rattle.seat_log.specs.mv_core.declared.ring.Status.TheVariants.{Held, Committed}
+use Rattle.seat_log.specs.mv_core.declared.ring.WriteSetStatus.TheVariants.{Held, Committed}
 use Rattle.seat_log.specs.mv_core.declared.ring.CommitNote.{CommitNote}
 use Rattle.seat_log.specs.mv_core.declared.ring.Version.{Version}
-use Rattle.seat_log.specs.mv_core.declared.view.View.{View}
-use Rattle.seat_log.specs.mv_core.declared.view.Section.{Section}
-use Rattle.seat_log.specs.mv_core.declared.view.Walk.TheVariants.{At, Master}
+use Rattle.seat_log.specs.mv_core.declared.view.Knowledge.{Knowledge}
+use Rattle.seat_log.specs.mv_core.declared.view.OwnSection.{OwnSection}
+use Rattle.seat_log.specs.mv_core.declared.view.WalkStage.TheVariants.{At, Master}
 use Rattle.seat_log.specs.mv_core.declared.view.Stand.{Stand}
 use Rattle.seat_log.specs.mv_core.declared.view.Passed.TheVariants.{Nothing}
 use Rattle.seat_log.specs.mv_core.Rings.{slot_at, index_of}
@@ -36,7 +36,7 @@ use Rattle.seat_log.proofs.Places.{get_within}
 use Rattle.seat_log.proofs.PlainSteps.{stands_entered}
 use Rattle.seat_log.proofs.Retired.{committed_at}
 use Rattle.seat_log.proofs.NotedSlots.{noted_in}
-use Rattle.log_reclaim.specs.declared.writing_back.Back.{Back}
+use Rattle.log_reclaim.specs.declared.writing_back.StartedWriteBack.{StartedWriteBack}
 use Rattle.log_reclaim.specs.declared.writing_back.NoBack.{NoBack}
 use Rattle.log_reclaim.specs.declared.writing_back.NoBack.TheVariants.{Young, Gone, Above}
 use Rattle.log_reclaim.specs.Backs.{IsCommitted, IsWriting, HasLooked, LeavesAt, HasLater, StartsSo}
@@ -80,11 +80,11 @@ pub place_small : (place live : ℕ) → place < live → live ≤ 4096 → plac
 place_small place live within few = omega arith
 
 -- the seat's number is small
-pub seat_small : (c : Config) (v e w : View) (l : Noted) (time object link seat : ℕ) (inside : Section) → Stands c v l → Begins c v e time
+pub seat_small : (c : Config) (v e w : Knowledge) (l : Noted) (time object link seat : ℕ) (inside : OwnSection) → Stands c v l → Begins c v e time
     → w ≡ head_loaded c e inside object link → seat ≡ w.number → seat < 64
 seat_small c v e w l time object link seat inside k b head is =
-    let first = ap (λ (u : View). u.number) b.rest in
-    let then : w.number ≡ e.number = ap (λ (u : View). u.number) head in
+    let first = ap (λ (u : Knowledge). u.number) b.rest in
+    let then : w.number ≡ e.number = ap (λ (u : Knowledge). u.number) head in
     let own = k.seat in
     let small = k.log.seat in
     omega arith
@@ -102,10 +102,10 @@ none_of None none = refl
 none_of (Some d) none = absurd (none d refl)
 
 -- the section has begun, in which HEAD is loaded
-module _ (c : Config) (v e : View) (l : Noted) (position : ℕ) (x n : Note) (time : ℕ) (k : Stands c v l) (live : IsCommitted l position n)
+module _ (c : Config) (v e : Knowledge) (l : Noted) (position : ℕ) (x n : Note) (time : ℕ) (k : Stands c v l) (live : IsCommitted l position n)
     (same : x ≡ n) (b : Begins c v e time) where
   number_is : e.number ≡ v.number
-  number_is = ap (λ (u : View). u.number) b.rest
+  number_is = ap (λ (u : Knowledge). u.number) b.rest
 
   section_is : section_in e ≡ b.inside
   section_is = ap inside_of b.phase
@@ -132,7 +132,7 @@ module _ (c : Config) (v e : View) (l : Noted) (position : ℕ) (x n : Note) (ti
       omega arith
 
   -- HEAD was loaded
-  module _ (w : View) (link : ℕ) (view : w ≡ head_loaded c e (section_in e) x.object link) (link_is : IsLinkOf c link) (own : IsOwnTop c e x.object link)
+  module _ (w : Knowledge) (link : ℕ) (view : w ≡ head_loaded c e (section_in e) x.object link) (link_is : IsLinkOf c link) (own : IsOwnTop c e x.object link)
       (newer : IsNewer c e x.object link) where
     looked_is : w ≡ head_loaded c e b.inside n.object link
     looked_is = view ∙ (λ q. head_loaded c e (section_is q) (same q).object link)
@@ -152,7 +152,7 @@ module _ (c : Config) (v e : View) (l : Noted) (position : ℕ) (x n : Note) (ti
 
     -- the link of the version, as the number of the seat then gives it
     pub link_there : (seat word : ℕ) → seat ≡ w.number → word ≡ link_of seat position → word ≡ link_of v.number position
-    link_there seat word seat_is is = is ∙ ap (λ (s : ℕ). link_of s position) (seat_is ∙ ap (λ (u : View). u.number) looked_is ∙ number_is)
+    link_there seat word seat_is is = is ∙ ap (λ (s : ℕ). link_of s position) (seat_is ∙ ap (λ (u : Knowledge). u.number) looked_is ∙ number_is)
 
     -- it names the version, whose chain then wasn't cut
     module _ (top : link ≡ link_of v.number position) where
@@ -180,7 +180,7 @@ module _ (c : Config) (v e : View) (l : Noted) (position : ℕ) (x n : Note) (ti
           let named : link_position_of link ≡ n.position = ap link_position_of top ∙ link_position_back v.number position small ∙ sym place in
           let seen = last some mine (version_of n) a.0 (ap (λ (p : ℕ). slot_at e.ring (index_of c p)) named ∙ a.1) in
           let object_is : n.object ≡ x.object = ap (λ (z : Note). z.object) (sym same) in
-          let base_is : e.base ≡ c.base = ap (λ (u : View). u.base) b.rest ∙ base in
+          let base_is : e.base ≡ c.base = ap (λ (u : Knowledge). u.base) b.rest ∙ base in
           let latest_is : latest e.base e.past.seen n.object ≡ latest c.base e.past.seen x.object = (λ q. latest (base_is q) e.past.seen (object_is q)) in
           none_of a.0.dead
           (λ d is.
@@ -195,13 +195,13 @@ module _ (c : Config) (v e : View) (l : Noted) (position : ℕ) (x n : Note) (ti
       writing known in_range alive =
           let a = committed_at c e l (position - l.freed) n stands live.at live.committed in
           let some : link ≢ 0 = λ z. link_some v.number position (sym top ∙ z) in
-          let grace : e.grace ≡ v.grace = ap (λ (u : View). u.grace) b.rest in
+          let grace : e.grace ≡ v.grace = ap (λ (u : Knowledge). u.grace) b.rest in
           let on_time = a.2 in
           let early : a.0.time ≤ e.grace = omega arith in
           let at = place in
           let low = small in
           let object_is : x.object ≡ n.object = ap (λ (z : Note). z.object) same in
-          subst (λ (t : View × Back). IsWriting c t.0 t.1)
+          subst (λ (t : Knowledge × StartedWriteBack). IsWriting c t.0 t.1)
           (sym (λ q. (looked_is q, record { object = (same q).object; position = sym place q; words = (same q).words; stored = 0 })))
           (record {
             inside = b.inside;
@@ -246,7 +246,7 @@ module _ (c : Config) (v e : View) (l : Noted) (position : ℕ) (x n : Note) (ti
           )
 
     -- it names another one, or is 0, and the section was left
-    module _ (y : View) (left : y ≡ mark_cleared c w) (other : link ≢ link_of v.number position) (own_link : IsOwnLink c e link)
+    module _ (y : Knowledge) (left : y ≡ mark_cleared c w) (other : link ≢ link_of v.number position) (own_link : IsOwnLink c e link)
         (last : IsLastOwn c e x.object link) where
       not_this : link ≢ link_of v.number n.position
       not_this z = other (z ∙ ap (link_of v.number) place)
@@ -294,11 +294,11 @@ module _ (c : Config) (v e : View) (l : Noted) (position : ℕ) (x n : Note) (ti
           (low, link, leaves, record { some = some; seat_is = refl; in_range = (link_is some).1; own = has_later some }))
 
 -- a write-back that started, or found another link, isn't too young
-pub ok_young : {A : Type 0} (back : Back) → ◌≡◌ {A = Result Back NoBack} (Ok back) (Err Young) → A
+pub ok_young : {A : Type 0} (back : StartedWriteBack) → ◌≡◌ {A = Result StartedWriteBack NoBack} (Ok back) (Err Young) → A
 ok_young back e = absurd (cc)
 
 pub top_young : {A : Type 0} (link : ℕ) (r : NoBack) → (link ≡ 0 → r ≡ Gone) → (link ≢ 0 → r ≡ Above (link_seat_of link))
-    → ◌≡◌ {A = Result Back NoBack} (Err r) (Err Young) → A
+    → ◌≡◌ {A = Result StartedWriteBack NoBack} (Err r) (Err Young) → A
 top_young link r gone above e =
     let young : r ≡ Young = cc in
     dite (ℕ_discrete link 0) (λ z. let clash : Gone ≡ Young = sym (gone z) ∙ young in absurd (cc))

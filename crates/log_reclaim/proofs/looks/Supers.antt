@@ -11,9 +11,9 @@ use Rattle.mv_history.specs.declared.Step.{Step}
 use Rattle.mv_history.specs.State.{State, Writes}
 use Rattle.mv_layout.specs.declared.Config.{Config}
 use Rattle.seat_log.specs.mv_core.declared.ring.Slot.TheVariants.{Live}
-use Rattle.seat_log.specs.mv_core.declared.ring.Status.TheVariants.{Committed}
+use Rattle.seat_log.specs.mv_core.declared.ring.WriteSetStatus.TheVariants.{Committed}
 use Rattle.seat_log.specs.mv_core.declared.ring.CommitNote.{CommitNote}
-use Rattle.seat_log.specs.mv_core.declared.view.View.{View}
+use Rattle.seat_log.specs.mv_core.declared.view.Knowledge.{Knowledge}
 use Rattle.seat_log.specs.mv_core.Rings.{slot_at, index_of}
 use Rattle.seat_log.specs.mv_core.Times.{writes_to, latest_at}
 use Rattle.seat_log.specs.mv_core.EnterSteps.{MayLoadLow}
@@ -53,7 +53,7 @@ none_written base h o t g low none =
     let cut = length-take (g - base) h in
     absurd (omega arith))
 
-module _ (c : Config) (v : View) (l : Noted) (position : ℕ) (n : Note) (k : Stands c v l) (u : IsUntimed l position n) where
+module _ (c : Config) (v : Knowledge) (l : Noted) (position : ℕ) (n : Note) (k : Stands c v l) (u : IsUntimed l position n) where
   abbrev own : CommitNote
   own = note_in (slot_at v.ring (index_of c position))
 
@@ -80,7 +80,7 @@ module _ (c : Config) (v : View) (l : Noted) (position : ℕ) (n : Note) (k : St
   pub may_retire : IsLive l position
   may_retire = subst (IsLive l) (sym position_is) (noted_live c v l (position - l.freed) n k u.at)
 
-  module _ (w : View) (found : ℕ) (is : w ≡ super_loaded c v position (version_of n) own found w.past.seen) where
+  module _ (w : Knowledge) (found : ℕ) (is : w ≡ super_loaded c v position (version_of n) own found w.past.seen) where
     view_is : w ≡ super_loaded c v n.position (version_of n) own found w.past.seen
     view_is = is ∙ ap (λ p. super_loaded c v p (version_of n) own found w.past.seen) position_is
 
@@ -102,7 +102,7 @@ module _ (c : Config) (v : View) (l : Noted) (position : ℕ) (n : Note) (k : St
       super_makes : Makes v w (step ∷ [])
       super_makes =
           let still = still_of starts allows v known may.outside in
-          let x : View = super_loaded c v n.position (version_of n) own found w.past.seen in
+          let x : Knowledge = super_loaded c v n.position (version_of n) own found w.past.seen in
           subst (λ y. Makes v y (step ∷ [])) (sym view_is) (record {
             reclaims = record {
               outside = may.outside;
@@ -131,14 +131,14 @@ module _ (c : Config) (v : View) (l : Noted) (position : ℕ) (n : Note) (k : St
           none_written v.base v.past.seen n.object n.time v.grace low
           (λ s e at writes late.
           sees.no_write none s e (subst (λ (b : ℕ). (b < s) × (slice_get v.past.seen (s - (b + 1)) ≡ Some e)) base at) writes (omega arith)) in
-          subst (λ (b : ℕ). latest_at b w.past.seen n.object v.grace ≤ n.time) (sym (ap (λ (x : View). x.base) view_is))
+          subst (λ (b : ℕ). latest_at b w.past.seen n.object v.grace ≤ n.time) (sym (ap (λ (x : Knowledge). x.base) view_is))
           (subst (λ h. latest_at v.base h n.object v.grace ≤ n.time) (sym (same_seen none)) bound)
 
       pub loads_none : found ≡ 0 → LoadsSuper c v w l l n false
       loads_none none = record {
         time = found;
         makes = super_makes;
-        grace = ap (λ (x : View). x.grace) view_is;
+        grace = ap (λ (x : Knowledge). x.grace) view_is;
         none = λ b. (none, refl, unwritten none);
         some = λ b. absurd (cc);
       }
@@ -147,12 +147,12 @@ module _ (c : Config) (v : View) (l : Noted) (position : ℕ) (n : Note) (k : St
       loads_some m some_time log = record {
         time = found;
         makes = super_makes;
-        grace = ap (λ (x : View). x.grace) view_is;
+        grace = ap (λ (x : Knowledge). x.grace) view_is;
         none = λ b. absurd (cc);
         some = λ b. (
           some_time,
           log ∙ ap (λ p. retired l p found) position_is,
-          subst (λ (b : ℕ). found ≤ b + length w.past.seen) (sym (ap (λ (x : View). x.base) view_is ∙ base)) sees.time,
+          subst (λ (b : ℕ). found ≤ b + length w.past.seen) (sym (ap (λ (x : Knowledge). x.base) view_is ∙ base)) sees.time,
         );
       }
 

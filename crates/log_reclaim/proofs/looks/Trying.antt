@@ -8,9 +8,9 @@ use Rattle.mv_history.specs.State.{State, Writes}
 use Rattle.mv_history.specs.declared.Step.{Step}
 use Rattle.mv_layout.specs.declared.Config.{Config}
 use Rattle.seat_log.specs.mv_core.declared.ring.Ring.{Ring}
-use Rattle.seat_log.specs.mv_core.declared.view.View.{View}
+use Rattle.seat_log.specs.mv_core.declared.view.Knowledge.{Knowledge}
 use Rattle.seat_log.specs.mv_core.declared.view.Phase.TheVariants.{Outside}
-use Rattle.seat_log.specs.mv_core.declared.view.Walk.TheVariants.{Nowhere}
+use Rattle.seat_log.specs.mv_core.declared.view.WalkStage.TheVariants.{Nowhere}
 use Rattle.seat_log.specs.mv_core.Chains.{IsLater}
 use Rattle.seat_log.specs.mv_core.EnterSteps.{MayLoadLow}
 use Rattle.seat_log.specs.mv_core.Rings.{slot_at, index_of}
@@ -22,7 +22,7 @@ use Rattle.seat_log.specs.declared.version.Note.{Note}
 use Rattle.seat_log.specs.Notes.{Noted, retired, back_noted}
 use Rattle.seat_log.specs.Stands.{version_of, Stands}
 use Rattle.seat_log.proofs.Retired.{committed_at}
-use Rattle.log_reclaim.specs.declared.writing_back.Back.{Back}
+use Rattle.log_reclaim.specs.declared.writing_back.StartedWriteBack.{StartedWriteBack}
 use Rattle.log_reclaim.specs.declared.writing_back.BackEnd.{BackEnd}
 use Rattle.log_reclaim.specs.declared.writing_back.BackEnd.TheVariants.{Cut, Above}
 use Rattle.log_reclaim.specs.Parts.{super_load, FindsTop, FindsNewer}
@@ -34,7 +34,7 @@ use Rattle.log_reclaim.proofs.Untimed.{times_then}
 use Rattle.log_reclaim.proofs.looks.Visits.{IsPlain, section_makes, looked_steps, looked_trail, looked_plain, looked_seen, looked_rest}
 use Rattle.log_reclaim.proofs.looks.Visits.{head_step, left_steps, left_makes, left_top, left_has_step, left_empty}
 
-module _ (starts : State → Type 0) (allows : List ℕ → State → Writes → Type 0) (c : Config) (v : View) (l : Noted) (n : Note) (mark : Watermark)
+module _ (starts : State → Type 0) (allows : List ℕ → State → Writes → Type 0) (c : Config) (v : Knowledge) (l : Noted) (n : Note) (mark : Watermark)
     (known : ∥ Known starts allows v ∥₁) (may : MayLoadLow v) (base : v.base ≡ c.base) where
   -- the version is too young for the watermark
   pub tries_young : mark.time < n.time → TriesOne c v v l l n mark (record { above = None; clock = 0 })
@@ -53,7 +53,7 @@ module _ (starts : State → Type 0) (allows : List ℕ → State → Writes →
       ∥∥₁_elim known le_prop (λ f. let seen = (f.commits _ _ a.0 a.1).seen in omega arith)
 
   -- the version found in HEAD by a step before which the log was as at the begin is newer
-  finds_newer : (position : ℕ) → Stands c v l → IsUntimed l position n → (w : View) (seat : ℕ) (s : Step) → (top : FindsTop c w n.object seat s)
+  finds_newer : (position : ℕ) → Stands c v l → IsUntimed l position n → (w : Knowledge) (seat : ℕ) (s : Step) → (top : FindsTop c w n.object seat s)
       → top.view.ring ≡ v.ring → FindsNewer c w n seat s
   finds_newer position k u w seat s top ring =
       let a = committed_at c v l (position - l.freed) n k u.at u.committed in record {
@@ -63,7 +63,7 @@ module _ (starts : State → Type 0) (allows : List ℕ → State → Writes →
       }
 
   -- HEAD had another link than the version's, and the section was left
-  module _ (u : View) (link : ℕ) (left : LeavesAt c v u n link) (first : ℕ) (last : first ≡ c.base + length u.past.seen) where
+  module _ (u : Knowledge) (link : ℕ) (left : LeavesAt c v u n link) (first : ℕ) (last : first ≡ c.base + length u.past.seen) where
     abbrev steps : List Step
     steps = left_steps c v left.inside n.object link left.looked u left.left
 
@@ -83,7 +83,7 @@ module _ (starts : State → Type 0) (allows : List ℕ → State → Writes →
     gone_empty position k untimed none = left_empty c v left.inside n.object link left.looked u left.left none base n.time (was_seen position k untimed)
 
     -- it was 0: SUPER was loaded once more, and then a time is found
-    pub tries_gone : (w : View) (m : Noted) → LoadsSuper c u w l m n true → TriesOne c v w l m n mark (record { above = None; clock = first })
+    pub tries_gone : (w : Knowledge) (m : Noted) → LoadsSuper c u w l m n true → TriesOne c v w l m n mark (record { above = None; clock = first })
     tries_gone w m loads =
         let found = loads.some refl in record {
           made = steps ++ super_load c u.number n loads.time ∷ [];
@@ -138,7 +138,7 @@ module _ (starts : State → Type 0) (allows : List ℕ → State → Writes →
         }
 
   -- HEAD named the version, and all words were stored
-  module _ (u w : View) (m : Noted) (link : ℕ) (back : Back) (end : BackEnd) (time first : ℕ) (looked : HasLooked c v u n.object link)
+  module _ (u w : Knowledge) (m : Noted) (link : ℕ) (back : StartedWriteBack) (end : BackEnd) (time first : ℕ) (looked : HasLooked c v u n.object link)
       (s : StoresAll c u w l m back end time) (last : first ≡ c.base + length u.past.seen) where
     abbrev all_steps : List Step
     all_steps = looked_steps c v u n.object link looked ++ s.made
@@ -151,7 +151,7 @@ module _ (starts : State → Type 0) (allows : List ℕ → State → Writes →
         ∙ append_assoc v.trail (looked_steps c v u n.object link looked) s.made)
         (All-append IsPlain (looked_steps c v u n.object link looked) s.made (looked_plain c v u n.object link looked) s.kinds)
         (s.rest ∙ ap
-        (λ (x : View). record x {
+        (λ (x : Knowledge). record x {
           past = record x.past { seen = w.past.seen };
           phase = Outside;
           clocks = w.clocks;
@@ -160,7 +160,7 @@ module _ (starts : State → Type 0) (allows : List ℕ → State → Writes →
           back = None;
           trail = w.trail;
         }) before
-        ∙ (let empty : u.empty ≡ w.empty = sym (ap (λ (x : View). x.empty) s.rest) in
+        ∙ (let empty : u.empty ≡ w.empty = sym (ap (λ (x : Knowledge). x.empty) s.rest) in
         λ i. record v {
           past = record v.past { seen = w.past.seen };
           phase = Outside;
@@ -216,11 +216,11 @@ module _ (starts : State → Type 0) (allows : List ℕ → State → Writes →
               seat,
               refl,
               record {
-                not_own = λ e. lost.1 (e ∙ ap (λ (x : View). x.number) s.rest);
+                not_own = λ e. lost.1 (e ∙ ap (λ (x : Knowledge). x.number) s.rest);
                 in_range = lost.2;
                 step = found.0;
                 there = Contains-append_right (looked_steps c v u n.object link looked) s.made found.0 found.1;
-                finds = finds_newer position k untimed w seat found.0 top.0 (top.1 ∙ ap (λ (x : View). x.ring) before);
+                finds = finds_newer position k untimed w seat found.0 top.0 (top.1 ∙ ap (λ (x : Knowledge). x.ring) before);
               },
             ),
           );

@@ -7,13 +7,13 @@ use Rattle.std.specs.Prelude.{All}
 use Rattle.mv_history.specs.declared.Step.{Step}
 use Rattle.mv_history.specs.declared.StepKind.TheVariants.{LoadHead, ClearMark}
 use Rattle.mv_layout.specs.declared.Config.{Config}
-use Rattle.mv_layout.specs.declared.Place.TheVariants.{Mark, Head}
+use Rattle.mv_layout.specs.declared.SharedWord.TheVariants.{Mark, Head}
 use Rattle.mv_layout.specs.Places.{place_of}
 use Rattle.mv_layout.specs.Words.{link_seat_of}
-use Rattle.seat_log.specs.mv_core.declared.view.View.{View}
+use Rattle.seat_log.specs.mv_core.declared.view.Knowledge.{Knowledge}
 use Rattle.seat_log.specs.mv_core.declared.view.EmptyHead.{EmptyHead}
 use Rattle.seat_log.specs.mv_core.declared.view.Phase.TheVariants.{Outside}
-use Rattle.seat_log.specs.mv_core.declared.view.Walk.TheVariants.{Nowhere}
+use Rattle.seat_log.specs.mv_core.declared.view.WalkStage.TheVariants.{Nowhere}
 use Rattle.seat_log.specs.mv_core.HistoryFacts.{BeginsWith}
 use Rattle.seat_log.specs.mv_core.EnterSteps.{MayLoadLow, mark_cleared}
 use Rattle.seat_log.specs.mv_core.ReclaimSteps.{FoundEmpty}
@@ -37,7 +37,7 @@ abbrev pub IsPlain : Step → Type 0
 IsPlain s = IsReclaimKind s.kind × IsOtherKind s.kind
 
 -- plain steps that end outside a section are a part of a reclaiming call
-pub section_makes : (v w : View) (made : List Step) → MayLoadLow v → w.phase ≡ Outside → BeginsWith w.past.seen v.past.seen
+pub section_makes : (v w : Knowledge) (made : List Step) → MayLoadLow v → w.phase ≡ Outside → BeginsWith w.past.seen v.past.seen
     → w.trail ≡ v.trail ++ made → All IsPlain made
     → w ≡ record v {
       past = record v.past { seen = w.past.seen };
@@ -50,13 +50,13 @@ pub section_makes : (v w : View) (made : List Step) → MayLoadLow v → w.phase
       trail = w.trail;
     } → Makes v w made
 section_makes v w made may outside seen trail kinds rest =
-    let past : record v.past { seen = w.past.seen } ≡ w.past = sym (ap (λ (x : View). x.past) rest) in
-    let grace : v.grace ≡ w.grace = sym (ap (λ (x : View). x.grace) rest) in record {
+    let past : record v.past { seen = w.past.seen } ≡ w.past = sym (ap (λ (x : Knowledge). x.past) rest) in
+    let grace : v.grace ≡ w.grace = sym (ap (λ (x : Knowledge). x.grace) rest) in record {
       reclaims = record {
         outside = outside;
-        no_scan = ap (λ (x : View). x.scan) rest ∙ may.no_scan;
+        no_scan = ap (λ (x : Knowledge). x.scan) rest ∙ may.no_scan;
         seen = seen;
-        mine = ap (λ (x : View). x.past.mine) rest;
+        mine = ap (λ (x : Knowledge). x.past.mine) rest;
         grace = omega arith;
         trail = trail;
         kinds = All-weaker IsPlain (λ s. IsReclaimKind s.kind) (λ s p. p.0) made kinds;
@@ -74,12 +74,12 @@ section_makes v w made may outside seen trail kinds rest =
               trail = w.trail;
             });
       };
-      rests = ap (λ (x : View). x.past.rests) rest;
+      rests = ap (λ (x : Knowledge). x.past.rests) rest;
       kinds = All-weaker IsPlain (λ s. IsOtherKind s.kind) (λ s p. p.1) made kinds;
     }
 
-module _ (c : Config) (v w : View) (object link : ℕ) (h : HasLooked c v w object link) where
-  abbrev e : View
+module _ (c : Config) (v w : Knowledge) (object link : ℕ) (h : HasLooked c v w object link) where
+  abbrev e : Knowledge
   e = h.entered
 
   -- the load of HEAD
@@ -90,12 +90,12 @@ module _ (c : Config) (v w : View) (object link : ℕ) (h : HasLooked c v w obje
   abbrev pub looked_steps : List Step
   looked_steps = h.begins.entered.steps ++ head_step ∷ []
 
-  abbrev x : View
+  abbrev x : Knowledge
   x = head_loaded c h.entered h.begins.inside object link
 
   pub looked_trail : w.trail ≡ v.trail ++ looked_steps
   looked_trail =
-      ap (λ (y : View). y.trail) h.looked ∙ ap (λ (l : List Step). l ++ head_step ∷ []) h.begins.entered.trail
+      ap (λ (y : Knowledge). y.trail) h.looked ∙ ap (λ (l : List Step). l ++ head_step ∷ []) h.begins.entered.trail
       ∙ append_assoc v.trail h.begins.entered.steps (head_step ∷ [])
 
   pub looked_plain : All IsPlain looked_steps
@@ -108,7 +108,7 @@ module _ (c : Config) (v w : View) (object link : ℕ) (h : HasLooked c v w obje
 
   pub looked_seen : BeginsWith w.past.seen v.past.seen
   looked_seen =
-      subst (λ (y : View). BeginsWith y.past.seen v.past.seen) (sym h.looked)
+      subst (λ (y : Knowledge). BeginsWith y.past.seen v.past.seen) (sym h.looked)
       (begins_by e.past.seen (take h.begins.at e.past.seen) v.past.seen (drop h.begins.at e.past.seen, sym (take-append-drop h.begins.at e.past.seen))
       h.begins.snapshot)
 
@@ -124,7 +124,7 @@ module _ (c : Config) (v w : View) (object link : ℕ) (h : HasLooked c v w obje
       }
   looked_rest =
       subst
-      (λ (y : View).
+      (λ (y : Knowledge).
       y ≡ record v {
         past = record v.past { seen = y.past.seen };
         phase = y.phase;
@@ -135,11 +135,11 @@ module _ (c : Config) (v w : View) (object link : ℕ) (h : HasLooked c v w obje
         trail = y.trail;
       })
       (sym h.looked)
-      (ap (λ (y : View). record y { walk = x.walk; empty = x.empty; trail = x.trail }) h.begins.rest)
+      (ap (λ (y : Knowledge). record y { walk = x.walk; empty = x.empty; trail = x.trail }) h.begins.rest)
 
   pub looked_stands : (l : Noted) → Stands c v l → Stands c w l
   looked_stands l k =
-      subst (λ (y : View). Stands c y l) (sym h.looked)
+      subst (λ (y : Knowledge). Stands c y l) (sym h.looked)
       (stands_same c e x l refl refl refl refl (unpassed is_free e.trail _ refl) (unpassed is_won_cut e.trail _ refl) (keeps_one e.trail _ refl refl)
       (stands_entered c v e l h.time h.begins k))
 
@@ -155,7 +155,7 @@ module _ (c : Config) (v w : View) (object link : ℕ) (h : HasLooked c v w obje
       omega arith
 
   -- the section was left at once
-  module _ (u : View) (left : u ≡ mark_cleared c w) where
+  module _ (u : Knowledge) (left : u ≡ mark_cleared c w) where
     abbrev pub clear_step : Step
     clear_step = record { kind = ClearMark; word = place_of c (Mark w.number); found = None; stored = Some 0 }
 
@@ -164,13 +164,13 @@ module _ (c : Config) (v w : View) (object link : ℕ) (h : HasLooked c v w obje
 
     pub left_makes : MayLoadLow v → Makes v u left_steps
     left_makes may =
-        let y : View = mark_cleared c w in
-        let ring : v.ring ≡ w.ring = sym (ap (λ (z : View). z.ring) looked_rest) in
+        let y : Knowledge = mark_cleared c w in
+        let ring : v.ring ≡ w.ring = sym (ap (λ (z : Knowledge). z.ring) looked_rest) in
         subst (λ z. Makes v z left_steps) (sym left)
         (section_makes v y left_steps may refl looked_seen
         (ap (λ (l : List Step). l ++ clear_step ∷ []) looked_trail ∙ append_assoc v.trail looked_steps (clear_step ∷ []))
         (All-append IsPlain looked_steps (clear_step ∷ []) looked_plain (All-cons IsPlain clear_step [] (tt, tt) (All-nil IsPlain)))
-        (ap (λ (z : View). record z { phase = Outside; clocks = no_clocks; walk = Nowhere; back = None; trail = y.trail }) looked_rest
+        (ap (λ (z : Knowledge). record z { phase = Outside; clocks = no_clocks; walk = Nowhere; back = None; trail = y.trail }) looked_rest
         ∙ (λ i. record v {
           past = record v.past { seen = w.past.seen };
           phase = Outside;
@@ -183,7 +183,7 @@ module _ (c : Config) (v w : View) (object link : ℕ) (h : HasLooked c v w obje
         })))
 
     pub left_stands : (l : Noted) → Stands c v l → Stands c u l
-    left_stands l k = subst (λ (y : View). Stands c y l) (sym left) (stands_unmarked c w l (looked_stands l k))
+    left_stands l k = subst (λ (y : Knowledge). Stands c y l) (sym left) (stands_unmarked c w l (looked_stands l k))
 
     -- HEAD named a version of another seat, which is the newest of the object; the log was then as before the section
     pub left_top : (seat : ℕ) → link ≢ 0 → link_seat_of link ≡ seat → link_seat_of link ≢ v.number
@@ -192,13 +192,13 @@ module _ (c : Config) (v w : View) (object link : ℕ) (h : HasLooked c v w obje
       record {
         finds = record { kind = tt; word = refl; link = link; found = refl; some = some; seat_is = is };
         view = e;
-        number = sym (ap (λ (y : View). y.number) left ∙ ap (λ (y : View). y.number) h.looked);
+        number = sym (ap (λ (y : Knowledge). y.number) left ∙ ap (λ (y : Knowledge). y.number) h.looked);
         after = clear_step ∷ [];
-        trail = ap (λ (y : View). y.trail) left ∙ ap (λ (y : View). y.trail ++ clear_step ∷ []) h.looked
+        trail = ap (λ (y : Knowledge). y.trail) left ∙ ap (λ (y : Knowledge). y.trail ++ clear_step ∷ []) h.looked
             ∙ append_assoc e.trail (head_step ∷ []) (clear_step ∷ []);
-        names = h.newer some (λ own. other (own ∙ ap (λ (y : View). y.number) h.begins.rest));
+        names = h.newer some (λ own. other (own ∙ ap (λ (y : Knowledge). y.number) h.begins.rest));
       },
-      ap (λ (y : View). y.ring) h.begins.rest,
+      ap (λ (y : Knowledge). y.ring) h.begins.rest,
     )
 
     pub left_has_step : Contains left_steps head_step
@@ -209,6 +209,6 @@ module _ (c : Config) (v w : View) (object link : ℕ) (h : HasLooked c v w obje
     left_empty none base time seen =
         let late = looked_late base in
         let empty : u.empty ≡ e.empty ++ record { object = object; time = time_in h.begins.inside } ∷ [] =
-        ap (λ (y : View). y.empty) left ∙ ap (λ (y : View). y.empty) h.looked ∙ ap (λ k. empty_too e.empty object (time_in h.begins.inside) k) none in
+        ap (λ (y : Knowledge). y.empty) left ∙ ap (λ (y : Knowledge). y.empty) h.looked ∙ ap (λ k. empty_too e.empty object (time_in h.begins.inside) k) none in
         let one : EmptyHead = record { object = object; time = time_in h.begins.inside } in
         (one, subst (λ l. Contains l one) (sym empty) (Contains-push e.empty one), refl, omega arith)

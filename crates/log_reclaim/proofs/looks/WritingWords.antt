@@ -6,19 +6,19 @@ use Rattle.mv_layout.specs.Words.{link_position_of}
 use Rattle.mv_layout.proofs.Unpacking.{link_position_back}
 use Rattle.seat_log.specs.mv_core.declared.ring.Slot.TheVariants.{Live}
 use Rattle.seat_log.specs.mv_core.declared.ring.Version.{Version}
-use Rattle.seat_log.specs.mv_core.declared.ring.Status.TheVariants.{Committed}
+use Rattle.seat_log.specs.mv_core.declared.ring.WriteSetStatus.TheVariants.{Committed}
 use Rattle.seat_log.specs.mv_core.declared.ring.CommitNote.{CommitNote}
-use Rattle.seat_log.specs.mv_core.declared.view.View.{View}
-use Rattle.seat_log.specs.mv_core.declared.view.Section.{Section}
+use Rattle.seat_log.specs.mv_core.declared.view.Knowledge.{Knowledge}
+use Rattle.seat_log.specs.mv_core.declared.view.OwnSection.{OwnSection}
 use Rattle.seat_log.specs.mv_core.Rings.{slot_at, index_of}
 use Rattle.seat_log.specs.mv_core.ReclaimSteps.{MayStoreMaster, master_stored}
 use Rattle.seat_log.specs.reader_marks.Sections.{inside_of}
 use Rattle.seat_log.specs.Builds.{version_in, note_in}
-use Rattle.log_reclaim.specs.declared.writing_back.Back.{Back}
+use Rattle.log_reclaim.specs.declared.writing_back.StartedWriteBack.{StartedWriteBack}
 use Rattle.log_reclaim.specs.Backs.{IsWriting, StoresWord}
 use Rattle.log_reclaim.proofs.looks.Picks.{position_of, back_in}
 
-module _ (c : Config) (v : View) (b : Back) (k : IsWriting c v b) where
+module _ (c : Config) (v : Knowledge) (b : StartedWriteBack) (k : IsWriting c v b) where
   -- the position that the view gives is that of the write-back
   pub position_is : position_of v.back v.walk ≡ b.position
   position_is =
@@ -39,7 +39,7 @@ module _ (c : Config) (v : View) (b : Back) (k : IsWriting c v b) where
   pub may_store : (value : ℕ) → value ≡ slice_index b.words b.stored → b.stored < 6
       → MayStoreMaster c v b.object b.stored value (back_in c v).0 (back_in c v).1 (back_in c v).2 (back_in c v).3
   may_store value is left =
-      subst (λ (t : ℕ × Version × CommitNote × Section). MayStoreMaster c v b.object b.stored value t.0 t.1 t.2 t.3) (sym back_is)
+      subst (λ (t : ℕ × Version × CommitNote × OwnSection). MayStoreMaster c v b.object b.stored value t.0 t.1 t.2 t.3) (sym back_is)
       (record {
         phase = k.phase;
         open_is = k.open_is;
@@ -53,7 +53,7 @@ module _ (c : Config) (v : View) (b : Back) (k : IsWriting c v b) where
         value_is = is ∙ ap (λ ws. slice_index ws b.stored) (sym k.words_is);
       })
 
-  module _ (w : View) (d : Back) (value : ℕ) (is : value ≡ slice_index b.words b.stored) (left : b.stored < 6)
+  module _ (w : Knowledge) (d : StartedWriteBack) (value : ℕ) (is : value ≡ slice_index b.words b.stored) (left : b.stored < 6)
       (view : w ≡ master_stored c v b.object b.stored value (back_in c v).0) (more : d ≡ record b { stored = b.stored + 1 }) where
     -- the view after it
     pub stores_word : StoresWord c v w b d
@@ -62,8 +62,8 @@ module _ (c : Config) (v : View) (b : Back) (k : IsWriting c v b) where
     -- the write-back goes on
     pub writing_on : IsWriting c w d
     writing_on =
-        let next : Back = record b { stored = b.stored + 1 } in
-        subst (λ (t : View × Back). IsWriting c t.0 t.1) (sym (λ q. (stores_word.view q, more q)))
+        let next : StartedWriteBack = record b { stored = b.stored + 1 } in
+        subst (λ (t : Knowledge × StartedWriteBack). IsWriting c t.0 t.1) (sym (λ q. (stores_word.view q, more q)))
         (record {
           inside = k.inside;
           phase = k.phase;

@@ -6,12 +6,12 @@ use Rattle.std.proofs.lemmas.List.Elements.{Contains-append_left}
 use Rattle.mv_history.specs.Trail.{clock_exchanges}
 use Rattle.mv_history.specs.declared.Step.{Step}
 use Rattle.mv_layout.specs.declared.Config.{Config}
-use Rattle.seat_log.specs.mv_core.declared.view.View.{View}
+use Rattle.seat_log.specs.mv_core.declared.view.Knowledge.{Knowledge}
 use Rattle.seat_log.specs.commit_clock.Hears.{FindsUpTo, Hears}
 use Rattle.seat_log.specs.declared.version.Note.{Note}
 use Rattle.seat_log.specs.Notes.{Noted}
-use Rattle.log_reclaim.specs.declared.settling.Found.{Found}
-use Rattle.log_reclaim.specs.declared.rounds.Scanned.{Scanned}
+use Rattle.log_reclaim.specs.declared.settling.HeadHolders.{HeadHolders}
+use Rattle.log_reclaim.specs.declared.rounds.RoundScan.{RoundScan}
 use Rattle.log_reclaim.specs.Parts.{Reclaims, DiesFrom, HasScan, super_load, TimesDeath}
 use Rattle.log_reclaim.specs.Sweeps.{Sweeps}
 use Rattle.log_reclaim.specs.Tidies.{IsAnyAbove, TriesRest, RestsSo, RestIsDue, RestsWhereDue}
@@ -20,7 +20,7 @@ use Rattle.log_reclaim.proofs.MoreSteps.{scan_more}
 use Rattle.log_reclaim.proofs.Reclaiming.{reclaims_number, reclaims_on}
 use Rattle.log_reclaim.proofs.Untimed.{times_first}
 
-module _ (c : Config) (v u x w : View) (k l m : Noted) (made rested later : List Step) (first : Scanned) (found : Found) (freed : ℕ)
+module _ (c : Config) (v u x w : Knowledge) (k l m : Noted) (made rested later : List Step) (first : RoundScan) (found : HeadHolders) (freed : ℕ)
     (sweep : Sweeps c v u k l made true first found freed) (hears : Hears v u first.latest) (rest : RestsSo c u x l m rested first.latest)
     (after : Reclaims x w later)
     (none : clock_exchanges later ≡ []) where

@@ -4,13 +4,13 @@ use Rattle.std.proofs.lemmas.Bool.{cases_lt}
 use Rattle.mv_history.specs.State.{State, Writes}
 use Rattle.mv_history.specs.declared.Step.{Step}
 use Rattle.mv_layout.specs.declared.Config.{Config}
-use Rattle.seat_log.specs.mv_core.declared.view.View.{View}
+use Rattle.seat_log.specs.mv_core.declared.view.Knowledge.{Knowledge}
 use Rattle.seat_log.specs.mv_core.Known.{Known}
 use Rattle.seat_log.specs.declared.version.Note.{Note}
 use Rattle.seat_log.specs.Notes.{Noted, IsNoteAt}
 use Rattle.seat_log.specs.Stands.{Stands}
-use Rattle.log_reclaim.specs.declared.settling.Found.{Found}
-use Rattle.log_reclaim.specs.declared.rounds.Scanned.{Scanned}
+use Rattle.log_reclaim.specs.declared.settling.HeadHolders.{HeadHolders}
+use Rattle.log_reclaim.specs.declared.rounds.RoundScan.{RoundScan}
 use Rattle.log_reclaim.specs.Parts.{DiesFrom}
 use Rattle.log_reclaim.specs.Untimed.{StaysUntimed}
 use Rattle.log_reclaim.specs.Sweeps.{Sweeps, found_at}
@@ -26,8 +26,9 @@ untimed_same old n dies none =
     let was : old.dead ≡ 0 = ⊎_elim (λ some. let e = dies.once some in absurd (omega arith)) (λ le. omega arith) (cases_lt 0 old.dead) in
     dies.same ∙ ap (λ (t : ℕ). record old { dead = t }) (none ∙ sym was)
 
-module _ (starts : State → Type 0) (allows : List ℕ → State → Writes → Type 0) (c : Config) (v u : View) (k l : Noted) (made : List Step) (first : Scanned)
-    (found : Found) (freed : ℕ)
+module _ (starts : State → Type 0) (allows : List ℕ → State → Writes → Type 0) (c : Config) (v u : Knowledge) (k l : Noted) (made : List Step)
+    (first : RoundScan)
+    (found : HeadHolders) (freed : ℕ)
     (sweep : Sweeps c v u k l made true first found freed) (stands : Stands c v k) (known : ∥ Known starts allows v ∥₁) where
   -- after the first round each was seen, or is at most one above the clock
   pub death_first : (i : ℕ) (n : Note) → IsNoteAt l i n → (n.dead ≤ u.base + length u.past.seen) ⊎ (n.dead ≤ first.latest + 1)
@@ -42,7 +43,7 @@ module _ (starts : State → Type 0) (allows : List ℕ → State → Writes →
       (λ new. ⊎_elim (λ seen. inl seen.0) (λ t. inr t.1) new)
       r.3
 
-  module _ (x : View) (m : Noted) (rested : List Step) (rest : RestsSo c u x l m rested first.latest) where
+  module _ (x : Knowledge) (m : Noted) (rested : List Step) (rest : RestsSo c u x l m rested first.latest) where
     pub at_before : (i : ℕ) (n : Note) → IsNoteAt m i n → IsNoteAt l i n
     at_before i n at = ap (λ (q : Noted). slice_get q.live i) (sym rest.log) ∙ at
 
@@ -59,7 +60,7 @@ module _ (starts : State → Type 0) (allows : List ℕ → State → Writes →
         (λ moved. ⊎_elim (λ late. inl (⊎_elim (λ seen. omega arith) (λ one. omega arith) (death_first i n was))) inr moved)
         rest.dated
 
-    module _ (w : View) (o : Noted) (later : List Step) (last : Scanned) (unused : Found) (more : ℕ)
+    module _ (w : Knowledge) (o : Noted) (later : List Step) (last : RoundScan) (unused : HeadHolders) (more : ℕ)
         (again : Sweeps c x w m o later false last unused more) where
       -- of a version that has none after the last round it is known why from the first
       pub untimed_first : (i : ℕ) (n : Note) → IsNoteAt o i n → n.dead ≡ 0 → StaysUntimed c u made first.mark first.clock true n (found_at found n.position)

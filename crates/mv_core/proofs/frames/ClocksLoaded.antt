@@ -4,9 +4,10 @@ use Rattle.std.proofs.Common.{◌≡◌, ◌≢◌, ◌⊎◌, ℕ, ◌<◌, ◌
 use Rattle.std.specs.Prelude.{Contains}
 use Rattle.std.proofs.lemmas.List.Elements.{Contains-append_left, Contains-append_cases}
 use Rattle.mv_core.proofs.Terms.{dite, ℕ_discrete, Entry, State, Writes, Config, Clock, Master, Stamp, Checked, Memory, clock_time_of, clock_seat_of}
-use Rattle.mv_core.proofs.Terms.{clock_slot_of, unset_of, Ring, Version, Committed, CommitNote, Section, LoadedClocks, FoundStamp, index_of, Lives, ViewParts}
+use Rattle.mv_core.proofs.Terms.{clock_slot_of, unset_of, Ring, Version, Committed, CommitNote, OwnSection, LoadedClocks, FoundStamp, index_of, Lives}
+use Rattle.mv_core.proofs.Terms.{ViewParts}
 use Rattle.mv_layout.proofs.Unpacking.{time_back, seat_back, slot_back}
-use Rattle.mv_core.specs.declared.view.Walk.TheVariants.{Nowhere}
+use Rattle.mv_core.specs.declared.view.WalkStage.TheVariants.{Nowhere}
 use Rattle.mv_core.proofs.FactTerms.{stamp_of, Stamps, Positions, IsPastHelp, StampedPastHelp, WasClock, IsDone, IsNamedCommit, IsFound, HelpedWords}
 use Rattle.mv_core.proofs.FactTerms.{LoadedWords, FoundStamps, WriteBacks, Facts}
 use Rattle.mv_core.specs.EnterSteps.{helped_too}
@@ -60,7 +61,7 @@ module _ (c : Config) (clock : ℕ) (stamp : ℕ → ℕ → ℕ) (h : List Entr
       done)
 
   -- so stamped-past-help follows from what sections note of clock words
-  pub past_help : (section : ℕ → Option Section) (clocks : ℕ → LoadedClocks) → LoadedWords c clock section clocks → HelpedWords clock stamp clocks
+  pub past_help : (section : ℕ → Option OwnSection) (clocks : ℕ → LoadedClocks) → LoadedWords c clock section clocks → HelpedWords clock stamp clocks
       → StampedPastHelp c stamp section clocks rings
   past_help section clocks words helped s inside at past t k x note lives le =
       stamped_by_done inside.word (words.helped s inside.word past) (helped s inside.word past) t k x note lives le
@@ -147,7 +148,7 @@ module _ {starts : State → Type 0} {allows : List ℕ → State → Writes →
     stamps_after = found_anew c (m Clock) (λ s k. m (Stamp s k)) f.clocks n f.ring x is.now is.checked k.found_stamp
 
     -- who was past the help still is
-    still_past : (s : ℕ) (inside : Section) → IsPastHelp (f.clocks s) inside → IsPastHelp (t.clocks s) inside
+    still_past : (s : ℕ) (inside : OwnSection) → IsPastHelp (f.clocks s) inside → IsPastHelp (t.clocks s) inside
     still_past s inside = set_at_all (λ s u. IsPastHelp (f.clocks s) inside → IsPastHelp u inside) f.clocks n x (is.grows inside.word) (λ s ne a. a) s
 
     backs_after : WriteBacks c h (λ o w. m (Master o w)) f.section f.time t.clocks f.grace f.back f.ring
@@ -160,6 +161,6 @@ module _ {starts : State → Type 0} {allows : List ℕ → State → Writes →
     clocks_facts =
         let past = past_help c (m Clock) (λ s k. m (Stamp s k)) h f.ring k.checked clock_small k.stamps k.positions f.section t.clocks words_after
         helped_words_after in
-        let helped : (s : ℕ) (inside : Section) → f.section s ≡ Some inside → f.walk s ≢ Nowhere → IsPastHelp (t.clocks s) inside =
+        let helped : (s : ℕ) (inside : OwnSection) → f.section s ≡ Some inside → f.walk s ≢ Nowhere → IsPastHelp (t.clocks s) inside =
         λ s inside at walks. still_past s inside (k.walker_knowledge.helped s inside at walks) in
         assumption (helped_words_after, past, helped, stamps_after, words_after, backs_after, k)

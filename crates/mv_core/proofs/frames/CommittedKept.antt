@@ -1,7 +1,7 @@
 -- A step that changes logs but no committed version, and frees no slot: what it keeps of the facts that speak of committed versions.
 use Rattle.std.proofs.Common.{◌≡◌, ◌⊎◌, ℕ, ◌≤◌, List, sym, ◌∙◌, ⊎_elim, inl, inr, le_trans, arith, Option, Some}
-use Rattle.mv_core.proofs.Terms.{Entry, State, Config, link_of, clock_seat_of, clock_slot_of, Ring, Version, Status, Committed, CommitNote, EmptyHead}
-use Rattle.mv_core.proofs.Terms.{LoadedClocks, Section, Named, Naming, WriteBack, HoldsNothing, Lives, Names, IsGone, IsVersion, NoneUncut, IsTop, latest}
+use Rattle.mv_core.proofs.Terms.{Entry, State, Config, link_of, clock_seat_of, clock_slot_of, Ring, Version, WriteSetStatus, Committed, CommitNote, EmptyHead}
+use Rattle.mv_core.proofs.Terms.{LoadedClocks, OwnSection, Named, Naming, WriteBack, HoldsNothing, Lives, Names, IsGone, IsVersion, NoneUncut, IsTop, latest}
 use Rattle.mv_core.proofs.FactTerms.{CommitOf, NamedCommit, IsNamedCommit, StampedPastHelp, CommitLink, PresentMaster, ChainFoot, FreedIsOld}
 use Rattle.mv_core.proofs.FactTerms.{SuccessorFlag, WriteBacks, MasterServes, SucceededHasSuper}
 use Rattle.mv_core.proofs.frames.KeptRecords.{same_back, same_named}
@@ -10,9 +10,10 @@ use Rattle.mv_core.proofs.frames.KeptRecords.{same_back, same_named}
 pub record KeepsCommitted (rings later : ℕ → Ring) : Type 0 where
   pub was : (s k : ℕ) (x : Version) (note : CommitNote) → Lives later s k x (Committed note) → Lives rings s k x (Committed note)
   pub still : (s k : ℕ) (x : Version) (note : CommitNote) → Lives rings s k x (Committed note) → Lives later s k x (Committed note)
-  pub alive : (s k : ℕ) (x : Version) (st : Status) → Lives rings s k x st → (y : Version) × (su : Status) × Lives later s k y su × (y.position ≡ x.position)
-  pub known : (s k : ℕ) (x : Version) (st : Status) → Lives later s k x st
-      → ((y : Version) × (su : Status) × Lives rings s k y su × (y.position ≡ x.position)) ⊎ ((rings s).next ≤ x.position)
+  pub alive : (s k : ℕ) (x : Version) (st : WriteSetStatus) → Lives rings s k x st → (y : Version) × (su : WriteSetStatus) × Lives later s k y su
+      × (y.position ≡ x.position)
+  pub known : (s k : ℕ) (x : Version) (st : WriteSetStatus) → Lives later s k x st
+      → ((y : Version) × (su : WriteSetStatus) × Lives rings s k y su × (y.position ≡ x.position)) ⊎ ((rings s).next ≤ x.position)
   pub grows : (s : ℕ) → (rings s).next ≤ (later s).next
 
 module _ (rings later : ℕ → Ring) (kept : KeepsCommitted rings later) where
@@ -53,7 +54,8 @@ module _ (rings later : ℕ → Ring) (kept : KeepsCommitted rings later) where
   }
 
   -- a link that names no version any more named none
-  pub unnamed_was : (link : ℕ) → ((x : Version) (st : Status) → ¬ (Names later link x st)) → (x : Version) (st : Status) → ¬ (Names rings link x st)
+  pub unnamed_was : (link : ℕ) → ((x : Version) (st : WriteSetStatus) → ¬ (Names later link x st)) → (x : Version) (st : WriteSetStatus)
+      → ¬ (Names rings link x st)
   unnamed_was link none x st n =
       let a = kept.alive n.seat n.slot x st n.lives in
       none a.0 a.1 (record { seat = n.seat; slot = n.slot; lives = a.2; is = n.is ∙ (λ i. link_of n.seat (sym a.3 i)) })
@@ -94,15 +96,15 @@ module _ (rings later : ℕ → Ring) (kept : KeepsCommitted rings later) where
       serves_kept t o k = (k.0, uncut_still o _ k.1)
 
     -- a commit that was named, where the seats that have named one hold nothing still
-    pub named_kept : (stamp : ℕ → ℕ → ℕ) (section : ℕ → Option Section)
-        → ((s : ℕ) (inside : Section) (n : Naming) → section s ≡ Some inside → inside.mode ≡ Named n → HoldsNothing (rings s) → HoldsNothing (later s))
+    pub named_kept : (stamp : ℕ → ℕ → ℕ) (section : ℕ → Option OwnSection)
+        → ((s : ℕ) (inside : OwnSection) (n : Naming) → section s ≡ Some inside → inside.mode ≡ Named n → HoldsNothing (rings s) → HoldsNothing (later s))
         → NamedCommit c h stamp section rings → NamedCommit c h stamp section later
     named_kept stamp section nothing k s inside n at mode =
         let r = k s inside n at mode in
         same_named r r.note r.last (nothing s inside n at mode r.nothing) (kept.still s _ r.version r.note r.lives) r.time_is r.stamped
 
     -- a write-back, where the seats that write back hold nothing still
-    pub back_kept : (master : ℕ → ℕ → ℕ) (section : ℕ → Option Section) (time : ℕ → Option ℕ) (clocks : ℕ → LoadedClocks) (grace : ℕ → ℕ)
+    pub back_kept : (master : ℕ → ℕ → ℕ) (section : ℕ → Option OwnSection) (time : ℕ → Option ℕ) (clocks : ℕ → LoadedClocks) (grace : ℕ → ℕ)
         (back : ℕ → Option WriteBack)
         → ((s : ℕ) (b : WriteBack) → back s ≡ Some b → HoldsNothing (rings s) → HoldsNothing (later s))
         → WriteBacks c h master section time clocks grace back rings → WriteBacks c h master section time clocks grace back later
@@ -111,12 +113,12 @@ module _ (rings later : ℕ → Ring) (kept : KeepsCommitted rings later) where
         let r = o.2 in
         (o.0, o.1, same_back r r.note r.helped (nothing s b at r.nothing) (kept.still s _ r.version r.note r.lives) r.old r.known r.last r.uncut r.words)
 
-  pub past_help_kept : (c : Config) (stamp : ℕ → ℕ → ℕ) (section : ℕ → Option Section) (clocks : ℕ → LoadedClocks)
+  pub past_help_kept : (c : Config) (stamp : ℕ → ℕ → ℕ) (section : ℕ → Option OwnSection) (clocks : ℕ → LoadedClocks)
       → StampedPastHelp c stamp section clocks rings
       → StampedPastHelp c stamp section clocks later
   past_help_kept c stamp section clocks k s inside at past t j x note lives = k s inside at past t j x note (kept.was t j x note lives)
 
-  pub flag_kept : (super : ℕ → ℕ → ℕ) (section : ℕ → Option Section) → SuccessorFlag super section rings → SuccessorFlag super section later
+  pub flag_kept : (super : ℕ → ℕ → ℕ) (section : ℕ → Option OwnSection) → SuccessorFlag super section rings → SuccessorFlag super section later
   flag_kept super section k s j inside n x note at mode lives e =
       let r = k s j inside n x note at mode (kept.was s j x note lives) e in
       (r.0, λ y other below. r.1 y other (names_was x.previous y other below))

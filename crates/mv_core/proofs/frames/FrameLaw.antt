@@ -4,7 +4,7 @@
 -- afterwards, by `settle`. There each part that isn't named is as it was by computation, so a fact that reads no changed part is
 -- that of before, as it stands; and of a part that changes, `set_at_all` says what holds by number.
 use Rattle.std.proofs.Common.{◌≡◌, ◌≢◌, ℕ, cond, List, sym, refl, ap, ◌∙◌, subst, eq-eqb, ne_eqb, Option, Some, None}
-use Rattle.mv_core.proofs.Terms.{dite, ℕ_discrete, Entry, State, Writes, Config, Memory, Ring, View, Past, Phase, Section, LoadedClocks, Walk}
+use Rattle.mv_core.proofs.Terms.{dite, ℕ_discrete, Entry, State, Writes, Config, Memory, Ring, Knowledge, Past, Phase, OwnSection, LoadedClocks, WalkStage}
 use Rattle.mv_core.proofs.Terms.{EmptyHead, WriteBack, Scan, section_of, time_of, ViewParts, parts_of, set_at}
 use Rattle.mv_core.specs.Rule.{Facts}
 
@@ -41,10 +41,10 @@ Fit old new (Some x) = new ≡ x
 pub record Change : Type 0 where
   pub past : Option Past
   pub phase : Option Phase
-  pub section : Option (Option Section)
+  pub section : Option (Option OwnSection)
   pub time : Option (Option ℕ)
   pub clocks : Option LoadedClocks
-  pub walk : Option Walk
+  pub walk : Option WalkStage
   pub empty : Option (List EmptyHead)
   pub ring : Option Ring
   pub back : Option (Option WriteBack)
@@ -83,13 +83,13 @@ changed f n t = record {
 }
 
 -- the new view is the old one with that change
-abbrev pub Fits : View → View → Change → Type 0
+abbrev pub Fits : Knowledge → Knowledge → Change → Type 0
 Fits v w t =
     Fit v.past w.past t.past × Fit v.phase w.phase t.phase × Fit (section_of v.phase) (section_of w.phase) t.section
     × Fit (time_of v.phase) (time_of w.phase) t.time × Fit v.clocks w.clocks t.clocks × Fit v.walk w.walk t.walk
     × Fit v.empty w.empty t.empty × Fit v.ring w.ring t.ring × Fit v.back w.back t.back × Fit v.scan w.scan t.scan × Fit v.grace w.grace t.grace
 
-module _ {A : Type 0} (part : View → A) (seats : ℕ → View) (n : ℕ) (v w : View) (is : seats n ≡ v) where
+module _ {A : Type 0} (part : Knowledge → A) (seats : ℕ → Knowledge) (n : ℕ) (v w : Knowledge) (is : seats n ≡ v) where
   new_at : (s : ℕ) (x : A) → part w ≡ x → part (set_at seats n w s) ≡ set_at (λ t. part (seats t)) n x s
   new_at s x e =
       set_at_all (λ t u. part u ≡ set_at (λ t. part (seats t)) n x t) seats n w (e ∙ sym (set_at_here (λ t. part (seats t)) n x))
@@ -102,7 +102,8 @@ module _ {A : Type 0} (part : View → A) (seats : ℕ → View) (n : ℕ) (v w 
   part_after None e = λ i s. old_at e s i
   part_after (Some x) e = λ i s. new_at s x e i
 
-parts_after : (seats : ℕ → View) (n : ℕ) (v w : View) → seats n ≡ v → (t : Change) → Fits v w t → parts_of (set_at seats n w) ≡ changed (parts_of seats) n t
+parts_after : (seats : ℕ → Knowledge) (n : ℕ) (v w : Knowledge) → seats n ≡ v → (t : Change) → Fits v w t
+    → parts_of (set_at seats n w) ≡ changed (parts_of seats) n t
 parts_after seats n v w is t fits = λ i. record {
   past = part_after (λ u. u.past) seats n v w is t.past fits.0 i;
   phase = part_after (λ u. u.phase) seats n v w is t.phase fits.1 i;
@@ -117,8 +118,9 @@ parts_after seats n v w is t fits = λ i. record {
   grace = part_after (λ u. u.grace) seats n v w is t.grace fits.10 i;
 }
 
-module _ (starts : State → Type 0) (allows : List ℕ → State → Writes → Type 0) (c : Config) (start : State) (m : Memory) (h : List Entry) (seats : ℕ → View)
-    (n : ℕ) (v w : View) (is : seats n ≡ v) where
+module _ (starts : State → Type 0) (allows : List ℕ → State → Writes → Type 0) (c : Config) (start : State) (m : Memory) (h : List Entry)
+    (seats : ℕ → Knowledge)
+    (n : ℕ) (v w : Knowledge) (is : seats n ≡ v) where
   -- all facts over the changed parts are all facts after the step
   pub settle : (t : Change) → Fits v w t → Facts starts allows c start m h (changed (parts_of seats) n t)
       → Facts starts allows c start m h (parts_of (set_at seats n w))

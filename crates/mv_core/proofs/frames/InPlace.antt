@@ -2,7 +2,7 @@
 use Rattle.std.proofs.Common.{◌≡◌, ℕ, ◌+◌, ◌-◌, ◌/◌, ◌%◌, ◌<◌, ◌≤◌, List, length, refl, sym, ap, ◌∙◌, subst}
 use Rattle.std.specs.Prelude.{slice_set}
 use Rattle.mv_core.proofs.Terms.{Entry, State, Writes, Config, Clock, Stamp, Super, Memory, Ring, Slot, Free, Built, Live, Freeing, Build, Version}
-use Rattle.mv_core.proofs.Terms.{Status, slot_at, Lives, ViewParts, set_at}
+use Rattle.mv_core.proofs.Terms.{WriteSetStatus, slot_at, Lives, ViewParts, set_at}
 use Rattle.mv_core.proofs.FactTerms.{Stamps, Successors, Positions, SucceededHasSuper, next_in, Facts}
 use Rattle.mv_core.proofs.logs.Slots.{Becomes, Matches, live_within, slots_after, wide_after, mapped, slots_mapped, wide_mapped}
 use Rattle.mv_core.proofs.frames.Matching.{KeepsPlace, LivesOn, on_place}
@@ -23,7 +23,7 @@ pub record StaysInPlace (before after : ℕ → Ring) : Type 0 where
   pub forth : (s j : ℕ) (z : Slot) → IsUnlived z → slot_at (before s) j ≡ z → slot_at (after s) j ≡ z
 
 -- a live version was written over another one
-pub in_place_put : (rings : ℕ → Ring) (n j : ℕ) (r : Ring) (x y : Version) (st su : Status)
+pub in_place_put : (rings : ℕ → Ring) (n j : ℕ) (r : Ring) (x y : Version) (st su : WriteSetStatus)
     → Lives rings n j x st → r.slots ≡ slice_set (rings n).slots j (Live y su) → StaysInPlace rings (set_at rings n r)
 in_place_put rings n j r x y st su lives written =
     let within = live_within (rings n) j x st lives in record {
@@ -48,7 +48,7 @@ in_place_map rings n f free same was = record {
 -- positions, and what of positions-and-grace reads places
 pub record PlaceFacts (c : Config) (h : List Entry) (f : ViewParts) (rings : ℕ → Ring) : Type 0 where
   pub positions : Positions c h rings
-  pub live : (s j : ℕ) (x : Version) (st : Status) → Lives rings s j x st → c.base + x.position / c.slots ≤ f.grace s
+  pub live : (s j : ℕ) (x : Version) (st : WriteSetStatus) → Lives rings s j x st → c.base + x.position / c.slots ≤ f.grace s
   pub free : (s j : ℕ) → j < c.slots → slot_at (rings s) j ≡ Free → c.base + next_in c (rings s) j / c.slots ≤ f.grace s
   pub built : (s j : ℕ) (b : Build) → slot_at (rings s) j ≡ Built b → c.base + (rings s).next / c.slots ≤ f.grace s
   pub freeing : (s j p first : ℕ) → slot_at (rings s) j ≡ Freeing p first → c.base + p / c.slots < f.grace s

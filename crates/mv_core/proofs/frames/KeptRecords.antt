@@ -1,10 +1,10 @@
 -- A write-back and a named commit after a step, of the same version: what the step may change of it is given, and the rest is that of before.
 use Rattle.std.specs.Prelude.{◌≡◌, ℕ, ◌<◌, ◌≤◌, true, false, List, Option, slice_index}
-use Rattle.mv_core.proofs.Terms.{Entry, Config, Ring, Committed, CommitNote, Section, Naming, LoadedClocks, WriteBack, index_of, HoldsNothing, Lives}
+use Rattle.mv_core.proofs.Terms.{Entry, Config, Ring, Committed, CommitNote, OwnSection, Naming, LoadedClocks, WriteBack, index_of, HoldsNothing, Lives}
 use Rattle.mv_core.proofs.Terms.{NotAboveAny, latest_at, last_own, time_in}
 use Rattle.mv_core.proofs.FactTerms.{IsPastHelp, NamedIs, IsWrittenBack}
 
-module _ {c : Config} {h h' : List Entry} {rings rings' : ℕ → Ring} {s : ℕ} {inside : Section} where
+module _ {c : Config} {h h' : List Entry} {rings rings' : ℕ → Ring} {s : ℕ} {inside : OwnSection} where
   pub same_back : {master master' : ℕ → ℕ → ℕ} {time time' : ℕ → Option ℕ} {clocks clocks' : LoadedClocks} {grace grace' : ℕ} {b : WriteBack}
       → (r : IsWrittenBack c h master time rings s clocks grace b inside) (note : CommitNote)
       → IsPastHelp clocks' inside → HoldsNothing (rings' s) → Lives rings' s (index_of c b.position) r.version (Committed note)

@@ -1,9 +1,9 @@
 -- All facts that stay where each live version stays what it is to the other seats, and the stamp of its write set too: the frame of a step that changes one
 -- log.
 use Rattle.std.proofs.Common.{◌≡◌, ◌≢◌, ◌⊎◌, ℕ, ◌+◌, ◌/◌, ◌<◌, ◌≤◌, List, refl, sym, subst, ⊎_elim, inl, inr, Some, None}
-use Rattle.mv_core.proofs.Terms.{Entry, State, Writes, Config, Clock, Head, Master, Stamp, Super, Memory, unset_of, Ring, Version, Status, Held}
+use Rattle.mv_core.proofs.Terms.{Entry, State, Writes, Config, Clock, Head, Master, Stamp, Super, Memory, unset_of, Ring, Version, WriteSetStatus, Held}
 use Rattle.mv_core.proofs.Terms.{Aborted, Committed, CommitNote, Stand, Lives, Names, latest_at, ViewParts}
-use Rattle.mv_core.specs.declared.view.Walk.TheVariants.{At}
+use Rattle.mv_core.specs.declared.view.WalkStage.TheVariants.{At}
 use Rattle.mv_core.proofs.FactTerms.{stamp_of, WriteSets, BelowIsStamped, UnstampedIsUnfinished, StampedPastHelp, LockFreshness, FoundStamps}
 use Rattle.mv_core.proofs.FactTerms.{NamedCommit, OpenSection, HeadIsTop, HeldLink, CommitLink, AbortedLink, PresentMaster, ChainFoot, MayStandAt}
 use Rattle.mv_core.proofs.FactTerms.{WalkerPlace, WalkerKnowledge, WalkerFalls, WalkerLate, FreedIsOld, CutIsOld, SuccessorFlag, WriteBacks, Facts}
@@ -31,7 +31,7 @@ pub record LivesOnFacts (c : Config) (start : State) (m : Memory) (h : List Entr
   pub unfinished : UnstampedIsUnfinished c stamp f.section rings
   pub named : NamedCommit c h stamp f.section rings
   pub freed : FreedIsOld c (m Clock) h f.grace rings
-  pub live : (s j : ℕ) (x : Version) (st : Status) → Lives rings s j x st → c.base + x.position / c.slots ≤ f.grace s
+  pub live : (s j : ℕ) (x : Version) (st : WriteSetStatus) → Lives rings s j x st → c.base + x.position / c.slots ≤ f.grace s
   pub commit : (s j : ℕ) (x : Version) (note : CommitNote) → Lives rings s j x (Committed note) → c.base + x.position / c.slots < note.time
 
 -- and those that stay where no version is cut
@@ -88,7 +88,7 @@ module _ {starts : State → Type 0} {allows : List ℕ → State → Writes →
   }
 
   -- each live version's write set keeps its stamp, and no stamp becomes the unset one of a position that was used
-  module _ (stamp' : ℕ → ℕ → ℕ) (same : (s j : ℕ) (x : Version) (st : Status) → Lives f.ring s j x st → stamp_of c stamp' s x ≡ stamp_of c stamp s x)
+  module _ (stamp' : ℕ → ℕ → ℕ) (same : (s j : ℕ) (x : Version) (st : WriteSetStatus) → Lives f.ring s j x st → stamp_of c stamp' s x ≡ stamp_of c stamp s x)
       (apart : (s j p : ℕ) → p < (f.ring s).next → stamp s j ≢ unset_of p → stamp' s j ≢ unset_of p) where
     pub live_on_facts : Matches LivesOn f.ring rings → LivesOnFacts c start m h f stamp' rings
     live_on_facts on = record {
@@ -134,9 +134,10 @@ module _ {starts : State → Type 0} {allows : List ℕ → State → Writes →
   pub same_stamp_facts : Matches Alike f.ring rings → AlikeFacts c start m h f stamp rings
   same_stamp_facts = alike_facts stamp (λ s j x st l. refl) (λ s j p used apart. apart)
 
-  pub steady_facts : (stamp' super : ℕ → ℕ → ℕ) → ((s j : ℕ) (x : Version) (st : Status) → Lives f.ring s j x st → stamp_of c stamp' s x ≡ stamp_of c stamp s x)
+  pub steady_facts : (stamp' super : ℕ → ℕ → ℕ) → ((s j : ℕ) (x : Version) (st : WriteSetStatus) → Lives f.ring s j x st
+      → stamp_of c stamp' s x ≡ stamp_of c stamp s x)
       → ((s j p : ℕ) → p < (f.ring s).next → stamp s j ≢ unset_of p → stamp' s j ≢ unset_of p)
-      → ((s j : ℕ) (x : Version) (st : Status) → Lives f.ring s j x st → super s j ≡ m (Super s j)) → Matches Steady f.ring rings
+      → ((s j : ℕ) (x : Version) (st : WriteSetStatus) → Lives f.ring s j x st → super s j ≡ m (Super s j)) → Matches Steady f.ring rings
       → SteadyFacts c start m h f stamp' super rings
   steady_facts stamp' super same apart same_super steady = record {
     alike = alike_facts stamp' same apart (match_weaker Steady Alike f.ring rings (λ x st y su a. ((a.0.0.0.0, a.0.1), a.1)) steady);

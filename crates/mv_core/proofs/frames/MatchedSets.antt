@@ -1,6 +1,6 @@
 -- What holds of write sets, sections and version chains stays where each live version stays what it is to the other seats.
 use Rattle.std.proofs.Common.{◌≡◌, ◌⊎◌, ℕ, ◌+◌, ◌-◌, ◌<◌, ◌≤◌, List, length, sym, ap, ◌∙◌, subst, inl, inr, ⊎_elim, arith, Option}
-use Rattle.mv_core.proofs.Terms.{Entry, Change, State, Config, link_of, Ring, Built, Freeing, Build, Version, Held, Committed, CommitNote, Section}
+use Rattle.mv_core.proofs.Terms.{Entry, Change, State, Config, link_of, Ring, Built, Freeing, Build, Version, Held, Committed, CommitNote, OwnSection}
 use Rattle.mv_core.proofs.Terms.{slot_at, index_of, HoldsNothing, Names, IsGone, IsTop, latest, latest_at, IsEntry, NotAboveAny}
 use Rattle.mv_core.proofs.FactTerms.{WriteSets, IsHeldOrAborted, InHeldSet, InSet, CommitOf, Positions, LockFreshness, OpenSection, HeadIsTop}
 use Rattle.mv_core.proofs.FactTerms.{HeldLink, LinksBelow, CommitLink, AbortedLink, PresentMaster, ChainFoot, FreedIsOld, CutIsOld}
@@ -190,7 +190,7 @@ module _ (c : Config) (h : List Entry) (before after : ℕ → Ring) (k : Matche
   on : Matches LivesOn before after
   on = match_weaker AlikeOrCut LivesOn before after (λ x st y su a. a.0) k
 
-  pub open_match : (section : ℕ → Option Section) → OpenSection c h section before → OpenSection c h section after
+  pub open_match : (section : ℕ → Option OwnSection) → OpenSection c h section before → OpenSection c h section after
   open_match section old = record {
     own = old.own;
     held = λ s j y lives. let b = held_back before after on s j y lives in old.held s j b.0 b.1;

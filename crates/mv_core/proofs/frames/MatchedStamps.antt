@@ -1,7 +1,8 @@
 -- What holds of STAMP and SUPER, and of walks, stays where each live version stays what it is to the other seats, and the words of live versions stay.
 use Rattle.std.proofs.Common.{◌≡◌, ◌≢◌, ◌⊎◌, ℕ, ◌<◌, ◌≤◌, List, sym, ◌∙◌, subst, Option}
-use Rattle.mv_core.proofs.Terms.{Entry, Config, clock_of, clock_seat_of, clock_slot_of, unset_of, Ring, Built, Build, Version, Status, Held, Aborted, Committed}
-use Rattle.mv_core.proofs.Terms.{CommitNote, Section, LoadedClocks, EmptyHead, WriteBack, slot_at, index_of, Lives, Names, IsNextWrite, NotAboveAny, time_in}
+use Rattle.mv_core.proofs.Terms.{Entry, Config, clock_of, clock_seat_of, clock_slot_of, unset_of, Ring, Built, Build, Version, WriteSetStatus, Held, Aborted}
+use Rattle.mv_core.proofs.Terms.{Committed}
+use Rattle.mv_core.proofs.Terms.{CommitNote, OwnSection, LoadedClocks, EmptyHead, WriteBack, slot_at, index_of, Lives, Names, IsNextWrite, NotAboveAny, time_in}
 use Rattle.mv_core.proofs.FactTerms.{IsStored, StampedAs, stamp_of, Stamps, Successors, BelowIsStamped, UnstampedIsUnfinished, StampedPastHelp}
 use Rattle.mv_core.proofs.FactTerms.{FoundStamps, NamedCommit, SucceededHasSuper, WriteBacks}
 use Rattle.mv_core.proofs.frames.KeptRecords.{same_back, same_named}
@@ -10,7 +11,8 @@ use Rattle.mv_core.proofs.frames.Matching.{LivesOn, SameCut, uncut_back, on_plac
 use Rattle.mv_core.proofs.frames.MatchedSets.{nothing_match}
 
 -- the stamp of a write set goes on
-stamped_alike : (clock s k stamp first : ℕ) (x : Version) (st : Status) (y : Version) (su : Status) → LivesOn x st y su → StampedAs clock s k stamp first st
+stamped_alike : (clock s k stamp first : ℕ) (x : Version) (st : WriteSetStatus) (y : Version) (su : WriteSetStatus) → LivesOn x st y su
+    → StampedAs clock s k stamp first st
     → StampedAs clock s k stamp first su
 stamped_alike clock s k stamp first x Held y Held a e = e
 stamped_alike clock s k stamp first x (Aborted d) y (Aborted f) a e = e
@@ -26,7 +28,7 @@ stamped_alike clock s k stamp first x (Committed m) y (Aborted f) a e = absurd a
 module _ (c : Config) (h : List Entry) (before after : ℕ → Ring) (k : Matches LivesOn before after) where
   -- the stamps, and those after, where the stamp of each live version's write set stays
   module _ (stamp stamp' : ℕ → ℕ → ℕ)
-      (same : (s j : ℕ) (x : Version) (st : Status) → Lives before s j x st → stamp_of c stamp' s x ≡ stamp_of c stamp s x) where
+      (same : (s j : ℕ) (x : Version) (st : WriteSetStatus) → Lives before s j x st → stamp_of c stamp' s x ≡ stamp_of c stamp s x) where
     -- of a committed version
     same_committed : (s j : ℕ) (x : Version) (m : CommitNote) → Lives before s j x (Committed m) → stamp_of c stamp' s x ≡ stamp_of c stamp s x
     same_committed s j x m lives = same s j x (Committed m) lives
@@ -44,7 +46,7 @@ module _ (c : Config) (h : List Entry) (before after : ℕ → Ring) (k : Matche
       built = built;
     }
 
-    pub past_help_match : (section : ℕ → Option Section) (clocks : ℕ → LoadedClocks) → StampedPastHelp c stamp section clocks before
+    pub past_help_match : (section : ℕ → Option OwnSection) (clocks : ℕ → LoadedClocks) → StampedPastHelp c stamp section clocks before
         → StampedPastHelp c stamp' section clocks after
     past_help_match section clocks old s inside in_section past t j x n lives le =
         let b = committed_back before after k t j x n lives in
@@ -59,13 +61,13 @@ module _ (c : Config) (h : List Entry) (before after : ℕ → Ring) (k : Matche
         record { seat = names.seat; slot = names.slot; lives = d.1; is = sym at.previous ∙ names.is } in
         same_committed names.seat names.slot z d.0 d.1 ∙ old s j b.0 b.1 b.2 (uncommitted_back b.0 b.1 y su b.3 uncommitted) z d.0 below ∙ sym d.2
 
-    pub unfinished_match : (section : ℕ → Option Section) → UnstampedIsUnfinished c stamp section before → UnstampedIsUnfinished c stamp' section after
+    pub unfinished_match : (section : ℕ → Option OwnSection) → UnstampedIsUnfinished c stamp section before → UnstampedIsUnfinished c stamp' section after
     unfinished_match section old s j x n lives unset =
         let b = committed_back before after k s j x n lives in
         let r = old s j x b.0 b.1 (λ e. unset (same_committed s j x b.0 b.1 ∙ e ∙ sym b.2)) in
         (r.0, r.1, r.2, r.3, r.4 ∙ sym b.2, r.5)
 
-    pub named_match : (section : ℕ → Option Section) → NamedCommit c h stamp section before → NamedCommit c h stamp' section after
+    pub named_match : (section : ℕ → Option OwnSection) → NamedCommit c h stamp section before → NamedCommit c h stamp' section after
     named_match section old s inside n in_section mode =
         let r = old s inside n in_section mode in
         let f = committed_forth before after k s (index_of c n.first) r.version r.note r.lives in
@@ -96,7 +98,7 @@ module _ (c : Config) (h : List Entry) (before after : ℕ → Ring) (k : Matche
                 let i = is_committed_so b.0 b.1 y su q.1.0 b.3 q.1.1 in
                 (at.first ∙ q.0, (i.0, i.1, i.3 ∙ q.1.2));
             gone = λ none.
-                let none_before : (x : Version) (st : Status) → Lives before t j x st → x.position ≢ r.position =
+                let none_before : (x : Version) (st : WriteSetStatus) → Lives before t j x st → x.position ≢ r.position =
                 λ x st lives e. let g = k.forth t j x st lives in none g.0 g.1 g.2 ((on_place x st g.0 g.1 g.3).position ∙ e) in
                 let word : stamp t j ≢ unset_of r.position = λ e. r.gone none_before (e ∙ sym r.unset_is) in
                 λ e. apart t j r.position r.used word (e ∙ r.unset_is);
@@ -104,9 +106,9 @@ module _ (c : Config) (h : List Entry) (before after : ℕ → Ring) (k : Matche
     }
 
   -- the SUPER words, and those after, where that of each live version stays
-  module _ (super super' : ℕ → ℕ → ℕ) (same : (s j : ℕ) (x : Version) (st : Status) → Lives before s j x st → super' s j ≡ super s j) where
-    pub successors_match : (stamp stamp' : ℕ → ℕ → ℕ) → ((s j : ℕ) (x : Version) (st : Status) → Lives before s j x st
-        → stamp_of c stamp' s x ≡ stamp_of c stamp s x) → (section : ℕ → Option Section)
+  module _ (super super' : ℕ → ℕ → ℕ) (same : (s j : ℕ) (x : Version) (st : WriteSetStatus) → Lives before s j x st → super' s j ≡ super s j) where
+    pub successors_match : (stamp stamp' : ℕ → ℕ → ℕ) → ((s j : ℕ) (x : Version) (st : WriteSetStatus) → Lives before s j x st
+        → stamp_of c stamp' s x ≡ stamp_of c stamp s x) → (section : ℕ → Option OwnSection)
         → ((s j : ℕ) (b : Build) → slot_at (after s) j ≡ Built b → IsStored b.successor (super' s j)) → Successors c h stamp super section before
         → Successors c h stamp' super' section after
     successors_match stamp stamp' stamps section built old = record {
@@ -138,7 +140,7 @@ module _ (c : Config) (h : List Entry) (before after : ℕ → Ring) (k : Matche
               r.1 j x b.0 b.1 object (subst (λ (t : ℕ). t ≤ e.time) b.2 le) (uncut_back b.0 n b.3 uncut) (sym (same s j x (Committed b.0) b.1) ∙ zero_is),
         )
 
-  pub back_match : SameCut before after → (master : ℕ → ℕ → ℕ) (section : ℕ → Option Section) (time : ℕ → Option ℕ) (clocks : ℕ → LoadedClocks) (grace : ℕ
+  pub back_match : SameCut before after → (master : ℕ → ℕ → ℕ) (section : ℕ → Option OwnSection) (time : ℕ → Option ℕ) (clocks : ℕ → LoadedClocks) (grace : ℕ
       → ℕ) (back : ℕ → Option WriteBack) → WriteBacks c h master section time clocks grace back before
       → WriteBacks c h master section time clocks grace back after
   back_match same_cut master section time clocks grace back old s b is =

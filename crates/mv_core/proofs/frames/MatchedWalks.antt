@@ -1,9 +1,9 @@
 -- What holds of walks stays where each live version stays what it is to the other seats; and what holds of deaths and of unfinished commits, where what the
 -- owner noted stays too.
 use Rattle.std.proofs.Common.{◌≡◌, ◌⊎◌, ℕ, ◌<◌, List, refl, sym, ap, ◌∙◌, subst, inl, inr, ⊎_elim, Option, Some, None}
-use Rattle.mv_core.proofs.Terms.{Entry, State, Config, link_of, Ring, Version, Status, Held, Aborted, Committed, CommitNote, Section, LoadedClocks}
-use Rattle.mv_core.proofs.Terms.{Walk, Stand, Lives, Names, latest_at}
-use Rattle.mv_core.specs.declared.view.Walk.TheVariants.{Nowhere, At, Master}
+use Rattle.mv_core.proofs.Terms.{Entry, State, Config, link_of, Ring, Version, WriteSetStatus, Held, Aborted, Committed, CommitNote, OwnSection, LoadedClocks}
+use Rattle.mv_core.proofs.Terms.{WalkStage, Stand, Lives, Names, latest_at}
+use Rattle.mv_core.specs.declared.view.WalkStage.TheVariants.{Nowhere, At, Master}
 use Rattle.mv_core.proofs.FactTerms.{stamp_of, MasterServes, IsRightFor, MayStandAt, StandsRight, WalkerPlace, WalkerKnowledge, IsBelowPassed}
 use Rattle.mv_core.proofs.FactTerms.{WalkerFalls, WalkerLate}
 use Rattle.mv_core.proofs.logs.Slots.{Matches}
@@ -11,7 +11,7 @@ use Rattle.mv_core.proofs.frames.Matching.{LivesOn, on_place}
 use Rattle.mv_core.proofs.frames.Matching.{is_committed_so, names_back, names_committed_forth, committed_back, none_uncut_forth}
 
 -- a link names the version that is there
-abbrev names_at : (rings : ℕ → Ring) (link seat slot : ℕ) (x : Version) (st : Status) → Lives rings seat slot x st → (p : ℕ) → x.position ≡ p
+abbrev names_at : (rings : ℕ → Ring) (link seat slot : ℕ) (x : Version) (st : WriteSetStatus) → Lives rings seat slot x st → (p : ℕ) → x.position ≡ p
     → link ≡ link_of seat p → Names rings link x st
 names_at rings link seat slot x st lives p e is = record { seat = seat; slot = slot; lives = lives; is = is ∙ ap (link_of seat) (sym e) }
 
@@ -33,7 +33,7 @@ module _ (c : Config) (h : List Entry) (before after : ℕ → Ring) (k : Matche
         (λ q. let f = names_committed_forth before after k x.previous q.0 q.1 q.2 in inr (q.0, f.0, f.1, q.3, right_match t q.0 q.0 q.1 f.0 refl f.2 q.4))
         may)
 
-    stand_match : (t : ℕ) (x : Version) (st : Status) (y : Version) (su : Status) → LivesOn x st y su
+    stand_match : (t : ℕ) (x : Version) (st : WriteSetStatus) (y : Version) (su : WriteSetStatus) → LivesOn x st y su
         → (st ≡ Held → MayStandAt c start h master before t x (Aborted None)) → MayStandAt c start h master before t x st
         → MayStandAt c start h master after t y su
     stand_match t x Held y Held a held may = tt
@@ -46,7 +46,7 @@ module _ (c : Config) (h : List Entry) (before after : ℕ → Ring) (k : Matche
     stand_match t x (Committed m) y Held a held may = absurd a
     stand_match t x (Committed m) y (Aborted e) a held may = absurd a
 
-    stands_match : (t : ℕ) (w : Walk)
+    stands_match : (t : ℕ) (w : WalkStage)
         → ((stand : Stand) (x : Version) → w ≡ At stand → Names before stand.link x Held → MayStandAt c start h master before t x (Aborted None))
         → StandsRight c start h master before t w → StandsRight c start h master after t w
     stands_match t Nowhere held a = tt
@@ -60,14 +60,14 @@ module _ (c : Config) (h : List Entry) (before after : ℕ → Ring) (k : Matche
         (f.0, f.1, names, at.object ∙ a.3, may)
 
     -- where a walk may stand at a held version that it stands at, if that is aborted
-    pub place_match : (time : ℕ → Option ℕ) (walk : ℕ → Walk)
+    pub place_match : (time : ℕ → Option ℕ) (walk : ℕ → WalkStage)
         → ((s t : ℕ) (stand : Stand) (x : Version) → time s ≡ Some t → walk s ≡ At stand → Names before stand.link x Held
         → MayStandAt c start h master before t x (Aborted None))
         → WalkerPlace c start h master time walk before → WalkerPlace c start h master time walk after
     place_match time walk held old s t e = stands_match t (walk s) (λ stand x at. held s t stand x e at) (old s t e)
 
 module _ (c : Config) (before after : ℕ → Ring) (k : Matches LivesOn before after) where
-  pub knowledge_match : (section : ℕ → Option Section) (time : ℕ → Option ℕ) (clocks : ℕ → LoadedClocks) (walk : ℕ → Walk)
+  pub knowledge_match : (section : ℕ → Option OwnSection) (time : ℕ → Option ℕ) (clocks : ℕ → LoadedClocks) (walk : ℕ → WalkStage)
       → WalkerKnowledge section time clocks walk before → WalkerKnowledge section time clocks walk after
   knowledge_match section time clocks walk old = record {
     helped = old.helped;
@@ -85,8 +85,9 @@ module _ (c : Config) (before after : ℕ → Ring) (k : Matches LivesOn before 
         (record { seat = names.seat; slot = names.slot; lives = b.1; is = names.is }));
   }
 
-  pub falls_match : (stamp stamp' : ℕ → ℕ → ℕ) → ((s j : ℕ) (x : Version) (st : Status) → Lives before s j x st → stamp_of c stamp' s x ≡ stamp_of c stamp s x)
-      → (walk : ℕ → Walk) → WalkerFalls c stamp walk before → WalkerFalls c stamp' walk after
+  pub falls_match : (stamp stamp' : ℕ → ℕ → ℕ) → ((s j : ℕ) (x : Version) (st : WriteSetStatus) → Lives before s j x st
+      → stamp_of c stamp' s x ≡ stamp_of c stamp s x)
+      → (walk : ℕ → WalkStage) → WalkerFalls c stamp walk before → WalkerFalls c stamp' walk after
   falls_match stamp stamp' same walk old = record {
     stamped = λ s stand y su e passed names.
         let b = k.back names.seat names.slot y su names.lives in
@@ -99,7 +100,7 @@ module _ (c : Config) (before after : ℕ → Ring) (k : Matches LivesOn before 
     found = old.found;
   }
 
-  pub late_match : (time : ℕ → Option ℕ) (walk : ℕ → Walk) → WalkerLate time walk before → WalkerLate time walk after
+  pub late_match : (time : ℕ → Option ℕ) (walk : ℕ → WalkStage) → WalkerLate time walk before → WalkerLate time walk after
   late_match time walk old s t stand x n e w late names =
       let b = committed_back before after k names.seat names.slot x n names.lives in
       subst (λ (u : ℕ). t < u) (sym b.2) (old s t stand x b.0 e w late (record { seat = names.seat; slot = names.slot; lives = b.1; is = names.is }))

@@ -1,7 +1,7 @@
 -- Links, first versions and tops where the live versions of the logs before and after a step match; and the relation in which the versions stay what they are
 -- to other seats.
 use Rattle.std.proofs.Common.{◌≡◌, ◌⊎◌, ℕ, ◌<◌, true, false, Bool, refl, sym, ap, ◌∙◌, subst, inl, inr, ⊎_elim, Option, Some, None}
-use Rattle.mv_core.proofs.Terms.{Config, link_of, Ring, Live, Freeing, Version, Status, Held, Aborted, Committed, CommitNote, slot_at, index_of}
+use Rattle.mv_core.proofs.Terms.{Config, link_of, Ring, Live, Freeing, Version, WriteSetStatus, Held, Aborted, Committed, CommitNote, slot_at, index_of}
 use Rattle.mv_core.proofs.Terms.{Lives, Names, IsGone, IsVersion, NoneHolds, NoneUncut, IsTop, InUse, HasFirst}
 use Rattle.mv_core.specs.SetFacts.{IsHeldOrAborted, InHeldSet}
 use Rattle.mv_core.proofs.logs.Slots.{Becomes, Matches}
@@ -24,22 +24,25 @@ same_place x y e =
 
 -- the relation keeps the place of each version
 abbrev pub KeepsPlace : Becomes → Type 0
-KeepsPlace R = (x : Version) (st : Status) (y : Version) (su : Status) → R x st y su → IsSamePlace x y
+KeepsPlace R = (x : Version) (st : WriteSetStatus) (y : Version) (su : WriteSetStatus) → R x st y su → IsSamePlace x y
 
 module _ (R : Becomes) (places : KeepsPlace R) (before after : ℕ → Ring) (k : Matches R before after) where
   -- what a link names
-  pub names_forth : (link : ℕ) (x : Version) (st : Status) → Names before link x st → (y : Version) × (su : Status) × Names after link y su × R x st y su
+  pub names_forth : (link : ℕ) (x : Version) (st : WriteSetStatus) → Names before link x st → (y : Version) × (su : WriteSetStatus) × Names after link y su
+      × R x st y su
   names_forth link x st n =
       let f = k.forth n.seat n.slot x st n.lives in
       (f.0, f.1, record { seat = n.seat; slot = n.slot; lives = f.2; is = n.is ∙ ap (link_of n.seat) (sym (places x st f.0 f.1 f.3).position) }, f.3)
 
-  pub names_back : (link : ℕ) (y : Version) (su : Status) → Names after link y su → (x : Version) × (st : Status) × Names before link x st × R x st y su
+  pub names_back : (link : ℕ) (y : Version) (su : WriteSetStatus) → Names after link y su → (x : Version) × (st : WriteSetStatus) × Names before link x st
+      × R x st y su
   names_back link y su n =
       let b = k.back n.seat n.slot y su n.lives in
       (b.0, b.1, record { seat = n.seat; slot = n.slot; lives = b.2; is = n.is ∙ ap (link_of n.seat) (places b.0 b.1 y su b.3).position }, b.3)
 
   -- a link that names no version named none
-  pub unnamed_back : (link : ℕ) → ((y : Version) (su : Status) → ¬ (Names after link y su)) → (x : Version) (st : Status) → ¬ (Names before link x st)
+  pub unnamed_back : (link : ℕ) → ((y : Version) (su : WriteSetStatus) → ¬ (Names after link y su)) → (x : Version) (st : WriteSetStatus)
+      → ¬ (Names before link x st)
   unnamed_back link none x st n = let f = names_forth link x st n in none f.0 f.1 f.2
 
   -- a link to a position that isn't live any more
@@ -82,7 +85,8 @@ module _ (R : Becomes) (places : KeepsPlace R) (before after : ℕ → Ring) (k 
       u
 
   -- a position of a write set, where what is known of its version goes on
-  pub set_forth : (P Q : Status → Type 0) → ((x : Version) (st : Status) (y : Version) (su : Status) → R x st y su → P st → Q su) → (c : Config) (s first p : ℕ)
+  pub set_forth : (P Q : WriteSetStatus → Type 0) → ((x : Version) (st : WriteSetStatus) (y : Version) (su : WriteSetStatus) → R x st y su → P st → Q su)
+      → (c : Config) (s first p : ℕ)
       → InHeldSet c before s first p P → InHeldSet c after s first p Q
   set_forth P Q goes_on c s first p r =
       let f = k.forth s (index_of c p) r.version r.status r.lives in
@@ -112,7 +116,7 @@ LivesOn x (Aborted d) y (Aborted e) = y ≡ x
 LivesOn x (Committed m) y (Committed n) = (y ≡ x) × (n.time ≡ m.time) × (m.cut ≡ true → n.cut ≡ true)
 LivesOn x _ y _ = ⊥
 
-pub on_self : (x : Version) (st : Status) → LivesOn x st x st
+pub on_self : (x : Version) (st : WriteSetStatus) → LivesOn x st x st
 on_self x Held = same_place x x refl
 on_self x (Aborted d) = refl
 on_self x (Committed m) = (refl, refl, λ cut. cut)
@@ -122,7 +126,7 @@ abbrev pub AlikeOrCut : Becomes
 AlikeOrCut x st y su = LivesOn x st y su × (st ≡ Held → su ≡ Held)
 
 -- whether the status is that of a cut version
-abbrev pub cut_in : Status → Bool
+abbrev pub cut_in : WriteSetStatus → Bool
 cut_in Held = false
 cut_in (Aborted dead) = false
 cut_in (Committed note) = note.cut
@@ -131,7 +135,7 @@ cut_in (Committed note) = note.cut
 abbrev pub Alike : Becomes
 Alike x st y su = AlikeOrCut x st y su × (cut_in su ≡ cut_in st)
 
-pub alike_self : (x : Version) (st : Status) → Alike x st x st
+pub alike_self : (x : Version) (st : WriteSetStatus) → Alike x st x st
 alike_self x st = ((on_self x st, λ held. held), refl)
 
 -- a committed version with another note, of its time
@@ -161,55 +165,55 @@ pub alike_place : KeepsPlace AlikeOrCut
 alike_place x st y su a = on_place x st y su a.0
 
 -- what a version was that is held, aborted or committed
-was_held : (x y : Version) (st : Status) → LivesOn x st y Held → (st ≡ Held) × IsSamePlace x y
+was_held : (x y : Version) (st : WriteSetStatus) → LivesOn x st y Held → (st ≡ Held) × IsSamePlace x y
 was_held x y Held a = (refl, a)
 was_held x y (Aborted d) a = absurd a
 was_held x y (Committed m) a = absurd a
 
-pub was_aborted : (x y : Version) (st : Status) (e : Option ℕ) → LivesOn x st y (Aborted e)
+pub was_aborted : (x y : Version) (st : WriteSetStatus) (e : Option ℕ) → LivesOn x st y (Aborted e)
     → ((d : Option ℕ) × (st ≡ Aborted d) × (y ≡ x)) ⊎ ((st ≡ Held) × (y ≡ x))
 was_aborted x y Held e a = inr (refl, a.0)
 was_aborted x y (Aborted d) e a = inl (d, refl, a)
 was_aborted x y (Committed m) e a = absurd a
 
 -- a death that is noted of an aborted one was noted before, or is of one that was aborted before
-pub was_dead : (x y : Version) (st : Status) (t : ℕ) → LivesOn x st y (Aborted (Some t)) → (d : Option ℕ) × (st ≡ Aborted d) × (y ≡ x)
+pub was_dead : (x y : Version) (st : WriteSetStatus) (t : ℕ) → LivesOn x st y (Aborted (Some t)) → (d : Option ℕ) × (st ≡ Aborted d) × (y ≡ x)
 was_dead x y Held t a = let none : Some t ≡ None = a.1 in absurd (cc)
 was_dead x y (Aborted d) t a = (d, refl, a)
 was_dead x y (Committed m) t a = absurd a
 
-pub was_committed : (x y : Version) (st : Status) (n : CommitNote) → LivesOn x st y (Committed n)
+pub was_committed : (x y : Version) (st : WriteSetStatus) (n : CommitNote) → LivesOn x st y (Committed n)
     → (m : CommitNote) × (st ≡ Committed m) × (y ≡ x) × (n.time ≡ m.time) × (m.cut ≡ true → n.cut ≡ true)
 was_committed x y Held n a = absurd a
 was_committed x y (Aborted d) n a = absurd a
 was_committed x y (Committed m) n a = (m, refl, a.0, a.1, a.2)
 
 -- and what it is then
-is_held_still : (x y : Version) (su : Status) → AlikeOrCut x Held y su → (su ≡ Held) × IsSamePlace x y
+is_held_still : (x y : Version) (su : WriteSetStatus) → AlikeOrCut x Held y su → (su ≡ Held) × IsSamePlace x y
 is_held_still x y su a = (a.1 refl, on_place x Held y su a.0)
 
-is_committed_still : (x y : Version) (su : Status) (m : CommitNote) → LivesOn x (Committed m) y su
+is_committed_still : (x y : Version) (su : WriteSetStatus) (m : CommitNote) → LivesOn x (Committed m) y su
     → (n : CommitNote) × (su ≡ Committed n) × (y ≡ x) × (n.time ≡ m.time) × (m.cut ≡ true → n.cut ≡ true)
 is_committed_still x y Held m a = absurd a
 is_committed_still x y (Aborted d) m a = absurd a
 is_committed_still x y (Committed n) m a = (n, refl, a.0, a.1, a.2)
 
 -- held is held still, and not committed not committed
-pub still_held : (x : Version) (st : Status) (y : Version) (su : Status) → AlikeOrCut x st y su → st ≡ Held → su ≡ Held
+pub still_held : (x : Version) (st : WriteSetStatus) (y : Version) (su : WriteSetStatus) → AlikeOrCut x st y su → st ≡ Held → su ≡ Held
 still_held x st y su a = a.1
 
-pub is_committed_so : (x : Version) (st : Status) (y : Version) (su : Status) (m : CommitNote) → LivesOn x st y su → st ≡ Committed m
+pub is_committed_so : (x : Version) (st : WriteSetStatus) (y : Version) (su : WriteSetStatus) (m : CommitNote) → LivesOn x st y su → st ≡ Committed m
     → (n : CommitNote) × (su ≡ Committed n) × (y ≡ x) × (n.time ≡ m.time) × (m.cut ≡ true → n.cut ≡ true)
-is_committed_so x st y su m a e = is_committed_still x y su m (subst (λ (s : Status). LivesOn x s y su) e a)
+is_committed_so x st y su m a e = is_committed_still x y su m (subst (λ (s : WriteSetStatus). LivesOn x s y su) e a)
 
-pub uncommitted_forth : (x : Version) (st : Status) (y : Version) (su : Status) → LivesOn x st y su → IsHeldOrAborted st → IsHeldOrAborted su
+pub uncommitted_forth : (x : Version) (st : WriteSetStatus) (y : Version) (su : WriteSetStatus) → LivesOn x st y su → IsHeldOrAborted st → IsHeldOrAborted su
 uncommitted_forth x st y Held a p = tt
 uncommitted_forth x st y (Aborted e) a p = tt
 uncommitted_forth x Held y (Committed n) a p = absurd a
 uncommitted_forth x (Aborted d) y (Committed n) a p = absurd a
 uncommitted_forth x (Committed m) y (Committed n) a p = p
 
-pub uncommitted_back : (x : Version) (st : Status) (y : Version) (su : Status) → LivesOn x st y su → IsHeldOrAborted su → IsHeldOrAborted st
+pub uncommitted_back : (x : Version) (st : WriteSetStatus) (y : Version) (su : WriteSetStatus) → LivesOn x st y su → IsHeldOrAborted su → IsHeldOrAborted st
 uncommitted_back x Held y su a p = tt
 uncommitted_back x (Aborted d) y su a p = tt
 uncommitted_back x (Committed m) y Held a p = absurd a
@@ -221,7 +225,7 @@ abbrev pub SameCut : (before after : ℕ → Ring) → Type 0
 SameCut before after =
     (s j : ℕ) (x : Version) (m n : CommitNote) → Lives before s j x (Committed m) → Lives after s j x (Committed n) → n.cut ≡ m.cut
 
-pub same_cuts : (R : Becomes) → ((x : Version) (st : Status) (y : Version) (su : Status) → R x st y su → cut_in su ≡ cut_in st)
+pub same_cuts : (R : Becomes) → ((x : Version) (st : WriteSetStatus) (y : Version) (su : WriteSetStatus) → R x st y su → cut_in su ≡ cut_in st)
     → (before after : ℕ → Ring) → Matches R before after → SameCut before after
 same_cuts R same before after k s j x m n there now =
     let f = k.forth s j x (Committed m) there in

@@ -2,7 +2,7 @@
 -- Shared by the steps that begin and end a section.
 use Rattle.std.proofs.Common.{◌≡◌, ◌≢◌, ℕ, ◌<◌, ◌==◌, Bool, true, false, [], eq-eqb, ne_eqb, sym, ◌∙◌, subst, arith, Option, Some, None}
 use Rattle.std.specs.Prelude.{Contains}
-use Rattle.mv_core.proofs.Terms.{dite, ℕ_discrete, Config, clock_slot_of, Ring, Section, LoadedClocks, FoundStamp, NotAbove, NotAboveAny, set_at}
+use Rattle.mv_core.proofs.Terms.{dite, ℕ_discrete, Config, clock_slot_of, Ring, OwnSection, LoadedClocks, FoundStamp, NotAbove, NotAboveAny, set_at}
 use Rattle.mv_core.specs.SectionFacts.{IsDone, HelpedWords, WasClock, LoadedWords, IsNamedCommit, IsFound, FoundStamps}
 use Rattle.mv_core.proofs.frames.FrameLaw.{set_at_all}
 
@@ -41,16 +41,16 @@ module _ (c : Config) (clock : ℕ) (stamp : ℕ → ℕ → ℕ) (clocks : ℕ 
       found_anew rings x (λ f e. let g : None ≡ Some f = sym none ∙ e in absurd (cc)) (λ f e. let g : None ≡ Some f = sym none ∙ e in absurd (cc)) k
 
   -- the words of all sections were in the clock, if that of a new one is
-  pub inside_after : (section : ℕ → Option Section) (inside : Option Section) → ((i : Section) → inside ≡ Some i → WasClock c clock i.word)
-      → LoadedWords c clock section clocks → (s : ℕ) (i : Section) → set_at section n inside s ≡ Some i → WasClock c clock i.word
-  inside_after section inside here k = set_at_all (λ s u. (i : Section) → u ≡ Some i → WasClock c clock i.word) section n inside here (λ s ne. k.inside s)
+  pub inside_after : (section : ℕ → Option OwnSection) (inside : Option OwnSection) → ((i : OwnSection) → inside ≡ Some i → WasClock c clock i.word)
+      → LoadedWords c clock section clocks → (s : ℕ) (i : OwnSection) → set_at section n inside s ≡ Some i → WasClock c clock i.word
+  inside_after section inside here k = set_at_all (λ s u. (i : OwnSection) → u ≡ Some i → WasClock c clock i.word) section n inside here (λ s ne. k.inside s)
 
   -- the words of all were in the clock, where those of one seat are given anew
-  pub loaded_anew : (before after : ℕ → Option Section) (x : LoadedClocks)
+  pub loaded_anew : (before after : ℕ → Option OwnSection) (x : LoadedClocks)
       → ((f : FoundStamp) → x.found ≡ Some f → WasClock c clock f.word × (clock_slot_of f.word ≢ 8191))
       → ((word : ℕ) → Contains x.loaded word → WasClock c clock word) → ((word : ℕ) → Contains x.helped word → WasClock c clock word)
       → ((word : ℕ) → Contains x.loaded word → clock_slot_of word ≡ 8191 → Contains x.helped word)
-      → ((s : ℕ) (i : Section) → after s ≡ Some i → WasClock c clock i.word)
+      → ((s : ℕ) (i : OwnSection) → after s ≡ Some i → WasClock c clock i.word)
       → LoadedWords c clock before clocks → LoadedWords c clock after (set_at clocks n x)
   loaded_anew before after x found loaded helped none inside k = record {
     clock_is = k.clock_is;
@@ -64,9 +64,9 @@ module _ (c : Config) (clock : ℕ) (stamp : ℕ → ℕ → ℕ) (clocks : ℕ 
   }
 
   -- and where it has no stamp found
-  pub loaded_after : (before after : ℕ → Option Section) (x : LoadedClocks) → x.found ≡ None
+  pub loaded_after : (before after : ℕ → Option OwnSection) (x : LoadedClocks) → x.found ≡ None
       → ((word : ℕ) → Contains x.loaded word → WasClock c clock word) → ((word : ℕ) → Contains x.helped word → WasClock c clock word)
       → ((word : ℕ) → Contains x.loaded word → clock_slot_of word ≡ 8191 → Contains x.helped word)
-      → ((s : ℕ) (i : Section) → after s ≡ Some i → WasClock c clock i.word)
+      → ((s : ℕ) (i : OwnSection) → after s ≡ Some i → WasClock c clock i.word)
       → LoadedWords c clock before clocks → LoadedWords c clock after (set_at clocks n x)
   loaded_after before after x none = loaded_anew before after x (λ f e. let g : None ≡ Some f = sym none ∙ e in absurd (cc))

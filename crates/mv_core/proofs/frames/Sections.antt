@@ -2,10 +2,10 @@
 -- sections isn't above the time of the new one, if there is one.
 use Rattle.std.proofs.Common.{◌≡◌, ◌≢◌, ℕ, ◌+◌, ◌-◌, ◌<◌, ◌≤◌, ◌^◌, true, false, cond, List}
 use Rattle.std.proofs.Common.{length, refl, sym, ap, ◌∙◌, subst, inl, inr, ⊎_elim, arith, Option, Some, None}
-use Rattle.mv_core.proofs.Terms.{Entry, State, Config, clock_time_of, IsUnset, Ring, Version, Held, Aborted, Committed, CommitNote, Section, Open}
-use Rattle.mv_core.proofs.Terms.{Named, Naming, LoadedClocks, Scan, Walk, WriteBack, HoldsNothing, Lives, Names, latest, latest_at, last_own}
+use Rattle.mv_core.proofs.Terms.{Entry, State, Config, clock_time_of, IsUnset, Ring, Version, Held, Aborted, Committed, CommitNote, OwnSection, Open}
+use Rattle.mv_core.proofs.Terms.{Named, Naming, LoadedClocks, Scan, WalkStage, WriteBack, HoldsNothing, Lives, Names, latest, latest_at, last_own}
 use Rattle.mv_core.proofs.Terms.{NotAbove, NotAboveAny, time_in, IsUnnamed, set_at}
-use Rattle.mv_core.specs.declared.view.Walk.TheVariants.{Nowhere, At}
+use Rattle.mv_core.specs.declared.view.WalkStage.TheVariants.{Nowhere, At}
 use Rattle.mv_core.proofs.FactTerms.{stamp_of, WriteSets, UnstampedIsUnfinished, InHeldSet, IsPastHelp, StampedPastHelp, ScanIs, Grace, LockFreshness}
 use Rattle.mv_core.proofs.FactTerms.{NamedIs, NamedCommit, OpenSection, PresentMaster, ChainFoot, StandsRight, WalkerPlace, IsBeforeDeath}
 use Rattle.mv_core.proofs.FactTerms.{WalkerBeforeDeath, WalkerKnowledge, HasPassed, IsBelowPassed, WalkerFalls, WalkerLate, CutIsOld, SuccessorFlag}
@@ -67,7 +67,7 @@ module _ (c : Config) (start : State) (h : List Entry) (rings : ℕ → Ring) (s
   pub cut_more : CutIsOld time rings → CutIsOld (set_at time n t) rings
   cut_more k s j x note lives cut = any_more note.time (commit_within c h rings sets s j x note lives).1 (k s j x note lives cut)
 
-  module _ (walk : ℕ → Walk) where
+  module _ (walk : ℕ → WalkStage) where
     pub place_more : (master : ℕ → ℕ → ℕ) → WalkerPlace c start h master time walk rings
         → WalkerPlace c start h master (set_at time n t) (set_at walk n Nowhere) rings
     place_more master k s u =
@@ -101,7 +101,7 @@ module _ (c : Config) (start : State) (h : List Entry) (rings : ℕ → Ring) (s
           (λ _ e. absurd (cc)) (λ _. k.found s found stand);
     }
 
-    module _ (section : ℕ → Option Section) (clocks : ℕ → LoadedClocks) (inside : Option Section) (x : LoadedClocks) where
+    module _ (section : ℕ → Option OwnSection) (clocks : ℕ → LoadedClocks) (inside : Option OwnSection) (x : LoadedClocks) where
       pub knowledge_more : WalkerKnowledge section time clocks walk rings
           → WalkerKnowledge (set_at section n inside) (set_at time n t) (set_at clocks n x) (set_at walk n Nowhere) rings
       knowledge_more k = record {
@@ -124,7 +124,7 @@ module _ (c : Config) (start : State) (h : List Entry) (rings : ℕ → Ring) (s
       pub back_more : (master : ℕ → ℕ → ℕ) (grace : ℕ → ℕ) (back : ℕ → Option WriteBack) → WriteBacks c h master section time clocks grace back rings
           → WriteBacks c h master (set_at section n inside) (set_at time n t) (set_at clocks n x) grace (set_at back n None) rings
       back_more master grace back k s b =
-          by_seat s n (λ q. cond q None (back s) ≡ Some b → (i : Section) × (cond q inside (section s) ≡ Some i) × IsWrittenBack c h master
+          by_seat s n (λ q. cond q None (back s) ≡ Some b → (i : OwnSection) × (cond q inside (section s) ≡ Some i) × IsWrittenBack c h master
           (set_at time n t) rings s (cond q x (clocks s)) (grace s) b i)
           (λ _ e. absurd (cc))
           (λ _ e.
@@ -134,7 +134,7 @@ module _ (c : Config) (start : State) (h : List Entry) (rings : ℕ → Ring) (s
           (o.0, o.1, same_back r r.note r.helped r.nothing r.lives old r.known r.last r.uncut r.words))
 
       pub past_help_more : (stamp : ℕ → ℕ → ℕ)
-          → ((i : Section) → inside ≡ Some i → IsPastHelp x i → (s j : ℕ) (y : Version) (note : CommitNote) → Lives rings s j y (Committed note)
+          → ((i : OwnSection) → inside ≡ Some i → IsPastHelp x i → (s j : ℕ) (y : Version) (note : CommitNote) → Lives rings s j y (Committed note)
           → note.time ≤ time_in i → stamp_of c stamp s y ≡ note.time)
           → StampedPastHelp c stamp section clocks rings → StampedPastHelp c stamp (set_at section n inside) (set_at clocks n x) rings
       past_help_more stamp here k s i =
@@ -142,9 +142,9 @@ module _ (c : Config) (start : State) (h : List Entry) (rings : ℕ → Ring) (s
           → Lives rings u j y (Committed note) → note.time ≤ time_in i → stamp_of c stamp u y ≡ note.time)
           (λ _. here i) (λ _. k s i)
 
-module _ (c : Config) (h : List Entry) (rings : ℕ → Ring) (section : ℕ → Option Section) (n : ℕ) (inside : Option Section)
-    (unnamed : (i : Section) → inside ≡ Some i → IsUnnamed i.mode) where
-  none_named : {X : Type 0} (i : Section) (naming : Naming) → inside ≡ Some i → i.mode ≡ Named naming → X
+module _ (c : Config) (h : List Entry) (rings : ℕ → Ring) (section : ℕ → Option OwnSection) (n : ℕ) (inside : Option OwnSection)
+    (unnamed : (i : OwnSection) → inside ≡ Some i → IsUnnamed i.mode) where
+  none_named : {X : Type 0} (i : OwnSection) (naming : Naming) → inside ≡ Some i → i.mode ≡ Named naming → X
   none_named i naming e mode = absurd (subst IsUnnamed mode (unnamed i e))
 
   pub named_more : (stamp : ℕ → ℕ → ℕ) → NamedCommit c h stamp section rings → NamedCommit c h stamp (set_at section n inside) rings
@@ -163,20 +163,20 @@ module _ (c : Config) (h : List Entry) (rings : ℕ → Ring) (section : ℕ →
       (λ _. k s j i naming x note)
 
   -- a commit whose stamp is unset stays unfinished, where the one of this seat isn't
-  pub unfinished_more : (stamp : ℕ → ℕ → ℕ) → ((i : Section) (naming : Naming) → section n ≡ Some i → i.mode ≡ Named naming → naming.stamped ≢ false)
+  pub unfinished_more : (stamp : ℕ → ℕ → ℕ) → ((i : OwnSection) (naming : Naming) → section n ≡ Some i → i.mode ≡ Named naming → naming.stamped ≢ false)
       → UnstampedIsUnfinished c stamp section rings → UnstampedIsUnfinished c stamp (set_at section n inside) rings
   unfinished_more stamp done k s j x note lives unset =
-      by_seat s n (λ b. (i : Section) × (naming : Naming) × (cond b inside (section s) ≡ Some i) × (i.mode ≡ Named naming) × (naming.time ≡ note.time) ×
+      by_seat s n (λ b. (i : OwnSection) × (naming : Naming) × (cond b inside (section s) ≡ Some i) × (i.mode ≡ Named naming) × (naming.time ≡ note.time) ×
       (naming.stamped ≡ false))
       (λ e. let r = k s j x note lives unset in absurd (done r.0 r.1 (ap section (sym e) ∙ r.2) r.3 r.5))
       (λ _. k s j x note lives unset)
 
-  pub open_more : HoldsNothing (rings n) → ((i : Section) → inside ≡ Some i → last_own c.base h n ≤ time_in i) → OpenSection c h section rings
+  pub open_more : HoldsNothing (rings n) → ((i : OwnSection) → inside ≡ Some i → last_own c.base h n ≤ time_in i) → OpenSection c h section rings
       → OpenSection c h (set_at section n inside) rings
   open_more nothing own k = record {
     own = λ s i. by_seat s n (λ b. cond b inside (section s) ≡ Some i → IsUnnamed i.mode → last_own c.base h s ≤ time_in i)
         (λ e is _. subst (λ (r : ℕ). last_own c.base h r ≤ time_in i) (sym e) (own i is)) (λ _. k.own s i);
-    held = λ s j x lives. by_seat s n (λ b. (i : Section) × (cond b inside (section s) ≡ Some i) × IsUnnamed i.mode)
+    held = λ s j x lives. by_seat s n (λ b. (i : OwnSection) × (cond b inside (section s) ≡ Some i) × IsUnnamed i.mode)
         (λ e. absurd (nothing j x (subst (λ (r : ℕ). Lives rings r j x Held) e lives))) (λ _. k.held s j x lives);
     one_set = k.one_set;
     whole = λ s j x i lives. by_seat s n (λ b. cond b inside (section s) ≡ Some i → i.mode ≡ Open → (p : ℕ) → x.first ≤ p → p < (rings s).next

@@ -2,7 +2,7 @@
 use Rattle.std.proofs.Common.{◌≡◌, ℕ, zero, suc, eqb, Bool, true, false, cond, List, [], ◌∷◌, sym, refl, ap, ◌∙◌, ⊎_elim, eq-eqb, arith}
 use Rattle.std.specs.Prelude.{Contains}
 use Rattle.mv_history.specs.declared.Commit.{Commit}
-use Rattle.mv_core.proofs.Terms.{Entry, Rest, Change, State, maker_of, commits_of, rests_of, Config, View, Past}
+use Rattle.mv_core.proofs.Terms.{Entry, Rest, Change, State, maker_of, commits_of, rests_of, Config, Knowledge, Past}
 use Rattle.mv_core.proofs.FactTerms.{KnowsPast, Seated}
 use Rattle.mv_core.specs.Points.{EntriesAreNamed}
 use Rattle.mv_core.proofs.frames.SectionBounds.{none_in}
@@ -29,12 +29,12 @@ some_made s (Change c ∷ es) e (suc i, lt, same) makes none few =
     some_made s es e (i, omega (arith, lt), same) makes (none_front (eqb c.seat s) c (commits_of s es) none).1 few
 
 -- each entry is of a seat with a view or a note: a seat that isn't made yet has made none
-pub entries_named : (c : Config) (start : State) (vs : List View) (seats : ℕ → View) (h : List Entry) → Seated c start vs seats
+pub entries_named : (c : Config) (start : State) (vs : List Knowledge) (seats : ℕ → Knowledge) (h : List Entry) → Seated c start vs seats
     → ((s : ℕ) → KnowsPast h s (seats s).past) → EntriesAreNamed vs h
 entries_named c start vs seats h k knows e has =
     ⊎_elim (λ there. there)
     (λ new.
     let p = knows (maker_of e) in
-    let past : (seats (maker_of e)).past ≡ record { seen = []; mine = []; rests = 0 } = ap (λ (v : View). v.past) new in
+    let past : (seats (maker_of e)).past ≡ record { seen = []; mine = []; rests = 0 } = ap (λ (v : Knowledge). v.past) new in
     absurd (some_made (maker_of e) h e has refl (sym p.mine ∙ ap (λ (q : Past). q.mine) past) (sym p.rests ∙ ap (λ (q : Past). q.rests) past)))
     (k.all (maker_of e))

@@ -5,7 +5,7 @@ use Rattle.std.specs.Prelude.{slice_get}
 use Rattle.std.proofs.Math.Logic.{∥∥₁_elim}
 use Rattle.std.proofs.Math.Bridge.{le_prop}
 use Rattle.mv_history.specs.declared.Commit.{Commit}
-use Rattle.mv_core.proofs.Terms.{Entry, Rest, Change, State, Writes, maker_of, commits_of, rests_of, View}
+use Rattle.mv_core.proofs.Terms.{Entry, Rest, Change, State, Writes, maker_of, commits_of, rests_of, Knowledge}
 use Rattle.mv_history.proofs.Writing.{commits_of-append}
 use Rattle.mv_core.proofs.FactTerms.{BeginsWith, Known}
 use Rattle.mv_core.proofs.history.LongerSeen.{rests_of-append}
@@ -65,7 +65,7 @@ not_own n h front i e begins at late mine rests own =
 
 module _ (starts : State → Type 0) (allows : List ℕ → State → Writes → Type 0) where
   -- the own commits and rests are no more than the entries seen
-  pub own_seen : (v : View) → ∥ Known starts allows v ∥₁ → length v.past.mine + v.past.rests ≤ length v.past.seen
+  pub own_seen : (v : Knowledge) → ∥ Known starts allows v ∥₁ → length v.past.mine + v.past.rests ≤ length v.past.seen
   own_seen v known =
       ∥∥₁_elim known le_prop (λ a.
       let few = own_few v.number v.past.seen in
@@ -74,7 +74,7 @@ module _ (starts : State → Type 0) (allows : List ℕ → State → Writes →
       omega arith)
 
   -- of two views of a seat that made no entry between them: an entry that only the later has seen is of another seat
-  module _ (v w : View) (before : ∥ Known starts allows v ∥₁) (after : ∥ Known starts allows w ∥₁) (number : w.number ≡ v.number)
+  module _ (v w : Knowledge) (before : ∥ Known starts allows v ∥₁) (after : ∥ Known starts allows w ∥₁) (number : w.number ≡ v.number)
       (seen : BeginsWith w.past.seen v.past.seen) (mine : w.past.mine ≡ v.past.mine) (rests : w.past.rests ≡ v.past.rests) where
     pub other_maker : (i : ℕ) (e : Entry) → slice_get w.past.seen i ≡ Some e → length v.past.seen ≤ i → maker_of e ≢ w.number
     other_maker i e at late own =

@@ -5,7 +5,8 @@ use Rattle.mv_history.specs.WordsLaws.{AreWords-state_after}
 use Rattle.mv_history.proofs.Histories.{IsLegal-front}
 use Rattle.mv_history.proofs.Writing.{length-state_after}
 use Rattle.std.proofs.lemmas.List.{take-append-le}
-use Rattle.mv_core.proofs.Terms.{Entry, State, Writes, state_after, Config, Memory, View, Inside, Section, words_of, time_in, section_of, time_of, parts_of}
+use Rattle.mv_core.proofs.Terms.{Entry, State, Writes, state_after, Config, Memory, Knowledge, Inside, OwnSection, words_of, time_in, section_of, time_of}
+use Rattle.mv_core.proofs.Terms.{parts_of}
 use Rattle.mv_history.specs.Meaning.{words_at}
 use Rattle.mv_core.proofs.FactTerms.{BeginsWith, Facts}
 
@@ -24,8 +25,10 @@ words_wide c start h t o six legal range =
     let front = IsLegal-front (length start) (take n h) (drop n h) (subst (IsLegal (length start)) (sym (take-append-drop n h)) legal) in
     AreWords-state_after (length start) [] (take n h) start front six o [] (subst (λ (l : ℕ). o < l) (sym (length-state_after start (take n h))) range)
 
-module _ {starts : State → Type 0} {allows : List ℕ → State → Writes → Type 0} {c : Config} {start : State} {m : Memory} {h : List Entry} (seats : ℕ → View)
-    (v : View) (inside : Section) (k : Facts starts allows c start m h (parts_of seats)) (is : seats v.number ≡ v) (phase : v.phase ≡ Inside inside) where
+module _ {starts : State → Type 0} {allows : List ℕ → State → Writes → Type 0} {c : Config} {start : State} {m : Memory} {h : List Entry}
+    (seats : ℕ → Knowledge)
+    (v : Knowledge) (inside : OwnSection) (k : Facts starts allows c start m h (parts_of seats)) (is : seats v.number ≡ v)
+    (phase : v.phase ≡ Inside inside) where
   pub section_is : section_of (seats v.number).phase ≡ Some inside
   section_is = ap (λ u. section_of u.phase) is ∙ ap section_of phase
 
@@ -35,7 +38,7 @@ module _ {starts : State → Type 0} {allows : List ℕ → State → Writes →
   -- the state of the section is a part of what its seat has seen
   pub section_words : (o : ℕ) → words_of c start h (time_in inside) o ≡ words_of c start v.past.seen (time_in inside) o
   section_words o =
-      let past_is = ap (λ (u : View). u.past.seen) is in
+      let past_is = ap (λ (u : Knowledge). u.past.seen) is in
       let le = k.phases_and_scan.seen v.number (time_in inside) time_is in
       words_seen c start h (seats v.number).past.seen (time_in inside) o (k.history.seats v.number).seen le
       ∙ ap (λ s. words_of c start s (time_in inside) o) past_is

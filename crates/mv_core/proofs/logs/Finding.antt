@@ -1,6 +1,6 @@
 -- Whether there is a live version of some kind can be found out: there are as many seats and slots as the domain has.
 use Rattle.std.proofs.Common.{◌≡◌, ◌⊎◌, ℕ, zero, suc, ◌+◌, ◌<◌, ◌≤◌, List, length, sym, refl, ap, ◌∙◌, subst, inl, inr, ⊎_elim, arith}
-use Rattle.mv_core.proofs.Terms.{dite, ℕ_discrete, Entry, Config, Checked, link_of, Ring, Slot, Free, Built, Live, Freeing, Version, Status, Held}
+use Rattle.mv_core.proofs.Terms.{dite, ℕ_discrete, Entry, Config, Checked, link_of, Ring, Slot, Free, Built, Live, Freeing, Version, WriteSetStatus, Held}
 use Rattle.mv_core.proofs.Terms.{Aborted, Committed, CommitNote, slot_at, Lives, Names, IsVersion, NoneHolds}
 use Rattle.mv_core.specs.SetFacts.{Positions}
 use Rattle.mv_core.proofs.logs.Links.{live_once, note_once, lives_within}
@@ -20,10 +20,10 @@ find_below P known (suc n) =
     (find_below P known n)
 
 -- there is a version in the slot of which it holds
-abbrev IsThere : (Version → Status → Type 0) → Slot → Type 0
-IsThere Q slot = (x : Version) × (st : Status) × (slot ≡ Live x st) × Q x st
+abbrev IsThere : (Version → WriteSetStatus → Type 0) → Slot → Type 0
+IsThere Q slot = (x : Version) × (st : WriteSetStatus) × (slot ≡ Live x st) × Q x st
 
-in_slot : (Q : Version → Status → Type 0) → ((x : Version) (st : Status) → HoldsOrNot (Q x st)) → (slot : Slot) → HoldsOrNot (IsThere Q slot)
+in_slot : (Q : Version → WriteSetStatus → Type 0) → ((x : Version) (st : WriteSetStatus) → HoldsOrNot (Q x st)) → (slot : Slot) → HoldsOrNot (IsThere Q slot)
 in_slot Q known Free = inr (λ p. let e = p.2 in cc)
 in_slot Q known (Built b) = inr (λ p. let e = p.2 in cc)
 in_slot Q known (Freeing p f) = inr (λ p. let e = p.2 in cc)
@@ -36,9 +36,9 @@ in_slot Q known (Live x st) =
 module _ (c : Config) (h : List Entry) (rings : ℕ → Ring) (checked : Checked c) (in_time : c.base + length h ≤ 35184372088831)
     (positions : Positions c h rings) where
   -- a live version of which it holds, or there is none
-  pub find_version : (Q : ℕ → Version → Status → Type 0) → ((s : ℕ) (x : Version) (st : Status) → HoldsOrNot (Q s x st))
-      → ((s k : ℕ) × (x : Version) × (st : Status) × Lives rings s k x st × Q s x st)
-      ⊎ ((s k : ℕ) (x : Version) (st : Status) → Lives rings s k x st → Q s x st → ⊥)
+  pub find_version : (Q : ℕ → Version → WriteSetStatus → Type 0) → ((s : ℕ) (x : Version) (st : WriteSetStatus) → HoldsOrNot (Q s x st))
+      → ((s k : ℕ) × (x : Version) × (st : WriteSetStatus) × Lives rings s k x st × Q s x st)
+      ⊎ ((s k : ℕ) (x : Version) (st : WriteSetStatus) → Lives rings s k x st → Q s x st → ⊥)
   find_version Q known =
       let of_seat : (s : ℕ) → HoldsOrNot ((k : ℕ) × IsThere (Q s) (slot_at (rings s) k)) =
       λ s. ⊎_elim (λ found. inl found)
@@ -49,7 +49,7 @@ module _ (c : Config) (h : List Entry) (rings : ℕ → Ring) (checked : Checked
       (λ none. inr (λ s k x st lives q. none s (lives_within c h rings checked in_time positions s k x st lives).0 (k, (x, st, lives, q))))
       (find_below (λ s. (k : ℕ) × IsThere (Q s) (slot_at (rings s) k)) of_seat c.seats)
 
-  known_held : (o : ℕ) (x : Version) (st : Status) → HoldsOrNot ((st ≡ Held) × (x.object ≡ o))
+  known_held : (o : ℕ) (x : Version) (st : WriteSetStatus) → HoldsOrNot ((st ≡ Held) × (x.object ≡ o))
   known_held o x Held = dite (ℕ_discrete x.object o) (λ e. inl (refl, e)) (λ ne. inr (λ p. ne p.1))
   known_held o x (Aborted dead) = inr (λ p. let e = p.0 in cc)
   known_held o x (Committed note) = inr (λ p. let e = p.0 in cc)
@@ -62,10 +62,10 @@ module _ (c : Config) (h : List Entry) (rings : ℕ → Ring) (checked : Checked
       (λ none. inr (λ s k x lives e. none s k x Held lives (refl, e)))
       (find_version (λ s x st. (st ≡ Held) × (x.object ≡ o)) (λ s x st. known_held o x st))
 
-  IsWriteOf : ℕ → ℕ → Version → Status → Type 0
+  IsWriteOf : ℕ → ℕ → Version → WriteSetStatus → Type 0
   IsWriteOf o t x st = (note : CommitNote) × (st ≡ Committed note) × (x.object ≡ o) × (note.time ≡ t)
 
-  known_write : (o t : ℕ) (x : Version) (st : Status) → HoldsOrNot (IsWriteOf o t x st)
+  known_write : (o t : ℕ) (x : Version) (st : WriteSetStatus) → HoldsOrNot (IsWriteOf o t x st)
   unfolding IsWriteOf
   known_write o t x Held = inr (λ p. let e = p.1 in cc)
   known_write o t x (Aborted dead) = inr (λ p. let e = p.1 in cc)
@@ -95,7 +95,8 @@ module _ (c : Config) (h : List Entry) (rings : ℕ → Ring) (checked : Checked
       (find_version (λ s x st. IsWriteOf o t x st) (λ s x st. known_write o t x st))
 
   -- what a link names, or it names none
-  pub find_named : (link : ℕ) → ((x : Version) × (st : Status) × Names rings link x st) ⊎ ((x : Version) (st : Status) → ¬ (Names rings link x st))
+  pub find_named : (link : ℕ) → ((x : Version) × (st : WriteSetStatus) × Names rings link x st) ⊎
+      ((x : Version) (st : WriteSetStatus) → ¬ (Names rings link x st))
   find_named link =
       ⊎_elim
       (λ f. inl (f.2, f.3, record { seat = f.0; slot = f.1; lives = f.4; is = f.5 }))

@@ -7,7 +7,7 @@ use Rattle.std.proofs.Math.Nat.{div-add-mod}
 use Rattle.std.proofs.lemmas.List.{get_or-set_other, get_or-set_same, length-set}
 use Rattle.std.proofs.lemmas.List.Sums.{sum_by-set}
 use Rattle.mv_core.proofs.Terms.{dite, dec_le, Entry, Writes, touches, Config, Checked, Ring, Slot, Free, Built, Live, Freeing, Version, Held, Aborted}
-use Rattle.mv_core.proofs.Terms.{Committed, Section, Open, slot_at, index_of, is_held, held_count, set_first, write_of, writes_from, own_of, Lives}
+use Rattle.mv_core.proofs.Terms.{Committed, OwnSection, Open, slot_at, index_of, is_held, held_count, set_first, write_of, writes_from, own_of, Lives}
 use Rattle.mv_core.proofs.FactTerms.{WriteSets, Positions, OpenSection}
 use Rattle.mv_core.proofs.kinds.entering.LoadTime.{holds_none}
 use Rattle.mv_core.proofs.logs.Written.{write_there, write_touches}
@@ -80,7 +80,8 @@ pub record HeldSet (c : Config) (rings : ℕ → Ring) (s : ℕ) : Type 0 where
   pub at : (p : ℕ) → first ≤ p → p < (rings s).next → (x : Version) × Lives rings s (index_of c p) x Held × (x.position ≡ p) × (x.first ≡ first)
   pub all : (k : ℕ) (x : Version) → Lives rings s k x Held → (x.first ≡ first) × (first ≤ x.position) × (x.position < (rings s).next)
 
-pub held_set : (c : Config) (h : List Entry) (section : ℕ → Option Section) (rings : ℕ → Ring) (s : ℕ) (inside : Section) → Checked c → Positions c h rings
+pub held_set : (c : Config) (h : List Entry) (section : ℕ → Option OwnSection) (rings : ℕ → Ring) (s : ℕ) (inside : OwnSection) → Checked c
+    → Positions c h rings
     → WriteSets c h rings → OpenSection c h section rings → section s ≡ Some inside → inside.mode ≡ Open → 0 < held_count (rings s) → HeldSet c rings s
 held_set c h section rings s inside checked positions sets sections there opens some =
     let r : Ring = rings s in

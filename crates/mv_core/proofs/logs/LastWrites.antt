@@ -2,8 +2,9 @@
 -- reached it: no section reads the object's master, and the object's later writes hang from it. Shared by the steps of a
 -- write-back.
 use Rattle.std.proofs.Common.{◌≡◌, ◌≢◌, ℕ, ◌+◌, ◌-◌, ◌<◌, ◌≤◌, length, true, false, List, refl, sym, ap, ◌∙◌, subst, ⊎_elim, arith, Some}
-use Rattle.mv_core.proofs.Terms.{dite, dec_le, Entry, State, Writes, maker_of, Config, link_of, Memory, Version, Status, Committed, CommitNote, WriteBack}
-use Rattle.mv_core.proofs.Terms.{Section, Lives, Names, IsVersion, NoneUncut, writes_to, latest, latest_at, IsEntry, NotAboveAny, ViewParts, time_in}
+use Rattle.mv_core.proofs.Terms.{dite, dec_le, Entry, State, Writes, maker_of, Config, link_of, Memory, Version, WriteSetStatus, Committed, CommitNote}
+use Rattle.mv_core.proofs.Terms.{WriteBack}
+use Rattle.mv_core.proofs.Terms.{OwnSection, Lives, Names, IsVersion, NoneUncut, writes_to, latest, latest_at, IsEntry, NotAboveAny, ViewParts, time_in}
 use Rattle.mv_core.specs.Rule.{Facts}
 use Rattle.mv_core.proofs.history.Latest.{latest_at-whole, latest_at-entry, latest_at-reaches}
 use Rattle.mv_core.proofs.logs.Written.{version_writes, commit_within}
@@ -78,7 +79,7 @@ module _ {starts : State → Type 0} {allows : List ℕ → State → Writes →
 
   -- a version of the object at the foot of its chain isn't later than any section
   pub foot_is_old : (s j : ℕ) (y : Version) (o : CommitNote) → Lives f.ring s j y (Committed o) → y.object ≡ x.object
-      → ((z : Version) (st : Status) → ¬ (Names f.ring y.previous z st)) → NotAboveAny o.time f.time
+      → ((z : Version) (st : WriteSetStatus) → ¬ (Names f.ring y.previous z st)) → NotAboveAny o.time f.time
   foot_is_old s j y o lives same nothing =
       ⊎_elim (λ a. a)
       (λ g.
@@ -99,7 +100,7 @@ module _ {starts : State → Type 0} {allows : List ℕ → State → Writes →
       (k.chain_foot s j y o lives nothing)
 
   -- no other seat writes the object back
-  pub none_else : (s : ℕ) (b : WriteBack) → f.back s ≡ Some b → ((i : Section) → f.section s ≡ Some i → f.time s ≡ Some (time_in i)) → s ≢ n
+  pub none_else : (s : ℕ) (b : WriteBack) → f.back s ≡ Some b → ((i : OwnSection) → f.section s ≡ Some i → f.time s ≡ Some (time_in i)) → s ≢ n
       → b.object ≢ x.object
   none_else s b e timed ne same =
       let r = k.write_back s b e in

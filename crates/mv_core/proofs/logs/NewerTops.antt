@@ -1,7 +1,8 @@
 -- Another seat's version on top of a chain is newer than each of the object that the own log has as committed.
 use Rattle.std.proofs.Common.{◌≡◌, ◌≢◌, ◌⊎◌, ℕ, ◌<◌, true, List, refl, sym, ap, ◌∙◌, subst, ⊎_elim, inl, inr, arith}
-use Rattle.mv_core.proofs.Terms.{dite, ℕ_discrete, Entry, State, Writes, Config, Clock, Head, link_of, link_seat_of, Memory, Ring, Live, Version, Status}
-use Rattle.mv_core.proofs.Terms.{Held, Committed, CommitNote, View, slot_at, Lives, Names, writes_to, latest, parts_of}
+use Rattle.mv_core.proofs.Terms.{dite, ℕ_discrete, Entry, State, Writes, Config, Clock, Head, link_of, link_seat_of, Memory, Ring, Live, Version}
+use Rattle.mv_core.proofs.Terms.{WriteSetStatus}
+use Rattle.mv_core.proofs.Terms.{Held, Committed, CommitNote, Knowledge, slot_at, Lives, Names, writes_to, latest, parts_of}
 use Rattle.mv_core.proofs.FactTerms.{History, Facts}
 use Rattle.mv_core.specs.Chains.{IsLater}
 use Rattle.mv_core.specs.Tops.{any_start, any_commit, StateWith, NamesNewer, IsNewer}
@@ -12,8 +13,9 @@ use Rattle.mv_core.proofs.logs.Versions.{write_once}
 use Rattle.mv_core.proofs.kinds.walking.Walks.{lives_named}
 use Rattle.mv_core.proofs.logs.Written.{version_writes}
 
-module _ {starts : State → Type 0} {allows : List ℕ → State → Writes → Type 0} {c : Config} {start : State} {m : Memory} {h : List Entry} (seats : ℕ → View)
-    (k : Facts starts allows c start m h (parts_of seats)) (v : View) (is : seats v.number ≡ v) (begins : v.start ≡ start) where
+module _ {starts : State → Type 0} {allows : List ℕ → State → Writes → Type 0} {c : Config} {start : State} {m : Memory} {h : List Entry}
+    (seats : ℕ → Knowledge)
+    (k : Facts starts allows c start m h (parts_of seats)) (v : Knowledge) (is : seats v.number ≡ v) (begins : v.start ≡ start) where
   abbrev rings : ℕ → Ring
   rings s = (seats s).ring
 
@@ -52,7 +54,7 @@ module _ {starts : State → Type 0} {allows : List ℕ → State → Writes →
     head = m (Head object)
 
     -- what HEAD names there is newer, if it is held or has the last commit
-    names_newer : (x : Version) (st : Status) → Names rings head x st → x.object ≡ object
+    names_newer : (x : Version) (st : WriteSetStatus) → Names rings head x st → x.object ≡ object
         → ((st ≡ Held) ⊎ ((note : CommitNote) × (st ≡ Committed note) × (note.time ≡ latest c.base h object)))
         → ((j : ℕ) (y : Version) (own : CommitNote) → slot_at v.ring j ≡ Live y (Committed own) → y.object ≡ object → IsLater own.time st)
         → NamesNewer c v object head
@@ -75,7 +77,7 @@ module _ {starts : State → Type 0} {allows : List ℕ → State → Writes →
     own_before : (x : Version) (note : CommitNote) → Names rings head x (Committed note) → x.object ≡ object → note.time ≡ latest c.base h object
         → (j : ℕ) (y : Version) (own : CommitNote) → slot_at v.ring j ≡ Live y (Committed own) → y.object ≡ object → own.time < note.time
     own_before x note names object_is on_time j y own there own_is =
-        let lives : Lives rings v.number j y (Committed own) = ap (λ (u : View). slot_at u.ring j) is ∙ there in
+        let lives : Lives rings v.number j y (Committed own) = ap (λ (u : Knowledge). slot_at u.ring j) is ∙ there in
         let w = version_writes c h rings k.write_sets v.number j y own lives in
         let reach = latest-reaches c.base h object own.time w.0 w.1 (subst (λ (o : ℕ). writes_to o w.0 ≡ true) own_is w.2) in
         dite (ℕ_discrete own.time note.time)

@@ -3,7 +3,8 @@
 use Rattle.std.proofs.Common.{◌≡◌, ◌≢◌, ℕ, ◌+◌, ◌-◌, ◌<◌, ◌≤◌, true, refl, sym, ap, ◌∙◌, subst, ⊎_elim, inl, inr, eq-eqb, arith, List, length, take}
 use Rattle.std.proofs.Math.Seq.{take-append_seam}
 use Rattle.mv_core.proofs.Terms.{dite, ℕ_discrete, Entry, Change, State, Writes, Config, Head, link_of, link_seat_of, Memory, Ring, Live, Build}
-use Rattle.mv_core.proofs.Terms.{Version, Status, Held, Committed, CommitNote, View, Section, slot_at, Lives, Names, IsVersion, last_that, writes_to}
+use Rattle.mv_core.proofs.Terms.{Version, WriteSetStatus, Held, Committed, CommitNote, Knowledge, OwnSection, slot_at, Lives, Names, IsVersion, last_that}
+use Rattle.mv_core.proofs.Terms.{writes_to}
 use Rattle.mv_core.proofs.Terms.{latest, is_by, last_own, IsUnnamed, parts_of}
 use Rattle.mv_core.proofs.FactTerms.{BeginsWith, Facts}
 use Rattle.mv_core.specs.WalkSteps.{slot_named, IsOwnTop, IsOwnLink, IsLastOwn, IsLastSeen}
@@ -26,15 +27,17 @@ latest-seen base h seen o begins =
     let all = last_that-take-all (writes_to o) h (length seen + length h) (omega arith) in
     omega arith
 
-module _ {starts : State → Type 0} {allows : List ℕ → State → Writes → Type 0} {c : Config} {start : State} {m : Memory} {h : List Entry} (seats : ℕ → View)
-    (k : Facts starts allows c start m h (parts_of seats)) (v : View) (is : seats v.number ≡ v) where
+module _ {starts : State → Type 0} {allows : List ℕ → State → Writes → Type 0} {c : Config} {start : State} {m : Memory} {h : List Entry}
+    (seats : ℕ → Knowledge)
+    (k : Facts starts allows c start m h (parts_of seats)) (v : Knowledge) (is : seats v.number ≡ v) where
   abbrev rings : ℕ → Ring
   rings s = (seats s).ring
 
   -- what an own link names is in the own view
-  own_slot : (link : ℕ) (x : Version) (st : Status) → link_seat_of link ≡ v.number → Names rings link x st → slot_at v.ring (slot_named c link) ≡ Live x st
+  own_slot : (link : ℕ) (x : Version) (st : WriteSetStatus) → link_seat_of link ≡ v.number → Names rings link x st
+      → slot_at v.ring (slot_named c link) ≡ Live x st
   own_slot link x st seat names =
-      ap (λ (u : View). slot_at u.ring (slot_named c link)) (sym is) ∙ ap (λ (s : ℕ). slot_at (rings s) (slot_named c link)) (sym seat)
+      ap (λ (u : Knowledge). slot_at u.ring (slot_named c link)) (sym is) ∙ ap (λ (s : ℕ). slot_at (rings s) (slot_named c link)) (sym seat)
       ∙ lives_named seats k link x st names
 
   -- what HEAD tells of the own log
@@ -53,7 +56,7 @@ module _ {starts : State → Type 0} {allows : List ℕ → State → Writes →
       (find_holder c h rings k.checked k.history.in_time k.positions object)
 
   -- its link is of its position
-  link_of_named : (link : ℕ) (x y : Version) (st su : Status) → link_seat_of link ≡ v.number → Names rings link x st
+  link_of_named : (link : ℕ) (x y : Version) (st su : WriteSetStatus) → link_seat_of link ≡ v.number → Names rings link x st
       → slot_at v.ring (slot_named c link) ≡ Live y su → link ≡ link_of v.number y.position
   link_of_named link x y st su seat names there =
       let of_seat = names_place c h rings k.checked k.history.in_time k.positions link x st names in
@@ -71,8 +74,8 @@ module _ {starts : State → Type 0} {allows : List ℕ → State → Writes →
       (k.head_is_top.top object none))
       (find_holder c h rings k.checked k.history.in_time k.positions object)
 
-  in_log : (j : ℕ) (y : Version) (st : Status) → slot_at v.ring j ≡ Live y st → Lives rings v.number j y st
-  in_log j y st there = ap (λ (u : View). slot_at u.ring j) is ∙ there
+  in_log : (j : ℕ) (y : Version) (st : WriteSetStatus) → slot_at v.ring j ≡ Live y st → Lives rings v.number j y st
+  in_log j y st there = ap (λ (u : Knowledge). slot_at u.ring j) is ∙ there
 
   -- the version that HEAD names, where it is committed, is of the object's latest write
   own_top_version : (object : ℕ) → m (Head object) ≢ 0 → link_seat_of (m (Head object)) ≡ v.number → (x : Version) (note : CommitNote)
@@ -120,7 +123,7 @@ module _ {starts : State → Type 0} {allows : List ℕ → State → Writes →
   pub own_top_seen : (object : ℕ) → IsLastSeen c v object (m (Head object))
   own_top_seen object some seat x note here =
       let on_time = (own_top_version object some seat x note here).time_is in
-      let seen = subst (λ (u : View). BeginsWith h u.past.seen) is (k.history.seats v.number).seen in
+      let seen = subst (λ (u : Knowledge). BeginsWith h u.past.seen) is (k.history.seats v.number).seen in
       let le = latest-seen c.base h v.past.seen object seen in
       omega arith
 
@@ -133,7 +136,7 @@ module _ {starts : State → Type 0} {allows : List ℕ → State → Writes →
       omega arith
 
   -- the top that a lost exchange found is in another log
-  pub lost_other : (write_max object previous position : ℕ) (words : List ℕ) (b : Build) (inside : Section)
+  pub lost_other : (write_max object previous position : ℕ) (words : List ℕ) (b : Build) (inside : OwnSection)
       → MayLock c write_max v object previous position words b inside → m (Head object) ≢ previous → m (Head object) ≢ 0
       → link_seat_of (m (Head object)) ≢ v.number
   lost_other write_max object previous position words b inside may lost some seat =

@@ -1,6 +1,6 @@
 -- A memory by the kinds of its words; and a word of a slot after one word of that kind was written.
 use Rattle.std.proofs.Common.{◌≡◌, ◌≢◌, ℕ, ◌==◌, ◌&&◌, Bool, true, false, cond, refl, sym, ap, ◌∙◌, eq-eqb, eqb-true}
-use Rattle.mv_core.proofs.Terms.{Place, Clock, Grace, Mark, Head, Master, First, Stamp, Prev, Super, Data, Memory}
+use Rattle.mv_core.proofs.Terms.{SharedWord, Clock, Grace, Mark, Head, Master, First, Stamp, Prev, Super, Data, Memory}
 
 -- the memory of these words
 abbrev pub of_parts : (clock grace : ℕ) (mark head : ℕ → ℕ) (master first stamp prev super : ℕ → ℕ → ℕ) (data_word : ℕ → ℕ → ℕ → ℕ) → Memory
@@ -21,7 +21,7 @@ parts_of m =
     of_parts (m Clock) (m Grace) (λ s. m (Mark s)) (λ o. m (Head o)) (λ o w. m (Master o w)) (λ s k. m (First s k)) (λ s k. m (Stamp s k))
     (λ s k. m (Prev s k)) (λ s k. m (Super s k)) (λ s k w. m (Data s k w))
 
-same_part : (m : Memory) (p : Place) → parts_of m p ≡ m p
+same_part : (m : Memory) (p : SharedWord) → parts_of m p ≡ m p
 same_part m Clock = refl
 same_part m Grace = refl
 same_part m (Mark s) = refl

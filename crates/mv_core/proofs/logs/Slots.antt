@@ -7,7 +7,7 @@ use Rattle.std.proofs.Common.{◌≡◌, ◌≢◌, ◌⊎◌, ℕ, zero, suc, �
 use Rattle.std.specs.Prelude.{slice_set}
 use Rattle.std.proofs.lemmas.List.{get_or-set_same, get_or-set_other, length-set, length-map}
 use Rattle.std.proofs.Math.ListN.{get_or, get_or-map}
-use Rattle.mv_core.proofs.Terms.{dite, ℕ_discrete, Ring, Slot, Free, Live, Version, Status, slot_at, put_slot, Lives, set_at}
+use Rattle.mv_core.proofs.Terms.{dite, ℕ_discrete, Ring, Slot, Free, Live, Version, WriteSetStatus, slot_at, put_slot, Lives, set_at}
 use Rattle.mv_core.proofs.frames.FrameLaw.{set_at_all}
 use Rattle.mv_core.proofs.logs.Links.{live_once}
 
@@ -32,7 +32,7 @@ within_list (y ∷ ys) (suc k) some_there = let lt = within_list ys k some_there
 pub slot_within : (r : Ring) (k : ℕ) → slot_at r k ≢ Free → k < length r.slots
 slot_within r k some_there = within_list r.slots k some_there
 
-pub live_within : (r : Ring) (k : ℕ) (x : Version) (st : Status) → slot_at r k ≡ Live x st → k < length r.slots
+pub live_within : (r : Ring) (k : ℕ) (x : Version) (st : WriteSetStatus) → slot_at r k ≡ Live x st → k < length r.slots
 live_within r k x st e = slot_within r k (λ free. let f : Free ≡ Live x st = sym free ∙ e in absurd (cc))
 
 -- whether a slot of a seat is this one
@@ -62,16 +62,16 @@ module _ (rings : ℕ → Ring) (n k : ℕ) (x : Slot) (r : Ring) (written : r.s
   at_else s j ne = slots_after (λ t i y. ¬ ((t ≡ n) × (i ≡ k)) → y ≡ slot_at (rings t) i) (λ other. absurd (other (refl, refl))) (λ t i _ _. refl) s j ne
 
   -- a version afterwards is in the new slot, or was there before, in another one
-  pub lives_back : (s j : ℕ) (y : Version) (st : Status) → Lives (set_at rings n r) s j y st
+  pub lives_back : (s j : ℕ) (y : Version) (st : WriteSetStatus) → Lives (set_at rings n r) s j y st
       → ((s ≡ n) × (j ≡ k) × (x ≡ Live y st)) ⊎ ((¬ ((s ≡ n) × (j ≡ k))) × Lives rings s j y st)
   lives_back =
-      slots_after (λ s j z. (y : Version) (st : Status) → z ≡ Live y st
+      slots_after (λ s j z. (y : Version) (st : WriteSetStatus) → z ≡ Live y st
       → ((s ≡ n) × (j ≡ k) × (x ≡ Live y st)) ⊎ ((¬ ((s ≡ n) × (j ≡ k))) × Lives rings s j y st))
       (λ y st e. inl (refl, refl, e))
       (λ s j ne y st e. inr (ne, e))
 
   -- a version in another slot is still there
-  pub lives_else : (s j : ℕ) (y : Version) (st : Status) → ¬ ((s ≡ n) × (j ≡ k)) → Lives rings s j y st → Lives (set_at rings n r) s j y st
+  pub lives_else : (s j : ℕ) (y : Version) (st : WriteSetStatus) → ¬ ((s ≡ n) × (j ≡ k)) → Lives rings s j y st → Lives (set_at rings n r) s j y st
   lives_else s j y st ne e = at_else s j ne ∙ e
 
   -- the log has as many slots, and so have all
@@ -105,20 +105,21 @@ module _ (rings : ℕ → Ring) (n : ℕ) (f : Slot → Slot) (free : f Free ≡
 
 -- what becomes of a version with its status: the first two become the others
 abbrev pub Becomes : Type 1
-Becomes = Version → Status → Version → Status → Type 0
+Becomes = Version → WriteSetStatus → Version → WriteSetStatus → Type 0
 
 -- each version of the logs before is there afterwards, in this relation, and each one afterwards was there before; and the next positions stay
 pub record Matches (R : Becomes) (before after : ℕ → Ring) : Type 0 where
-  pub forth : (s k : ℕ) (x : Version) (st : Status) → Lives before s k x st → (y : Version) × (su : Status) × Lives after s k y su × R x st y su
-  pub back : (s k : ℕ) (y : Version) (su : Status) → Lives after s k y su → (x : Version) × (st : Status) × Lives before s k x st × R x st y su
+  pub forth : (s k : ℕ) (x : Version) (st : WriteSetStatus) → Lives before s k x st → (y : Version) × (su : WriteSetStatus) × Lives after s k y su × R x st y su
+  pub back : (s k : ℕ) (y : Version) (su : WriteSetStatus) → Lives after s k y su → (x : Version) × (st : WriteSetStatus) × Lives before s k x st × R x st y su
   pub next : (s : ℕ) → (after s).next ≡ (before s).next
 
 -- a relation that each version has to itself
 abbrev pub IsReflexive : Becomes → Type 0
-IsReflexive R = (x : Version) (st : Status) → R x st x st
+IsReflexive R = (x : Version) (st : WriteSetStatus) → R x st x st
 
 -- a weaker relation matches too
-pub match_weaker : (R Q : Becomes) (before after : ℕ → Ring) → ((x : Version) (st : Status) (y : Version) (su : Status) → R x st y su → Q x st y su)
+pub match_weaker : (R Q : Becomes) (before after : ℕ → Ring) →
+    ((x : Version) (st : WriteSetStatus) (y : Version) (su : WriteSetStatus) → R x st y su → Q x st y su)
     → Matches R before after → Matches Q before after
 match_weaker R Q before after weaker k = record {
   forth = λ s j x st lives. let a = k.forth s j x st lives in (a.0, a.1, a.2, weaker x st a.0 a.1 a.3);
@@ -130,32 +131,32 @@ module _ (R : Becomes) (reflexive : IsReflexive R) (rings : ℕ → Ring) (n : �
   module _ (k : ℕ) (x : Slot) (r : Ring) (written : r.slots ≡ slice_set (rings n).slots k x) (within : k < length (rings n).slots)
       (next : r.next ≡ (rings n).next) where
     -- a version was written over one in the relation
-    pub match_put : (y : Version) (st : Status) (z : Version) (su : Status) → Lives rings n k y st → x ≡ Live z su → R y st z su
+    pub match_put : (y : Version) (st : WriteSetStatus) (z : Version) (su : WriteSetStatus) → Lives rings n k y st → x ≡ Live z su → R y st z su
         → Matches R rings (set_at rings n r)
     match_put y st z su was is rel = record {
-      forth = slots_after rings n k x r written within (λ s j w. (a : Version) (sa : Status) → Lives rings s j a sa
-          → (b : Version) × (sb : Status) × (w ≡ Live b sb) × R a sa b sb)
+      forth = slots_after rings n k x r written within (λ s j w. (a : Version) (sa : WriteSetStatus) → Lives rings s j a sa
+          → (b : Version) × (sb : WriteSetStatus) × (w ≡ Live b sb) × R a sa b sb)
           (λ a sa lives. let one = live_once (slot_at (rings n) k) y a st sa was lives in
-          (z, su, is, subst (λ (d : Version). R d sa z su) one.0 (subst (λ (d : Status). R y d z su) one.1 rel)))
+          (z, su, is, subst (λ (d : Version). R d sa z su) one.0 (subst (λ (d : WriteSetStatus). R y d z su) one.1 rel)))
           (λ s j ne a sa lives. (a, sa, lives, reflexive a sa));
-      back = slots_after rings n k x r written within (λ s j w. (b : Version) (sb : Status) → w ≡ Live b sb
-          → (a : Version) × (sa : Status) × Lives rings s j a sa × R a sa b sb)
+      back = slots_after rings n k x r written within (λ s j w. (b : Version) (sb : WriteSetStatus) → w ≡ Live b sb
+          → (a : Version) × (sa : WriteSetStatus) × Lives rings s j a sa × R a sa b sb)
           (λ b sb e. let one = live_once x z b su sb is e in
-          (y, st, was, subst (λ (d : Version). R y st d sb) one.0 (subst (λ (d : Status). R y st z d) one.1 rel)))
+          (y, st, was, subst (λ (d : Version). R y st d sb) one.0 (subst (λ (d : WriteSetStatus). R y st z d) one.1 rel)))
           (λ s j ne b sb lives. (b, sb, lives, reflexive b sb));
       next = next_after rings n k x r written within next;
     }
 
     -- what was written is no version, over none
-    pub match_unlived : ((y : Version) (st : Status) → slot_at (rings n) k ≢ Live y st) → ((y : Version) (st : Status) → x ≢ Live y st)
+    pub match_unlived : ((y : Version) (st : WriteSetStatus) → slot_at (rings n) k ≢ Live y st) → ((y : Version) (st : WriteSetStatus) → x ≢ Live y st)
         → Matches R rings (set_at rings n r)
     match_unlived was is = record {
-      forth = slots_after rings n k x r written within (λ s j w. (a : Version) (sa : Status) → Lives rings s j a sa
-          → (b : Version) × (sb : Status) × (w ≡ Live b sb) × R a sa b sb)
+      forth = slots_after rings n k x r written within (λ s j w. (a : Version) (sa : WriteSetStatus) → Lives rings s j a sa
+          → (b : Version) × (sb : WriteSetStatus) × (w ≡ Live b sb) × R a sa b sb)
           (λ a sa lives. absurd (was a sa lives))
           (λ s j ne a sa lives. (a, sa, lives, reflexive a sa));
-      back = slots_after rings n k x r written within (λ s j w. (b : Version) (sb : Status) → w ≡ Live b sb
-          → (a : Version) × (sa : Status) × Lives rings s j a sa × R a sa b sb)
+      back = slots_after rings n k x r written within (λ s j w. (b : Version) (sb : WriteSetStatus) → w ≡ Live b sb
+          → (a : Version) × (sa : WriteSetStatus) × Lives rings s j a sa × R a sa b sb)
           (λ b sb e. absurd (is b sb e))
           (λ s j ne b sb lives. (b, sb, lives, reflexive b sb));
       next = next_after rings n k x r written within next;
@@ -163,16 +164,16 @@ module _ (R : Becomes) (reflexive : IsReflexive R) (rings : ℕ → Ring) (n : �
 
   -- all slots of a log were mapped, the versions in the relation, and nothing else to a version
   pub match_map : (f : Slot → Slot) → f Free ≡ Free
-      → ((z : Slot) (y : Version) (st : Status) → z ≡ Live y st → (x : Version) × (su : Status) × (f z ≡ Live x su) × R y st x su)
-      → ((z : Slot) (x : Version) (su : Status) → f z ≡ Live x su → (y : Version) × (st : Status) × (z ≡ Live y st) × R y st x su)
+      → ((z : Slot) (y : Version) (st : WriteSetStatus) → z ≡ Live y st → (x : Version) × (su : WriteSetStatus) × (f z ≡ Live x su) × R y st x su)
+      → ((z : Slot) (x : Version) (su : WriteSetStatus) → f z ≡ Live x su → (y : Version) × (st : WriteSetStatus) × (z ≡ Live y st) × R y st x su)
       → Matches R rings (set_at rings n (record (rings n) { slots = map f (rings n).slots }))
   match_map f free forth back = record {
-    forth = slots_mapped rings n f free (λ s j w. (a : Version) (sa : Status) → Lives rings s j a sa
-        → (b : Version) × (sb : Status) × (w ≡ Live b sb) × R a sa b sb)
+    forth = slots_mapped rings n f free (λ s j w. (a : Version) (sa : WriteSetStatus) → Lives rings s j a sa
+        → (b : Version) × (sb : WriteSetStatus) × (w ≡ Live b sb) × R a sa b sb)
         (λ j a sa lives. forth (slot_at (rings n) j) a sa lives)
         (λ s j ne a sa lives. (a, sa, lives, reflexive a sa));
-    back = slots_mapped rings n f free (λ s j w. (b : Version) (sb : Status) → w ≡ Live b sb
-        → (a : Version) × (sa : Status) × Lives rings s j a sa × R a sa b sb)
+    back = slots_mapped rings n f free (λ s j w. (b : Version) (sb : WriteSetStatus) → w ≡ Live b sb
+        → (a : Version) × (sa : WriteSetStatus) × Lives rings s j a sa × R a sa b sb)
         (λ j b sb e. back (slot_at (rings n) j) b sb e)
         (λ s j ne b sb lives. (b, sb, lives, reflexive b sb));
     next = next_mapped rings n f free;

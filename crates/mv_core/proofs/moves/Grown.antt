@@ -2,7 +2,7 @@
 use Rattle.std.proofs.Common.{◌≡◌, ◌≢◌, ◌⊎◌, ℕ, ◌+◌, ◌-◌, ◌<◌, ◌≤◌, ◌^◌, max, leb, Bool, true, false, if◌then◌else◌, List, [], ◌∷◌, ◌++◌, length, take, sym}
 use Rattle.std.proofs.Common.{refl, ap, ◌∙◌, subst, ⊎_elim, arith, append-nil, append_assoc, length-append, leb-true, leb-false}
 use Rattle.std.proofs.Math.Seq.{take-append_seam}
-use Rattle.mv_core.proofs.Terms.{dite, ℕ_discrete, Entry, State, Writes, Config, Clock, Memory, View, Past, parts_of, set_at}
+use Rattle.mv_core.proofs.Terms.{dite, ℕ_discrete, Entry, State, Writes, Config, Clock, Memory, Knowledge, Past, parts_of, set_at}
 use Rattle.mv_core.specs.HistoryFacts.{BeginsWith}
 use Rattle.mv_core.specs.EnterSteps.{IsWhole}
 use Rattle.mv_core.specs.Moves.{seen_to, seen_at}
@@ -21,18 +21,18 @@ pub whole_front : (h front : List Entry) → BeginsWith h front → length h ≡
 whole_front h front b long = same_front h front [] b.0 (append-nil h ∙ b.1) long
 
 module _ {starts : State → Type 0} {allows : List ℕ → State → Writes → Type 0} {c : Config} {start : State} {m after : Memory}
-    {h longer : List Entry} (seats : ℕ → View) (v w : View)
+    {h longer : List Entry} (seats : ℕ → Knowledge) (v w : Knowledge)
     (is : seats v.number ≡ v) (k : Facts starts allows c start m h (parts_of seats))
     (l : Facts starts allows c start after longer (parts_of (set_at seats v.number w))) where
   past_here : (set_at seats v.number w v.number).past ≡ w.past
-  past_here = ap (λ (u : View). u.past) (set_at_here seats v.number w)
+  past_here = ap (λ (u : Knowledge). u.past) (set_at_here seats v.number w)
 
   past_else : (s : ℕ) → s ≢ v.number → (set_at seats v.number w s).past ≡ (seats s).past
-  past_else s ne = ap (λ (u : View). u.past) (set_at_else seats v.number w s ne)
+  past_else s ne = ap (λ (u : Knowledge). u.past) (set_at_else seats v.number w s ne)
 
   -- before and after, the seat has seen a part of the history, and so has each other seat
   saw : BeginsWith h v.past.seen
-  saw = subst (λ (u : View). BeginsWith h u.past.seen) is (k.history.seats v.number).seen
+  saw = subst (λ (u : Knowledge). BeginsWith h u.past.seen) is (k.history.seats v.number).seen
 
   sees : BeginsWith longer w.past.seen
   sees = subst (λ (p : Past). BeginsWith longer p.seen) past_here (l.history.seats v.number).seen
@@ -46,7 +46,7 @@ module _ {starts : State → Type 0} {allows : List ℕ → State → Writes →
       ⊎_elim
       (λ none. (longer, ap (λ (x : List Entry). x ++ longer) (sym none)))
       (λ all. dite (ℕ_discrete all.0 v.number)
-      (λ e. subst (BeginsWith longer) (sym (ap (λ (u : View). u.past.seen) (ap seats e ∙ is)) ∙ all.1)
+      (λ e. subst (BeginsWith longer) (sym (ap (λ (u : Knowledge). u.past.seen) (ap seats e ∙ is)) ∙ all.1)
       (begins_by longer w.past.seen v.past.seen sees more))
       (λ ne. subst (BeginsWith longer) all.1 (others_see all.0 ne)))
       k.history.whole
@@ -84,7 +84,7 @@ module _ {starts : State → Type 0} {allows : List ℕ → State → Writes →
         (λ none. whole_front front h (subst (BeginsWith front) (sym none) (front, refl)) (sym as_long))
         (λ all. dite (ℕ_discrete all.0 v.number)
         (λ same.
-        let old : v.past.seen ≡ h = sym (ap (λ (u : View). u.past.seen) (ap seats same ∙ is)) ∙ all.1 in
+        let old : v.past.seen ≡ h = sym (ap (λ (u : Knowledge). u.past.seen) (ap seats same ∙ is)) ∙ all.1 in
         whole_front front h (subst (BeginsWith front) old whole.0) (sym as_long))
         (λ ne.
         let a = subst (BeginsWith longer) all.1 (others_see all.0 ne) in
@@ -106,19 +106,19 @@ module _ {starts : State → Type 0} {allows : List ℕ → State → Writes →
 
 -- what a seat has seen begins the history
 pub sees_now : {starts : State → Type 0} {allows : List ℕ → State → Writes → Type 0} {c : Config} {start : State} {m : Memory}
-    {h : List Entry} (seats : ℕ → View) (v w : View)
+    {h : List Entry} (seats : ℕ → Knowledge) (v w : Knowledge)
     → Facts starts allows c start m h (parts_of (set_at seats v.number w)) → BeginsWith h w.past.seen
-sees_now {h = h} seats v w l = subst (λ (u : View). BeginsWith h u.past.seen) (set_at_here seats v.number w) (l.history.seats v.number).seen
+sees_now {h = h} seats v w l = subst (λ (u : Knowledge). BeginsWith h u.past.seen) (set_at_here seats v.number w) (l.history.seats v.number).seen
 
 -- a load of CLOCK that has seen the whole history has seen this one
 pub whole_is : {starts : State → Type 0} {allows : List ℕ → State → Writes → Type 0} {c : Config} {start : State} {m : Memory}
-    {h : List Entry} (seats : ℕ → View) (v w : View) (front : List Entry)
+    {h : List Entry} (seats : ℕ → Knowledge) (v w : Knowledge) (front : List Entry)
     → Facts starts allows c start m h (parts_of (set_at seats v.number w)) → IsWhole c v (m Clock) front → w.past.seen ≡ front → front ≡ h
 whole_is {c = c} {m = m} {h = h} seats v w front l whole seen =
     let sees : BeginsWith h front = subst (BeginsWith h) seen (sees_now seats v w l) in
     sym (whole_front h front sees (let a = l.history.long in let b = whole.1 in omega arith))
 
-module _ (c : Config) (v : View) (h seen : List Entry) (front : BeginsWith h seen) (more : BeginsWith seen v.past.seen) (found : ℕ)
+module _ (c : Config) (v : Knowledge) (h seen : List Entry) (front : BeginsWith h seen) (more : BeginsWith seen v.past.seen) (found : ℕ)
     (least : (length seen ≡ length v.past.seen) ⊎ (c.base + length seen ≡ found)) where
   -- what was seen goes up to a time that was found
   pub seen_to_is : found ≤ c.base + length seen → seen ≡ seen_to c v found h

@@ -1,11 +1,11 @@
 -- Each kind of step on one word keeps all facts: the last lemma of its folder under `kinds`, with the very view and history that the move has.
 use Rattle.std.proofs.Common.{ℕ, ◌+◌, List, sym, refl, ap, ◌∙◌, subst}
-use Rattle.mv_core.proofs.Terms.{Change, Rest, State, Writes, Config, Clock, Stamp, Super, clock_time_of, link_of, link_seat_of, index_of, View}
+use Rattle.mv_core.proofs.Terms.{Change, Rest, State, Writes, Config, Clock, Stamp, Super, clock_time_of, link_of, link_seat_of, index_of, Knowledge}
 use Rattle.mv_core.specs.EnterSteps.{IsWhole}
 use Rattle.mv_core.specs.WalkSteps.{stamp_loaded}
 use Rattle.mv_core.specs.NameSteps.{commit_of, commit_word, commit_named, commit_lost, rest_word, rest_named, rest_lost}
 use Rattle.mv_core.specs.ReclaimSteps.{super_loaded}
-use Rattle.mv_core.specs.Moves.{Kind, load_low, store_mark, load_time, clear_mark, load_named, load_check, stamp, load_head, load_first, load_stamp}
+use Rattle.mv_core.specs.Moves.{MoveKind, load_low, store_mark, load_time, clear_mark, load_named, load_check, stamp, load_head, load_first, load_stamp}
 use Rattle.mv_core.specs.Moves.{load_prev, load_data, load_master, store_built, store_data, load_death, lock_head, unlock_head, name_commit, store_super}
 use Rattle.mv_core.specs.Moves.{name_rest, load_scan, load_mark, load_grace, raise_grace, load_super, store_master, cut_head, store_free, load_joined, act}
 use Rattle.mv_core.proofs.kinds.entering.LoadLow.{low_loads}
@@ -39,11 +39,11 @@ use Rattle.mv_core.proofs.kinds.joining.LoadJoined.{joined_loads}
 use Rattle.mv_core.proofs.moves.Grown.{stays, was, longer_is, whole_is, sees_now, seen_to_is, seen_at_is}
 use Rattle.mv_core.proofs.moves.Kept.{Keeps, load_keeps, clock_keeps, store_keeps, raise_keeps, swap_keeps}
 
-module _ (starts : State → Type 0) (allows : List ℕ → State → Writes → Type 0) (c : Config) (start : State) (v : View) where
-  abbrev Kept : Kind → Type 0
+module _ (starts : State → Type 0) (allows : List ℕ → State → Writes → Type 0) (c : Config) (start : State) (v : Knowledge) where
+  abbrev Kept : MoveKind → Type 0
   Kept k = (act allows c v k).may → Keeps starts allows c start v (act allows c v k)
 
-  pub kept : (k : Kind) → Kept k
+  pub kept : (k : MoveKind) → Kept k
   kept load_low may = load_keeps starts allows c start v _ _ _ _ (low_loads starts allows c start v may) (λ m h seats w k t. t.0.0)
   kept (store_mark low) may = store_keeps starts allows c start v _ _ _ _ _ (mark_stores starts allows c start v low (1 + low) refl may) (λ w t. t.0) refl
   kept load_time may = clock_keeps starts allows c start v _ _ _ (time_loads starts allows c start v may) (λ n w t. t.0) (λ n h. refl)
@@ -52,7 +52,7 @@ module _ (starts : State → Type 0) (allows : List ℕ → State → Writes →
   kept load_check may = clock_keeps starts allows c start v _ _ _ (check_loads starts allows c start v) (λ n w t. t.0.0) (λ n h. refl)
   kept (stamp word unset) may =
       swap_keeps starts allows c start v _ _ _ _ _ _ _ _ _ (stamp_swaps starts allows c start v word unset may (clock_time_of word) refl)
-      (λ m h longer seats w k is hit l t. let e = t.0 in (e, stays seats v w is k l (ap (λ (u : View). u.past) e)))
+      (λ m h longer seats w k is hit l t. let e = t.0 in (e, stays seats v w is k l (ap (λ (u : Knowledge). u.past) e)))
       (λ m h seats w miss l t. t.0)
   kept (load_head object inside) may =
       load_keeps starts allows c start v _ _ _ _ (head_loads starts allows c start v object inside may) (λ m h seats w k t. t.0.0)
@@ -76,7 +76,7 @@ module _ (starts : State → Type 0) (allows : List ℕ → State → Writes →
   kept (lock_head object previous position words build inside) may =
       swap_keeps starts allows c start v _ _ _ _ _ _ _ _ _
       (lock_swaps starts allows c start v c.write_max object previous position words build inside may (link_of v.number position) refl)
-      (λ m h longer seats w k is hit l t. let e = t.0.0 refl in (e, stays seats v w is k l (ap (λ (u : View). u.past) e)))
+      (λ m h longer seats w k is hit l t. let e = t.0.0 refl in (e, stays seats v w is k l (ap (λ (u : Knowledge). u.past) e)))
       (λ m h seats w miss l t. t.0.1 miss)
   kept (unlock_head object previous slot version inside) may =
       store_keeps starts allows c start v _ _ _ _ _ (unlock_stores starts allows c start v object previous slot version inside may) (λ w t. t.0) refl
@@ -85,13 +85,13 @@ module _ (starts : State → Type 0) (allows : List ℕ → State → Writes →
       (λ m h longer seats w k is hit l t.
       let r = t.0.0.0 refl in
       let whole : IsWhole c v (m Clock) r.0 = subst (λ (n : ℕ). IsWhole c v n r.0) (sym hit) r.1 in
-      let seen = ap (λ (u : View). u.past.seen) r.2 in (
+      let seen = ap (λ (u : Knowledge). u.past.seen) r.2 in (
         r.2 ∙ ap (commit_named c v inside tag word) (was seats v w is k l r.0 (Change (commit_of c v inside tag)) whole seen),
         longer_is seats v w is k l r.0 (Change (commit_of c v inside tag)) whole seen,
       ))
       (λ m h seats w miss l t.
       let r = t.0.0.1 miss in
-      r.2 ∙ ap (commit_lost c v (m Clock)) (whole_is seats v w r.0 l r.1 (ap (λ (u : View). u.past.seen) r.2)))
+      r.2 ∙ ap (commit_lost c v (m Clock)) (whole_is seats v w r.0 l r.1 (ap (λ (u : Knowledge). u.past.seen) r.2)))
   kept (store_super link time slot version note) may =
       store_keeps starts allows c start v _ _ _ _ _ (super_stores starts allows c start v link time slot version note may) (λ w t. t.0) refl
   kept (name_rest word) may =
@@ -99,11 +99,11 @@ module _ (starts : State → Type 0) (allows : List ℕ → State → Writes →
       (λ m h longer seats w k is hit l t.
       let r = t.0.0.0 refl in
       let whole : IsWhole c v (m Clock) r.0 = subst (λ (n : ℕ). IsWhole c v n r.0) (sym hit) r.1 in
-      let seen = ap (λ (u : View). u.past.seen) r.2 in
+      let seen = ap (λ (u : Knowledge). u.past.seen) r.2 in
       (r.2 ∙ ap (rest_named c v word) (was seats v w is k l r.0 (Rest v.number) whole seen), longer_is seats v w is k l r.0 (Rest v.number) whole seen))
       (λ m h seats w miss l t.
       let r = t.0.0.1 miss in
-      r.2 ∙ ap (rest_lost c v (m Clock)) (whole_is seats v w r.0 l r.1 (ap (λ (u : View). u.past.seen) r.2)))
+      r.2 ∙ ap (rest_lost c v (m Clock)) (whole_is seats v w r.0 l r.1 (ap (λ (u : Knowledge). u.past.seen) r.2)))
   kept load_scan may = clock_keeps starts allows c start v _ _ _ (scan_loads starts allows c start v may) (λ n w t. t.0.0) (λ n h. refl)
   kept (load_mark seat scan) may = load_keeps starts allows c start v _ _ _ _ (mark_loads starts allows c start v seat scan may) (λ m h seats w k t. t.0)
   kept load_grace may = load_keeps starts allows c start v _ _ _ _ (grace_loads starts allows c start v) (λ m h seats w k t. t.0)
@@ -119,7 +119,7 @@ module _ (starts : State → Type 0) (allows : List ℕ → State → Writes →
       (master_stores starts allows c start v object word value position version note inside may) (λ w t. t.0) refl
   kept (cut_head object position version note) may =
       swap_keeps starts allows c start v _ _ _ _ _ _ _ _ _ (cut_swaps starts allows c start v object position version note may (link_of v.number position) refl)
-      (λ m h longer seats w k is hit l t. let e = t.0.0.0 refl in (e, stays seats v w is k l (ap (λ (u : View). u.past) e)))
+      (λ m h longer seats w k is hit l t. let e = t.0.0.0 refl in (e, stays seats v w is k l (ap (λ (u : Knowledge). u.past) e)))
       (λ m h seats w miss l t. t.0.0.1 miss)
   kept (store_free position) may = store_keeps starts allows c start v _ _ _ _ _ (free_stores starts allows c start v position may) (λ w t. t.0) refl
   kept load_joined may = clock_keeps starts allows c start v _ _ _ (joined_loads starts allows c start v) (λ n w t. (t.0.0.0, t.0.0.1, t.0.0.3)) (λ n h. refl)

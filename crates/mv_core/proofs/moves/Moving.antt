@@ -1,8 +1,8 @@
 -- Each move of a state of the rule leads to one, a new domain is in one, and so is each state that is reached.
 use Rattle.std.proofs.Common.{◌≡◌, ◌≢◌, ℕ, ◌+◌, ◌<◌, ◌≤◌, ◌^◌, Bool, true, false, cond, List, [], ◌∷◌, sym}
 use Rattle.std.proofs.Common.{refl, ap, ◌∙◌, subst, arith, ne_eqb, append-nil, Option, Some, None}
-use Rattle.mv_core.proofs.Terms.{Entry, State, Writes, Config, Place, Clock, Grace, Mark, Head, Master, First, Stamp, Prev, Super, Data, Memory, same}
-use Rattle.mv_core.proofs.Terms.{some-ne-none, View, new_view, parts_of, set_at}
+use Rattle.mv_core.proofs.Terms.{Entry, State, Writes, Config, SharedWord, Clock, Grace, Mark, Head, Master, First, Stamp, Prev, Super, Data, Memory, same}
+use Rattle.mv_core.proofs.Terms.{some-ne-none, Knowledge, new_view, parts_of, set_at}
 use Rattle.mv_core.specs.HistoryFacts.{BeginsWith}
 use Rattle.mv_core.specs.SeatSteps.{made_one, newly_made, MayJoin, joined}
 use Rattle.mv_core.specs.Start.{opening_memory}
@@ -18,7 +18,7 @@ use Rattle.mv_core.proofs.moves.Kinds.{kept}
 use Rattle.mv_core.proofs.moves.Notes.{seat_is, notes_after, notes_joined}
 
 -- a word is written, if any
-small_after : (m : Memory) (q : Place) (o : Option ℕ) → ((p : Place) → m p < 2 ^ 64) → IsStorable o → (p : Place) → memory_after m q o p < 2 ^ 64
+small_after : (m : Memory) (q : SharedWord) (o : Option ℕ) → ((p : SharedWord) → m p < 2 ^ 64) → IsStorable o → (p : SharedWord) → memory_after m q o p < 2 ^ 64
 small_after m q None small fits p = small p
 small_after m q (Some n) small fits p = go (same q p)
   where
@@ -32,7 +32,7 @@ begins_after h None = ([], sym (append-nil h))
 begins_after h (Some e) = (e ∷ [], refl)
 
 -- the seats after one of those made has a new view, of which it keeps what it is
-seats_after : (c : Config) (start : State) (seats : ℕ → View) → SeatsHold c start seats → (n : ℕ) → n < (seats 0).made → (w : View)
+seats_after : (c : Config) (start : State) (seats : ℕ → Knowledge) → SeatsHold c start seats → (n : ℕ) → n < (seats 0).made → (w : Knowledge)
     → w.number ≡ n → w.start ≡ start → w.base ≡ c.base → w.made ≡ (seats n).made
     → SeatsHold c start (set_at seats n w)
 seats_after c start seats k n there w number begins from made =
@@ -47,7 +47,7 @@ seats_after c start seats k n there w number begins from made =
 
 module _ (starts : State → Type 0) (allows : List ℕ → State → Writes → Type 0) (c : Config) (start : State) where
   module _ (s : Moment) (k : Holds starts allows c start s) (n : ℕ) (active : IsSeat s n) where
-    abbrev v : View
+    abbrev v : Knowledge
     v = s.seats n
 
     own : (v.number ≡ n) × (v.start ≡ start) × (v.base ≡ c.base)
@@ -81,7 +81,7 @@ module _ (starts : State → Type 0) (allows : List ℕ → State → Writes →
         let same : set_at (set_at s.seats n w) v.made x ≡ set_at s.seats n w =
         set_at_same (set_at s.seats n w) v.made x (set_at_else s.seats n w v.made ne ∙ was) in
         let first_is : (set_at s.seats n w 0).made ≡ v.made + 1 =
-        ap (λ (i : ℕ). (set_at s.seats n w i).made) (sym first) ∙ ap (λ (u : View). u.made) (set_at_here s.seats n w) in
+        ap (λ (i : ℕ). (set_at s.seats n w i).made) (sym first) ∙ ap (λ (u : Knowledge). u.made) (set_at_here s.seats n w) in
         let facts = unread starts allows c start s.memory s.history s.seats n v w refl
         (refl, refl, refl, refl, refl, refl, refl, refl, refl, refl, refl) k.facts in
         let seats : SeatsHold c start (set_at s.seats n w) = record {
@@ -93,7 +93,7 @@ module _ (starts : State → Type 0) (allows : List ℕ → State → Writes →
           words = k.words;
           seats = subst (SeatsHold c start) (sym same) seats;
           notes = subst (NotesHold c) (sym same) (notes_after c s.seats k.notes n active.unspent w refl refl);
-          facts = subst (λ (f : ℕ → View). Facts starts allows c start s.memory s.history (parts_of f)) (sym same) facts;
+          facts = subst (λ (f : ℕ → Knowledge). Facts starts allows c start s.memory s.history (parts_of f)) (sym same) facts;
         }
 
     -- after the joining of another seat, whose view is as it was but spent
@@ -111,7 +111,7 @@ module _ (starts : State → Type 0) (allows : List ℕ → State → Writes →
         record {
           words = k.words;
           seats = seats_after c start (set_at s.seats n u) seats o other_made (record w { spent = true }) own_other.0 own_other.1
-              own_other.2 (ap (λ (y : View). y.made) (sym there));
+              own_other.2 (ap (λ (y : Knowledge). y.made) (sym there));
           notes = notes_joined c s.seats k.notes n o active.unspent other.unspent may
               (let a = other.made in let b = k.seats.made in omega arith) own_other.0 ne;
           facts = unread starts allows c start s.memory s.history (set_at s.seats n u) o w (record w { spent = true }) there
@@ -150,7 +150,7 @@ opening_holds starts allows c start k = record {
   facts = starting_facts starts allows c start k.checked k.sized k.six k.lawful;
 }
   where
-    small : (p : Place) → opening_memory c start p < 2 ^ 64
+    small : (p : SharedWord) → opening_memory c start p < 2 ^ 64
     small Clock = let b = k.checked.base in omega arith
     small Grace = let b = k.checked.base in omega arith
     small (Mark n) = omega arith

@@ -1,9 +1,10 @@
 -- Each object has a chain: its latest writes under perhaps one held version, ending grounded or loose.
 use Rattle.std.proofs.Common.{◌≡◌, ◌⊎◌, ℕ, zero, suc, ◌+◌, ◌-◌, ◌≤◌, false, List, [], ◌∷◌, length, Option, Some}
 use Rattle.std.proofs.Common.{None, sym, refl, ap, ◌∙◌, subst, inl, inr, ⊎_elim, arith}
-use Rattle.mv_core.proofs.Terms.{State, Writes, Entry, Config, Head, Master, Prev, Memory, Version, Status, Held, Committed, CommitNote, View, Lives}
+use Rattle.mv_core.proofs.Terms.{State, Writes, Entry, Config, Head, Master, Prev, Memory, Version, WriteSetStatus, Held, Committed, CommitNote, Knowledge}
+use Rattle.mv_core.proofs.Terms.{Lives}
 use Rattle.mv_core.proofs.Terms.{Names, IsVersion, IsTop, latest, latest_at, words_of, AreThe, NotAboveAny, ViewParts, parts_of}
-use Rattle.mv_core.proofs.FactTerms.{Facts, Placed, IsLinked, HangFrom, lowest, time_before, last_link, AreWritesFrom, AreLatest, IsChain, IsLoose}
+use Rattle.mv_core.proofs.FactTerms.{Facts, SlotVersion, IsLinked, HangFrom, lowest, time_before, last_link, AreWritesFrom, AreLatest, IsChain, IsLoose}
 use Rattle.mv_core.specs.Chains.{IsGrounded}
 use Rattle.mv_core.specs.Points.{ChainsHold}
 use Rattle.mv_core.proofs.history.Latest.{latest_at-end}
@@ -15,13 +16,14 @@ use Rattle.mv_core.proofs.logs.BelowCommit.{next_after}
 use Rattle.mv_core.proofs.points.ChainLengths.{chain_short}
 use Rattle.mv_core.proofs.points.Reaching.{names_of, prev_is, prev_word}
 
-module _ {starts : State → Type 0} {allows : List ℕ → State → Writes → Type 0} {c : Config} {start : State} {m : Memory} {h : List Entry} (seats : ℕ → View)
+module _ {starts : State → Type 0} {allows : List ℕ → State → Writes → Type 0} {c : Config} {start : State} {m : Memory} {h : List Entry}
+    (seats : ℕ → Knowledge)
     (k : Facts starts allows c start m h (parts_of seats)) where
   abbrev f : ViewParts
   f = parts_of seats
 
   -- how a list of versions of the object ends that begins with this link, where `above` is the time of the lowest one before
-  abbrev EndsWell : ℕ → Option ℕ → ℕ → List Placed → Type 0
+  abbrev EndsWell : ℕ → Option ℕ → ℕ → List SlotVersion → Type 0
   EndsWell o above link ps =
       ((last_link m f.ring link ps ≡ 0)
       × (AreThe (λ i. m (Master o i)) (words_of c start h (time_before c h (lowest above ps)) o)
@@ -30,19 +32,19 @@ module _ {starts : State → Type 0} {allows : List ℕ → State → Writes →
 
   -- what hangs from a link: the object's writes from this time down
   record Hangs (o time link : ℕ) (above : Option ℕ) : Type 0 where
-    versions : List Placed
+    versions : List SlotVersion
     hang : HangFrom m f.ring link versions
     writes : AreWritesFrom c h o time versions
     ends : EndsWell o above link versions
 
-  none_linked : (link : ℕ) → ((x : Version) (st : Status) → ¬ (Names f.ring link x st)) → (p : Placed) → ¬ (IsLinked m f.ring link p)
+  none_linked : (link : ℕ) → ((x : Version) (st : WriteSetStatus) → ¬ (Names f.ring link x st)) → (p : SlotVersion) → ¬ (IsLinked m f.ring link p)
   none_linked link none p l = none p.version p.status (names_of seats k link p l)
 
   -- a version under which something hangs
   on_top : (o time link : ℕ) (above : Option ℕ) (y : Version) (note : CommitNote) → (v : IsVersion f.ring o time link y note) → note.cut ≡ false
       → Hangs y.object (latest_at c.base h y.object (note.time - 1)) (m (Prev v.names.seat v.names.slot)) (Some note.time) → Hangs o time link above
   on_top o time link above y note v uncut b =
-      let p : Placed = record { seat = v.names.seat; slot = v.names.slot; version = y; status = Committed note } in record {
+      let p : SlotVersion = record { seat = v.names.seat; slot = v.names.slot; version = y; status = Committed note } in record {
         versions = p ∷ b.versions;
         hang = ((v.names.is, v.names.lives), b.hang);
         writes = (
@@ -64,11 +66,11 @@ module _ {starts : State → Type 0} {allows : List ℕ → State → Writes →
       → Hangs x.object (latest_at c.base h x.object (note.time - 1)) (m (Prev s i)) (Some note.time)
   below zero s i x note lives le = let w = (commit_within c h f.ring k.write_sets s i x note lives).0 in absurd (omega arith)
   below (suc n) s i x note lives le =
-      let p : Placed = record { seat = s; slot = i; version = x; status = Committed note } in
+      let p : SlotVersion = record { seat = s; slot = i; version = x; status = Committed note } in
       let word : m (Prev s i) ≡ x.previous = prev_word seats k p lives in
       let before : ℕ = latest_at c.base h x.object (note.time - 1) in
       let links = k.commit_link s i x note lives in
-      let foot : ((y : Version) (st : Status) → ¬ (Names f.ring x.previous y st)) → Hangs x.object before (m (Prev s i)) (Some note.time) =
+      let foot : ((y : Version) (st : WriteSetStatus) → ¬ (Names f.ring x.previous y st)) → Hangs x.object before (m (Prev s i)) (Some note.time) =
       λ none. record {
         versions = [];
         hang = subst (λ (l : ℕ). HangFrom m f.ring l []) (sym word) (none_linked x.previous none);
@@ -109,13 +111,13 @@ module _ {starts : State → Type 0} {allows : List ℕ → State → Writes →
       top
 
   -- the chain of an object, with its end
-  pub chain_of : (o : ℕ) → (ps : List Placed) × IsChain m f.ring o ps × AreLatest c h o ps
+  pub chain_of : (o : ℕ) → (ps : List SlotVersion) × IsChain m f.ring o ps × AreLatest c h o ps
       × (IsGrounded m f.ring c start h f.time o ps ⊎ IsLoose m f.ring c start h f.time ps)
   chain_of o =
       ⊎_elim
       (λ a.
       let x : Version = a.2 in
-      let p : Placed = record { seat = a.0; slot = a.1; version = x; status = Held } in
+      let p : SlotVersion = record { seat = a.0; slot = a.1; version = x; status = Held } in
       let is = ap (λ q. m (Head q)) (sym a.4) ∙ k.head_is_top.held a.0 a.1 x a.3 in
       let word = prev_is seats k (m (Head o)) p (is, a.3) in
       let b = from_top o (m (Prev a.0 a.1))
@@ -128,7 +130,7 @@ module _ {starts : State → Type 0} {allows : List ℕ → State → Writes →
       (find_holder c h f.ring k.checked k.history.in_time k.positions o)
 
   -- from one link hang the same versions always
-  pub hang_once : (link : ℕ) (ps qs : List Placed) → HangFrom m f.ring link ps → HangFrom m f.ring link qs → ps ≡ qs
+  pub hang_once : (link : ℕ) (ps qs : List SlotVersion) → HangFrom m f.ring link ps → HangFrom m f.ring link qs → ps ≡ qs
   hang_once link [] [] a b = refl
   hang_once link [] (q ∷ qs) a b = absurd (a q b.0)
   hang_once link (p ∷ ps) [] a b = absurd (b p a.0)

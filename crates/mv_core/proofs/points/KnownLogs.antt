@@ -3,11 +3,11 @@ use Rattle.std.proofs.Common.{◌≡◌, ◌≢◌, ℕ, zero, suc, ◌+◌, ◌
 use Rattle.std.proofs.Common.{List, [], ◌∷◌, ◌++◌, length, take, drop, sym, ap, ◌∙◌, subst, arith, append-nil, eq-eqb, Some, None}
 use Rattle.std.specs.Prelude.{slice_get}
 use Rattle.mv_core.proofs.Terms.{dite, dec_le, Entry, Rest, Change, Step, State, Writes, commits_of, Config, First, Prev, Data, Memory, Ring, Live}
-use Rattle.mv_core.proofs.Terms.{Version, Status, Held, Committed, CommitNote, View, Past, Note, Outside, slot_at, HoldsNothing, Lives}
+use Rattle.mv_core.proofs.Terms.{Version, WriteSetStatus, Held, Committed, CommitNote, Knowledge, Past, JoinedSeat, Outside, slot_at, HoldsNothing, Lives}
 use Rattle.mv_core.proofs.Terms.{latest_at, IsEntry, IsNextIn, parts_of, section_of, time_of}
 use Rattle.mv_history.specs.declared.Commit.{Commit}
 use Rattle.mv_history.proofs.Histories.{split_at}
-use Rattle.mv_core.specs.declared.view.Walk.TheVariants.{Nowhere}
+use Rattle.mv_core.specs.declared.view.WalkStage.TheVariants.{Nowhere}
 use Rattle.mv_core.proofs.FactTerms.{KnowsPast, HoldsSlot, death_in, DeathSeen, KnownCommit, Facts}
 use Rattle.mv_core.proofs.history.Fronts.{latest_at-more}
 use Rattle.mv_core.proofs.history.Latest.{latest_at-own}
@@ -52,13 +52,14 @@ own_seen base h seat p knows t d is by =
     absurd (some_commit seat rest (i - length p.seen) d at by (none_more h seat p knows h ([], sym (append-nil h)) knows.seen)))
 
 -- what is known of a commit reads neither the trail, nor which seats were made or joined
-pub commit_still : (v : View) (x : Version) (note : CommitNote) (trail : List Step) (made : ℕ) (notes : List Note) → KnownCommit v x note
+pub commit_still : (v : Knowledge) (x : Version) (note : CommitNote) (trail : List Step) (made : ℕ) (notes : List JoinedSeat) → KnownCommit v x note
     → KnownCommit (record v { trail = trail; made = made; notes = notes }) x note
 commit_still v x note trail made notes k =
     record { in_range = k.in_range; wide = k.wide; after = k.after; seen = k.seen; written = k.written; superseded = k.superseded }
 
-module _ {starts : State → Type 0} {allows : List ℕ → State → Writes → Type 0} {c : Config} {start : State} {m : Memory} {h : List Entry} (seats : ℕ → View)
-    (w : View) (k : Facts starts allows c start m h (parts_of seats)) (is : seats w.number ≡ w) (begins : w.start ≡ start) (from : w.base ≡ c.base) where
+module _ {starts : State → Type 0} {allows : List ℕ → State → Writes → Type 0} {c : Config} {start : State} {m : Memory} {h : List Entry}
+    (seats : ℕ → Knowledge)
+    (w : Knowledge) (k : Facts starts allows c start m h (parts_of seats)) (is : seats w.number ≡ w) (begins : w.start ≡ start) (from : w.base ≡ c.base) where
   abbrev n : ℕ
   n = w.number
 
@@ -68,14 +69,14 @@ module _ {starts : State → Type 0} {allows : List ℕ → State → Writes →
   abbrev seen : List Entry
   seen = w.past.seen
 
-  lives_in : (j : ℕ) (x : Version) (st : Status) → slot_at w.ring j ≡ Live x st → Lives rings n j x st
-  lives_in j x st e = ap (λ (u : View). slot_at u.ring j) is ∙ e
+  lives_in : (j : ℕ) (x : Version) (st : WriteSetStatus) → slot_at w.ring j ≡ Live x st → Lives rings n j x st
+  lives_in j x st e = ap (λ (u : Knowledge). slot_at u.ring j) is ∙ e
 
   knows : KnowsPast h n w.past
-  knows = subst (λ (u : View). KnowsPast h n u.past) is (k.history.seats n)
+  knows = subst (λ (u : Knowledge). KnowsPast h n u.past) is (k.history.seats n)
 
-  death_seen : (j : ℕ) (x : Version) (st : Status) → slot_at w.ring j ≡ Live x st → DeathSeen (c.base + length seen) st
-  death_seen j x st e = subst (λ (u : View). DeathSeen (c.base + length u.past.seen) st) is (k.deaths_seen n j x st (lives_in j x st e))
+  death_seen : (j : ℕ) (x : Version) (st : WriteSetStatus) → slot_at w.ring j ≡ Live x st → DeathSeen (c.base + length seen) st
+  death_seen j x st e = subst (λ (u : Knowledge). DeathSeen (c.base + length u.past.seen) st) is (k.deaths_seen n j x st (lives_in j x st e))
 
   -- the death of a version that isn't cut is the next write that was seen
   next_seen : (j : ℕ) (x : Version) (note : CommitNote) → slot_at w.ring j ≡ Live x (Committed note) → (dead : ℕ) → note.cut ≡ false → note.dead ≡ Some dead
@@ -109,20 +110,21 @@ module _ {starts : State → Type 0} {allows : List ℕ → State → Writes →
         superseded = λ dead uncut is_dead. subst (λ (b : ℕ). IsNextIn b seen x.object note.time dead) (sym from) (next_seen j x note e dead uncut is_dead);
       }
 
-  pub known_death : (j : ℕ) (x : Version) (st : Status) (dead : ℕ) → slot_at w.ring j ≡ Live x st → death_in st ≡ Some dead → dead ≤ w.base + length seen + 1
+  pub known_death : (j : ℕ) (x : Version) (st : WriteSetStatus) (dead : ℕ) → slot_at w.ring j ≡ Live x st → death_in st ≡ Some dead
+      → dead ≤ w.base + length seen + 1
   known_death j x st dead e is_dead = let late = (death_seen j x st e dead is_dead).0 in omega arith
 
   -- a seat outside a section holds nothing
   pub known_idle : w.phase ≡ Outside → HoldsNothing w.ring
   known_idle out j x e =
       let in_section = k.open_section.held n j x (lives_in j x Held e) in
-      let none : section_of (seats n).phase ≡ None = ap (λ (u : View). section_of u.phase) is ∙ ap section_of out in
+      let none : section_of (seats n).phase ≡ None = ap (λ (u : Knowledge). section_of u.phase) is ∙ ap section_of out in
       let clash : None ≡ Some in_section.0 = sym none ∙ in_section.1 in
       absurd (cc)
 
   -- and walks nowhere and writes nothing back
   pub known_still : w.phase ≡ Outside → (w.walk ≡ Nowhere) × (w.back ≡ None)
   known_still out =
-      let none : time_of (seats n).phase ≡ None = ap (λ (u : View). time_of u.phase) is ∙ ap time_of out in
+      let none : time_of (seats n).phase ≡ None = ap (λ (u : Knowledge). time_of u.phase) is ∙ ap time_of out in
       let none_there = k.phases_and_scan.outside n none in
-      (ap (λ (u : View). u.walk) (sym is) ∙ none_there.0, ap (λ (u : View). u.back) (sym is) ∙ none_there.1)
+      (ap (λ (u : Knowledge). u.walk) (sym is) ∙ none_there.0, ap (λ (u : Knowledge). u.back) (sym is) ∙ none_there.1)

@@ -2,7 +2,7 @@
 use Rattle.std.proofs.Common.{◌≡◌, ℕ, ◌+◌, ◌<◌, ◌≤◌, Bool, List, length, take, sym, ap, ◌∙◌, subst, arith, Some}
 use Rattle.std.proofs.lemmas.List.{take_all}
 use Rattle.std.proofs.Math.Seq.{take-append-le}
-use Rattle.mv_core.proofs.Terms.{Entry, State, Writes, Config, Head, First, Prev, Data, Memory, Ring, Live, Version, Held, View, Inside, Section}
+use Rattle.mv_core.proofs.Terms.{Entry, State, Writes, Config, Head, First, Prev, Data, Memory, Ring, Live, Version, Held, Knowledge, Inside, OwnSection}
 use Rattle.mv_core.proofs.Terms.{slot_at, Lives, Names, writes_to, is_by, last_that, time_in, parts_of}
 use Rattle.mv_core.proofs.FactTerms.{BeginsWith, HoldsSlot, KnownHeld, KnownSection, Facts}
 use Rattle.mv_core.proofs.history.Latest.{last_that-take-mono, last_that-take-all}
@@ -20,9 +20,10 @@ last_that-front test h seen front =
     let same : last_that test (take (length seen) h) ≡ last_that test seen = ap (last_that test) cut in
     omega arith
 
-module _ {starts : State → Type 0} {allows : List ℕ → State → Writes → Type 0} {c : Config} {start : State} {m : Memory} {h : List Entry} (seats : ℕ → View)
-    (w : View) (k : Facts starts allows c start m h (parts_of seats)) (is : seats w.number ≡ w) (begins : w.start ≡ start) (from : w.base ≡ c.base)
-    (inside : Section) (phase : w.phase ≡ Inside inside) where
+module _ {starts : State → Type 0} {allows : List ℕ → State → Writes → Type 0} {c : Config} {start : State} {m : Memory} {h : List Entry}
+    (seats : ℕ → Knowledge)
+    (w : Knowledge) (k : Facts starts allows c start m h (parts_of seats)) (is : seats w.number ≡ w) (begins : w.start ≡ start) (from : w.base ≡ c.base)
+    (inside : OwnSection) (phase : w.phase ≡ Inside inside) where
   abbrev n : ℕ
   n = w.number
 
@@ -30,10 +31,10 @@ module _ {starts : State → Type 0} {allows : List ℕ → State → Writes →
   rings s = (seats s).ring
 
   front : BeginsWith h w.past.seen
-  front = subst (λ (u : View). BeginsWith h u.past.seen) is (k.history.seats n).seen
+  front = subst (λ (u : Knowledge). BeginsWith h u.past.seen) is (k.history.seats n).seen
 
   lives_in : (j : ℕ) (x : Version) → slot_at w.ring j ≡ Live x Held → Lives rings n j x Held
-  lives_in j x e = ap (λ (u : View). slot_at u.ring j) is ∙ e
+  lives_in j x e = ap (λ (u : Knowledge). slot_at u.ring j) is ∙ e
 
   held_is : (j : ℕ) (x : Version) → slot_at w.ring j ≡ Live x Held → KnownHeld w inside x
   held_is j x e =
@@ -60,7 +61,7 @@ module _ {starts : State → Type 0} {allows : List ℕ → State → Writes →
 
   pub known_section : KnownSection w inside
   known_section = record {
-    seen = (let seen = subst (λ (u : View). time_in inside ≤ c.base + length u.past.seen) is
+    seen = (let seen = subst (λ (u : Knowledge). time_in inside ≤ c.base + length u.past.seen) is
         (k.phases_and_scan.seen n (time_in inside) (time_is seats w inside k is phase)) in omega arith);
     own = λ unnamed.
         let late = k.open_section.own n inside (section_is seats w inside k is phase) unnamed in

@@ -1,11 +1,11 @@
 -- Where walks stand and write-backs are under way: under what is later in the chain.
 use Rattle.std.proofs.Common.{◌≡◌, ◌⊎◌, ℕ, zero, suc, ◌+◌, ◌-◌, ◌<◌, ◌≤◌, false, List, [], ◌∷◌, ◌++◌}
 use Rattle.std.proofs.Common.{Option, Some, None, sym, refl, ap, ◌∙◌, subst, inl, inr, ⊎_elim, arith}
-use Rattle.mv_core.proofs.Terms.{dite, dec_lt, State, Writes, maker_of, Entry, Config, Head, Master, Memory, link_of, Version, Status, Held, Aborted}
-use Rattle.mv_core.proofs.Terms.{Committed, CommitNote, View, WriteBack, Stand, Lives, Names, IsVersion, IsTop, NoneUncut, latest, latest_at}
+use Rattle.mv_core.proofs.Terms.{dite, dec_lt, State, Writes, maker_of, Entry, Config, Head, Master, Memory, link_of, Version, WriteSetStatus, Held, Aborted}
+use Rattle.mv_core.proofs.Terms.{Committed, CommitNote, Knowledge, WriteBack, Stand, Lives, Names, IsVersion, IsTop, NoneUncut, latest, latest_at}
 use Rattle.mv_core.proofs.Terms.{words_of, IsNextWrite, ViewParts, parts_of, time_in}
-use Rattle.mv_core.specs.declared.view.Walk.TheVariants as walk
-use Rattle.mv_core.proofs.FactTerms.{MasterServes, IsRightFor, MayStandAt, StandsRight, Facts, Placed, IsLinked, prev_of, HangFrom, LeadsBy, lowest}
+use Rattle.mv_core.specs.declared.view.WalkStage.TheVariants as walk
+use Rattle.mv_core.proofs.FactTerms.{MasterServes, IsRightFor, MayStandAt, StandsRight, Facts, SlotVersion, IsLinked, prev_of, HangFrom, LeadsBy, lowest}
 use Rattle.mv_core.proofs.FactTerms.{time_down, AreWritesFrom, IsLater, IsUnderLater, IsRightLink, IsRightMaster, IsAbortedOver}
 use Rattle.mv_core.specs.Points.{WalksStandRight, MastersAreRead, BacksHold}
 use Rattle.mv_core.proofs.kinds.walking.EmptyHeads.{time_of_section}
@@ -19,19 +19,21 @@ use Rattle.mv_core.proofs.logs.Written.{version_writes, commit_within}
 use Rattle.mv_core.proofs.points.Reaching.{prev_word}
 use Rattle.mv_core.proofs.points.Chaining.{chain_of}
 
-module _ {starts : State → Type 0} {allows : List ℕ → State → Writes → Type 0} {c : Config} {start : State} {m : Memory} {h : List Entry} (seats : ℕ → View)
+module _ {starts : State → Type 0} {allows : List ℕ → State → Writes → Type 0} {c : Config} {start : State} {m : Memory} {h : List Entry}
+    (seats : ℕ → Knowledge)
     (k : Facts starts allows c start m h (parts_of seats)) where
   abbrev f : ViewParts
   f = parts_of seats
 
   -- one version more at the end
-  one_down : (P : Placed → Type 0) (ps : List Placed) (link mid : ℕ) (q : Placed) → LeadsBy m f.ring P link ps mid → IsLinked m f.ring mid q → P q
+  one_down : (P : SlotVersion → Type 0) (ps : List SlotVersion) (link mid : ℕ) (q : SlotVersion) → LeadsBy m f.ring P link ps mid
+      → IsLinked m f.ring mid q → P q
       → LeadsBy m f.ring P link (ps ++ q ∷ []) (prev_of m f.ring q)
   one_down P [] link mid q leads is holds = (subst (λ (l : ℕ). IsLinked m f.ring l q) leads is, holds, refl)
   one_down P (p ∷ ps) link mid q leads is holds = (leads.0, leads.1, one_down P ps (prev_of m f.ring p) mid q leads.2 is holds)
 
   -- the link of a live version names it
-  abbrev named_so : (s i : ℕ) (x : Version) (st : Status) → Lives f.ring s i x st → Names f.ring (link_of s x.position) x st
+  abbrev named_so : (s i : ℕ) (x : Version) (st : WriteSetStatus) → Lives f.ring s i x st → Names f.ring (link_of s x.position) x st
   named_so s i x st lives = record { seat = s; slot = i; lives = lives; is = refl }
 
   once : (o t link other : ℕ) (x y : Version) (n u : CommitNote) → IsVersion f.ring o t link x n → IsVersion f.ring o t other y u → link ≡ other
@@ -52,7 +54,7 @@ module _ {starts : State → Type 0} {allows : List ℕ → State → Writes →
       ⊎_elim
       (λ a.
       let z : Version = a.2 in
-      let p : Placed = record { seat = a.0; slot = a.1; version = z; status = Held } in
+      let p : SlotVersion = record { seat = a.0; slot = a.1; version = z; status = Held } in
       let head = ap (λ q. m (Head q)) (sym a.4) ∙ k.head_is_top.held a.0 a.1 z a.3 in
       let word = prev_word seats k p a.3 in
       let top = subst (λ (q : ℕ). IsTop f.ring q (latest c.base h q) z.previous) a.4 (k.held_link a.0 a.1 z a.3) in
@@ -89,7 +91,7 @@ module _ {starts : State → Type 0} {allows : List ℕ → State → Writes →
         ⊎_elim
         (λ cut. let le = not_above other.time j t f.time (k.cut_is_old v.names.seat v.names.slot y other v.names.lives cut) timed in absurd (omega arith))
         (λ whole.
-        let q : Placed = record { seat = v.names.seat; slot = v.names.slot; version = y; status = Committed other } in
+        let q : SlotVersion = record { seat = v.names.seat; slot = v.names.slot; version = y; status = Committed other } in
         let object = v.object_is in
         let last : latest c.base h y.object ≤ other.time + n = subst (λ (u : ℕ). latest c.base h u ≤ other.time + n) (sym object) (omega arith) in
         let up : IsUnderLater m f.ring o t (link_of q.seat y.position) =
@@ -130,7 +132,7 @@ module _ {starts : State → Type 0} {allows : List ℕ → State → Writes →
     right_link : (link : ℕ) (x : Version) (note : CommitNote) → Names f.ring link x (Committed note) → IsRightFor c h t x note
         → IsRightLink c start m h f t x.object link
     right_link link x note names right =
-        let p : Placed = record { seat = names.seat; slot = names.slot; version = x; status = Committed note } in
+        let p : SlotVersion = record { seat = names.seat; slot = names.slot; version = x; status = Committed note } in
         let low = (commit_within c h f.ring k.write_sets names.seat names.slot x note names.lives).0 in
         ⊎_elim
         (λ cut.
@@ -157,7 +159,7 @@ module _ {starts : State → Type 0} {allows : List ℕ → State → Writes →
         (bool_is note.cut)
 
     -- where a chain's lowest version isn't later, that of the last write up to the time is chained
-    chained_at : (o u : ℕ) → u ≤ t → (ps : List Placed) (time link : ℕ) (above : Option ℕ) → HangFrom m f.ring link ps → AreWritesFrom c h o time ps
+    chained_at : (o u : ℕ) → u ≤ t → (ps : List SlotVersion) (time link : ℕ) (above : Option ℕ) → HangFrom m f.ring link ps → AreWritesFrom c h o time ps
         → latest_at c.base h o t ≤ time → lowest above ps ≡ Some u → ((w : ℕ) → above ≡ Some w → t < w)
         → (l : ℕ) × (y : Version) × (note : CommitNote) × IsVersion f.ring o (latest_at c.base h o t) l y note × (note.cut ≡ false)
     chained_at o u le [] time link above hang writes from low late = let lt = late u low in absurd (omega arith)
@@ -167,12 +169,12 @@ module _ {starts : State → Type 0} {allows : List ℕ → State → Writes →
         let committed = writes.1.1 in
         let at = writes.1.3 in
         let lives : Lives f.ring p.seat p.slot p.version (Committed note) =
-        subst (λ (st : Status). Lives f.ring p.seat p.slot p.version st) committed hang.0.1 in
+        subst (λ (st : WriteSetStatus). Lives f.ring p.seat p.slot p.version st) committed hang.0.1 in
         dite (dec_lt t time)
         (λ lt.
         chained_at o u le ps (latest_at c.base h o (time - 1)) (prev_of m f.ring p) (Some note.time) hang.1 writes.1.4
         (latest_at-mono c.base h o t (time - 1) (omega arith))
-        (subst (λ (st : Status). lowest (time_down above st) ps ≡ Some u) committed low)
+        (subst (λ (st : WriteSetStatus). lowest (time_down above st) ps ≡ Some u) committed low)
         (λ w e. let same : note.time ≡ w = cc in omega arith))
         (λ ge.
         let r = version_writes c h f.ring k.write_sets p.seat p.slot p.version note lives in
@@ -198,26 +200,26 @@ module _ {starts : State → Type 0} {allows : List ℕ → State → Writes →
         (λ writes. no
         (chained_at o loose.0 le ch.0 (latest c.base h o) (m (Head o)) None ch.1 writes (latest_at-latest c.base h o t) loose.1 (λ w e. absurd cc)))
         (λ top.
-        let p : Placed = top.0 in
-        let hang : HangFrom m f.ring (m (Head o)) (p ∷ top.1) = subst (λ (ps : List Placed). HangFrom m f.ring (m (Head o)) ps) top.2 ch.1 in
-        let low : lowest None (p ∷ top.1) ≡ Some loose.0 = ap (λ (ps : List Placed). lowest None ps) (sym top.2) ∙ loose.1 in
+        let p : SlotVersion = top.0 in
+        let hang : HangFrom m f.ring (m (Head o)) (p ∷ top.1) = subst (λ (ps : List SlotVersion). HangFrom m f.ring (m (Head o)) ps) top.2 ch.1 in
+        let low : lowest None (p ∷ top.1) ≡ Some loose.0 = ap (λ (ps : List SlotVersion). lowest None ps) (sym top.2) ∙ loose.1 in
         no (chained_at o loose.0 le top.1 (latest c.base h o) (prev_of m f.ring p) None hang.1 top.5 (latest_at-latest c.base h o t)
-        (subst (λ (st : Status). lowest (time_down None st) top.1 ≡ Some loose.0) top.4 low) (λ w e. absurd cc)))
+        (subst (λ (st : WriteSetStatus). lowest (time_down None st) top.1 ≡ Some loose.0) top.4 low) (λ w e. absurd cc)))
         ch.2))
         ch.3
 
-    stands : (stand : Stand) (x : Version) (st : Status) → Names f.ring stand.link x st → x.object ≡ stand.object
+    stands : (stand : Stand) (x : Version) (st : WriteSetStatus) → Names f.ring stand.link x st → x.object ≡ stand.object
         → MayStandAt c start h (λ p i. m (Master p i)) f.ring t x st
         → IsRightLink c start m h f t stand.object stand.link ⊎ IsAbortedOver c start m h f t stand.object stand.link
     stands stand x Held names object may =
-        let p : Placed = record { seat = names.seat; slot = names.slot; version = x; status = Held } in
+        let p : SlotVersion = record { seat = names.seat; slot = names.slot; version = x; status = Held } in
         let head : m (Head stand.object) ≡ link_of names.seat x.position =
         ap (λ q. m (Head q)) (sym object) ∙ k.head_is_top.held names.seat names.slot x names.lives in
         inl (p, (names.is, names.lives), object, inl ([], names.is ∙ sym head))
     stands stand x (Committed note) names object may =
         inl (subst (λ (o : ℕ). IsRightLink c start m h f t o stand.link) object (right_link stand.link x note names may))
     stands stand x (Aborted dead) names object may =
-        let p : Placed = record { seat = names.seat; slot = names.slot; version = x; status = Aborted dead } in
+        let p : SlotVersion = record { seat = names.seat; slot = names.slot; version = x; status = Aborted dead } in
         let word = prev_word seats k p names.lives in
         inr (record {
           version = p;

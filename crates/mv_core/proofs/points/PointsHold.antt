@@ -1,6 +1,6 @@
 -- The points that look at no chain, and that of frees.
 use Rattle.std.proofs.Common.{◌≡◌, ℕ, ◌+◌, ◌*◌, ◌≤◌, List, Some, sym, ap, ◌∙◌, subst, arith}
-use Rattle.mv_core.proofs.Terms.{dite, dec_lt, ℕ_discrete, State, Writes, Entry, Config, Clock, Master, Stamp, Memory, View, Section, WriteBack}
+use Rattle.mv_core.proofs.Terms.{dite, dec_lt, ℕ_discrete, State, Writes, Entry, Config, Clock, Master, Stamp, Memory, Knowledge, OwnSection, WriteBack}
 use Rattle.mv_core.proofs.Terms.{latest_at, ViewParts, parts_of, section_of, time_in}
 use Rattle.mv_core.proofs.FactTerms.{IsWrittenBack, Facts}
 use Rattle.mv_core.specs.Points.{HistoryPoint, WriteSetsPoint, FreesPoint, MarksPoint, PositionsBoundedPoint, EarlierAreStamped, OneWritesBack}
@@ -22,7 +22,7 @@ module _ (starts : State → Type 0) (allows : List ℕ → State → Writes →
     record { views = r.seated.apart; joined = r.seated.gone; notes = r.seated.once },
     entries_named key.config key.start.value.items s.views r.seats r.history r.seated r.facts.history.seats,
     record {
-      views = λ id v at unspent. ap (λ (w : View). w.past) (r.seated.there id v at unspent).0;
+      views = λ id v at unspent. ap (λ (w : Knowledge). w.past) (r.seated.there id v at unspent).0;
       notes = λ id v n at unspent has. (r.seated.noted id v n at unspent has).past;
     },
   )
@@ -57,9 +57,9 @@ module _ (starts : State → Type 0) (allows : List ℕ → State → Writes →
         (λ ne. let u = unstamped_is_named c (m Clock) (λ t l. m (Stamp t l)) h f.ring k.checked (clock_small k) k.stamps k.positions s i x note lives ne in
         let e = u.1 in absurd (omega arith))
 
-  module _ (c : Config) (start : State) (m : Memory) (h : List Entry) (seats : ℕ → View) (k : Facts starts allows c start m h (parts_of seats)) where
+  module _ (c : Config) (start : State) (m : Memory) (h : List Entry) (seats : ℕ → Knowledge) (k : Facts starts allows c start m h (parts_of seats)) where
     -- of two that write back one object, the version of the one whose section isn't later is that of the other
-    same_version : (s t : ℕ) (a b : WriteBack) (i j : Section) → section_of (seats s).phase ≡ Some i → section_of (seats t).phase ≡ Some j
+    same_version : (s t : ℕ) (a b : WriteBack) (i j : OwnSection) → section_of (seats s).phase ≡ Some i → section_of (seats t).phase ≡ Some j
         → time_in i ≤ time_in j
         → (p : IsWrittenBack c h (λ o w. m (Master o w)) (parts_of seats).time (parts_of seats).ring s (seats s).clocks (seats s).grace a i)
         → (q : IsWrittenBack c h (λ o w. m (Master o w)) (parts_of seats).time (parts_of seats).ring t (seats t).clocks (seats t).grace b j)

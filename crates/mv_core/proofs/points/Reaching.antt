@@ -1,9 +1,10 @@
 -- Each link that a section reaches is 0 or names a live version, with no death noted up to the section's time.
 use Rattle.std.proofs.Common.{◌≡◌, ◌≢◌, ◌⊎◌, ℕ, ◌-◌, List, [], ◌∷◌, Some, None, sym, refl, ap, ◌∙◌, subst, inl, inr, ⊎_elim, arith}
-use Rattle.mv_core.proofs.Terms.{dite, dec_lt, ℕ_discrete, State, Writes, Entry, Config, Head, Master, First, Stamp, Prev, Data, Memory, Version, Status, Held}
-use Rattle.mv_core.proofs.Terms.{Aborted, Committed, CommitNote, View, Stand, Lives, Names, index_of, latest_at, ViewParts, parts_of, time_in}
-use Rattle.mv_core.specs.declared.view.Walk.TheVariants.{At}
-use Rattle.mv_core.proofs.FactTerms.{stamp_of, HoldsVersion, HoldsSlot, IsBeforeDeath, MayStandAt, StandsRight, Facts, Placed, IsLinked, prev_of}
+use Rattle.mv_core.proofs.Terms.{dite, dec_lt, ℕ_discrete, State, Writes, Entry, Config, Head, Master, First, Stamp, Prev, Data, Memory, Version}
+use Rattle.mv_core.proofs.Terms.{WriteSetStatus, Held}
+use Rattle.mv_core.proofs.Terms.{Aborted, Committed, CommitNote, Knowledge, Stand, Lives, Names, index_of, latest_at, ViewParts, parts_of, time_in}
+use Rattle.mv_core.specs.declared.view.WalkStage.TheVariants.{At}
+use Rattle.mv_core.proofs.FactTerms.{stamp_of, HoldsVersion, HoldsSlot, IsBeforeDeath, MayStandAt, StandsRight, Facts, SlotVersion, IsLinked, prev_of}
 use Rattle.mv_core.proofs.FactTerms.{LeadsBy, GoesOn, ReachesLink}
 use Rattle.mv_core.specs.Points.{ReachedAreLive, ReachedAreKept, ReachedBeforeDeath}
 use Rattle.mv_core.proofs.kinds.walking.EmptyHeads.{time_of_section}
@@ -13,37 +14,38 @@ use Rattle.mv_core.proofs.kinds.walking.Landing.{Lands, top_lands, below_lands, 
 use Rattle.mv_core.proofs.kinds.naming.entry.NewEntry.{bool_is}
 use Rattle.mv_core.proofs.logs.Written.{commit_within}
 
-module _ {starts : State → Type 0} {allows : List ℕ → State → Writes → Type 0} {c : Config} {start : State} {m : Memory} {h : List Entry} (seats : ℕ → View)
+module _ {starts : State → Type 0} {allows : List ℕ → State → Writes → Type 0} {c : Config} {start : State} {m : Memory} {h : List Entry}
+    (seats : ℕ → Knowledge)
     (k : Facts starts allows c start m h (parts_of seats)) where
   abbrev f : ViewParts
   f = parts_of seats
 
   -- a version in its slot is named by its link
-  abbrev pub names_of : (link : ℕ) (p : Placed) → IsLinked m f.ring link p → Names f.ring link p.version p.status
+  abbrev pub names_of : (link : ℕ) (p : SlotVersion) → IsLinked m f.ring link p → Names f.ring link p.version p.status
   names_of link p l = record { seat = p.seat; slot = p.slot; lives = l.1; is = l.0 }
 
-  pub placed_of : (link : ℕ) (x : Version) (st : Status) → Names f.ring link x st → (p : Placed) × IsLinked m f.ring link p
+  pub placed_of : (link : ℕ) (x : Version) (st : WriteSetStatus) → Names f.ring link x st → (p : SlotVersion) × IsLinked m f.ring link p
   placed_of link x st n = (record { seat = n.seat; slot = n.slot; version = x; status = st }, (n.is, n.lives))
 
   -- PREV of a live version is its previous link
-  pub prev_word : (p : Placed) → Lives f.ring p.seat p.slot p.version p.status → prev_of m f.ring p ≡ p.version.previous
+  pub prev_word : (p : SlotVersion) → Lives f.ring p.seat p.slot p.version p.status → prev_of m f.ring p ≡ p.version.previous
   prev_word p lives =
       let holds : HoldsVersion (m (First p.seat p.slot)) (m (Prev p.seat p.slot)) (λ i. m (Data p.seat p.slot i)) p.version =
       subst (HoldsSlot (m (First p.seat p.slot)) (m (Prev p.seat p.slot)) (λ i. m (Data p.seat p.slot i))) lives (k.slot_words p.seat p.slot) in
       holds.prev_is
 
-  pub prev_is : (link : ℕ) (p : Placed) → IsLinked m f.ring link p → prev_of m f.ring p ≡ p.version.previous
+  pub prev_is : (link : ℕ) (p : SlotVersion) → IsLinked m f.ring link p → prev_of m f.ring p ≡ p.version.previous
   prev_is link p l = prev_word p l.1
 
   -- no death is noted up to t, of a version that wasn't aborted
-  abbrev IsAlive : ℕ → Status → Type 0
+  abbrev IsAlive : ℕ → WriteSetStatus → Type 0
   IsAlive t Held = Unit {0}
   IsAlive t (Aborted dead) = ⊥
   IsAlive t (Committed note) = IsBeforeDeath t (Committed note)
 
   -- the link is 0 or names such a version
   abbrev IsGood : ℕ → ℕ → Type 0
-  IsGood t link = (link ≡ 0) ⊎ ((x : Version) × (st : Status) × Names f.ring link x st × IsAlive t st)
+  IsGood t link = (link ≡ 0) ⊎ ((x : Version) × (st : WriteSetStatus) × Names f.ring link x st × IsAlive t st)
 
   by_landing : (t o link : ℕ) → Lands c start h (λ p i. m (Master p i)) f.ring t o link → IsGood t link
   by_landing t o link lands = ⊎_elim (λ z. inl z.0) (λ l. inr (l.version, Committed l.note, l.names, l.alive)) lands
@@ -94,7 +96,7 @@ module _ {starts : State → Type 0} {allows : List ℕ → State → Writes →
         (find_write c h f.ring k.checked k.history.in_time k.positions x.object (latest_at c.base h x.object (note.time - 1)))
 
     -- below a version from which a walk goes on
-    goes_below : (p : Placed) (st : Status) → p.status ≡ st → Lives f.ring p.seat p.slot p.version st → IsAlive t st
+    goes_below : (p : SlotVersion) (st : WriteSetStatus) → p.status ≡ st → Lives f.ring p.seat p.slot p.version st → IsAlive t st
         → GoesOn t (stamp_of c (λ u l. m (Stamp u l)) p.seat p.version) → IsGood t p.version.previous
     goes_below p Held e lives alive goes =
         by_landing t p.version.object p.version.previous (top_lands k j t p.version.object p.version.previous timed (k.held_link p.seat p.slot p.version lives))
@@ -112,23 +114,23 @@ module _ {starts : State → Type 0} {allows : List ℕ → State → Writes →
         (λ ne. below_unstamped p.seat p.slot p.version note lives ne))
 
     -- so each link is good to which one gets from a good one
-    leads_good : (ps : List Placed) (link to : ℕ) → IsGood t link
+    leads_good : (ps : List SlotVersion) (link to : ℕ) → IsGood t link
         → LeadsBy m f.ring (λ p. GoesOn t (stamp_of c (λ u l. m (Stamp u l)) p.seat p.version)) link ps to → IsGood t to
     leads_good [] link to good leads = subst (λ (l : ℕ). IsGood t l) (sym leads) good
     leads_good (p ∷ ps) link to good leads =
         let names = names_of link p leads.0 in
         let here : IsAlive t p.status =
         ⊎_elim (λ zero_is. absurd (names_some f.ring link p.version p.status names zero_is))
-        (λ g. subst (λ (st : Status). IsAlive t st)
+        (λ g. subst (λ (st : WriteSetStatus). IsAlive t st)
         (names_once c h f.ring k.checked k.history.in_time k.positions link g.0 p.version g.1 p.status g.2 names).3 g.3) good in
         let below = goes_below p p.status refl leads.0.1 here leads.1 in
         leads_good ps (prev_of m f.ring p) to (subst (λ (l : ℕ). IsGood t l) (sym (prev_is link p leads.0)) below) leads.2
 
     -- the link is 0 or names a live version whose noted death is later
     abbrev pub IsServed : ℕ → Type 0
-    IsServed link = (link ≡ 0) ⊎ ((x : Version) × (st : Status) × Names f.ring link x st × IsBeforeDeath t st)
+    IsServed link = (link ≡ 0) ⊎ ((x : Version) × (st : WriteSetStatus) × Names f.ring link x st × IsBeforeDeath t st)
 
-    alive_served : (st : Status) → IsAlive t st → IsBeforeDeath t st
+    alive_served : (st : WriteSetStatus) → IsAlive t st → IsBeforeDeath t st
     alive_served Held a = tt
     alive_served (Aborted dead) a = absurd a
     alive_served (Committed note) a = a
@@ -147,8 +149,9 @@ module _ {starts : State → Type 0} {allows : List ℕ → State → Writes →
         (find_holder c h f.ring k.checked k.history.in_time k.positions o)
 
     module _ (stand : Stand) (at : f.walk j ≡ At stand) (x : Version) where
-      from_stand : (st : Status) → Names f.ring stand.link x st → MayStandAt c start h (λ o i. m (Master o i)) f.ring t x st
-          → (ps : List Placed) (to : ℕ) → LeadsBy m f.ring (λ p. GoesOn t (stamp_of c (λ u l. m (Stamp u l)) p.seat p.version)) stand.link ps to → IsServed to
+      from_stand : (st : WriteSetStatus) → Names f.ring stand.link x st → MayStandAt c start h (λ o i. m (Master o i)) f.ring t x st
+          → (ps : List SlotVersion) (to : ℕ) → LeadsBy m f.ring (λ p. GoesOn t (stamp_of c (λ u l. m (Stamp u l)) p.seat p.version)) stand.link ps to
+          → IsServed to
       from_stand Held names may ps to leads = good_served to (leads_good ps stand.link to (inr (x, Held, names, tt)) leads)
       from_stand (Committed note) names may ps to leads =
           good_served to
@@ -205,6 +208,6 @@ module _ {starts : State → Type 0} {allows : List ℕ → State → Writes →
       let link : ℕ = reaches.0 in
       let names = names_of link p reaches.2 in
       ⊎_elim (λ z. absurd (names_some f.ring link p.version p.status names z))
-      (λ g. subst (λ (st : Status). IsBeforeDeath t st)
+      (λ g. subst (λ (st : WriteSetStatus). IsBeforeDeath t st)
       (names_once c h f.ring k.checked k.history.in_time k.positions link g.0 p.version g.1 p.status g.2 names).3 g.3)
       (reached_served j t link reaches.1)

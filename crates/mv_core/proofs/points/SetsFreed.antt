@@ -1,7 +1,7 @@
 -- What holds while the slots of a write set are freed, and of the first free of a set.
 use Rattle.std.proofs.Common.{◌≡◌, ◌≢◌, ℕ, ◌<◌, ◌≤◌, Bool, cond, List, sym, ap, ◌∙◌, subst, eq-eqb, arith}
-use Rattle.mv_core.proofs.Terms.{State, Writes, Entry, Config, Clock, Memory, link_of, clock_slot_of, Live, Freeing, Version, Status, Committed, Ring}
-use Rattle.mv_core.proofs.Terms.{View, slot_at, index_of, Lives, ViewParts, parts_of}
+use Rattle.mv_core.proofs.Terms.{State, Writes, Entry, Config, Clock, Memory, link_of, clock_slot_of, Live, Freeing, Version, WriteSetStatus, Committed, Ring}
+use Rattle.mv_core.proofs.Terms.{Knowledge, slot_at, index_of, Lives, ViewParts, parts_of}
 use Rattle.mv_core.proofs.FactTerms.{ReachesLink, Reaches, ClockIsAfter, FreeingIs, FreesHold, FirstFree, Facts}
 use Rattle.mv_core.specs.ReclaimSteps.{MayStoreFree, IsDeadBy, freeing_slot, free_stored}
 use Rattle.mv_core.proofs.frames.FrameLaw.{set_at_here}
@@ -12,14 +12,15 @@ use Rattle.mv_core.proofs.kinds.walking.Landing.{not_above}
 use Rattle.mv_core.proofs.logs.Links.{link_some, next_small, position_small, link_once}
 use Rattle.mv_core.proofs.points.Reaching.{reached_are_live, reached_before_death}
 
-module _ {starts : State → Type 0} {allows : List ℕ → State → Writes → Type 0} {c : Config} {start : State} {m : Memory} {h : List Entry} (seats : ℕ → View)
+module _ {starts : State → Type 0} {allows : List ℕ → State → Writes → Type 0} {c : Config} {start : State} {m : Memory} {h : List Entry}
+    (seats : ℕ → Knowledge)
     (k : Facts starts allows c start m h (parts_of seats)) where
   abbrev f : ViewParts
   f = parts_of seats
 
   module _ (s i p first : ℕ) (at : slot_at (f.ring s) i ≡ Freeing p first) where
     -- the set of a live version begins after what is being freed
-    later_sets : (l : ℕ) (x : Version) (st : Status) → Lives f.ring s l x st → p < x.first
+    later_sets : (l : ℕ) (x : Version) (st : WriteSetStatus) → Lives f.ring s l x st → p < x.first
     later_sets l x st lives =
         let a = k.write_sets.first s l x st lives in
         subst (λ (q : ℕ). p < q) a.position_is ((k.positions.oldest s i p first at).1 (index_of c x.first) a.version a.status a.lives)
@@ -56,7 +57,7 @@ module _ {starts : State → Type 0} {allows : List ℕ → State → Writes →
     }
 
   -- no section reaches what is dead by its seat's watermark
-  dead_unreached : (s i : ℕ) (x : Version) (st : Status) → Lives f.ring s i x st → IsDeadBy (f.grace s) st → (j t : ℕ)
+  dead_unreached : (s i : ℕ) (x : Version) (st : WriteSetStatus) → Lives f.ring s i x st → IsDeadBy (f.grace s) st → (j t : ℕ)
       → ¬ (Reaches c m f j t (record { seat = s; slot = i; version = x; status = st }))
   dead_unreached s i x st lives dead j t reaches =
       not_dead_by t (f.grace s) st (reached_before_death seats k j t (record { seat = s; slot = i; version = x; status = st }) reaches) dead
@@ -65,9 +66,9 @@ module _ {starts : State → Type 0} {allows : List ℕ → State → Writes →
   pub frees_hold : FreesHold c m h f
   frees_hold = record { freeing = freeing_is; dead = dead_unreached; old = k.freed_is_old.writes }
 
-  module _ (n : ℕ) (own : (seats n).number ≡ n) (position : ℕ) (x : Version) (st : Status) (may : MayStoreFree c (seats n) position)
+  module _ (n : ℕ) (own : (seats n).number ≡ n) (position : ℕ) (x : Version) (st : WriteSetStatus) (may : MayStoreFree c (seats n) position)
       (at : slot_at (seats n).ring (index_of c position) ≡ Live x st) where
-    abbrev v : View
+    abbrev v : Knowledge
     v = seats n
 
     abbrev r : Ring
@@ -77,12 +78,12 @@ module _ {starts : State → Type 0} {allows : List ℕ → State → Writes →
     freed = is_freed seats k v (ap seats own) position may
 
     -- the log after the step
-    lives_after : (l : ℕ) (y : Version) (su : Status) → slot_at r l ≡ Live y su → Lives (log.later k v.number position r freed) v.number l y su
+    lives_after : (l : ℕ) (y : Version) (su : WriteSetStatus) → slot_at r l ≡ Live y su → Lives (log.later k v.number position r freed) v.number l y su
     lives_after l y su e = ap (λ (q : Ring). slot_at q l) (set_at_here f.ring v.number r) ∙ e
 
     -- what was in the log before it
-    lives_before : (l : ℕ) (y : Version) (su : Status) → slot_at v.ring l ≡ Live y su → Lives f.ring v.number l y su
-    lives_before l y su e = ap (λ (w : View). slot_at w.ring l) (ap seats own) ∙ e
+    lives_before : (l : ℕ) (y : Version) (su : WriteSetStatus) → slot_at v.ring l ≡ Live y su → Lives f.ring v.number l y su
+    lives_before l y su e = ap (λ (w : Knowledge). slot_at w.ring l) (ap seats own) ∙ e
 
     pub first_free : FirstFree c v position x
     first_free =
@@ -90,7 +91,7 @@ module _ {starts : State → Type 0} {allows : List ℕ → State → Writes →
         record {
           position_is = a.0;
           first_is = a.1;
-          dead = λ l y su lives same. subst (λ (w : View). IsDeadBy w.grace su) (ap seats own) (freed.dead l y su (lives_before l y su lives) same);
+          dead = λ l y su lives same. subst (λ (w : Knowledge). IsDeadBy w.grace su) (ap seats own) (freed.dead l y su (lives_before l y su lives) same);
           gone = λ l y su lives. log.not_of_set k v.number position r freed l y su (lives_after l y su lives);
           freed = freed.here;
           freeing = λ l y su lives same ne.

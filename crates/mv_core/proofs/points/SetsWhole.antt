@@ -1,7 +1,7 @@
 -- Each write set in a log is a run of positions with one fate.
 use Rattle.std.proofs.Common.{◌≡◌, ◌⊎◌, ℕ, ◌+◌, ◌-◌, ◌<◌, ◌≤◌, List, sym, refl, ap, ◌∙◌, subst, inl, inr, ⊎_elim, arith, Option}
 use Rattle.std.proofs.lemmas.Option.{slice_get_within}
-use Rattle.mv_core.proofs.Terms.{dite, dec_le, State, Writes, Entry, Config, Memory, Version, Status, Held, Aborted, Committed, CommitNote, View}
+use Rattle.mv_core.proofs.Terms.{dite, dec_le, State, Writes, Entry, Config, Memory, Version, WriteSetStatus, Held, Aborted, Committed, CommitNote, Knowledge}
 use Rattle.mv_core.proofs.Terms.{Mode, Open, Aborting, Named, slot_at, index_of, Lives, InUse, ViewParts, parts_of, IsUnnamed}
 use Rattle.mv_core.proofs.FactTerms.{CommitOf, InHeldSet, IsHeldOrAborted, Facts}
 use Rattle.mv_core.specs.WholeSets.{HaveOneFate, IsAborted, HeldIs, AbortedIs, GoesOnWith, SetsAreWhole}
@@ -14,12 +14,13 @@ unnamed_mode Aborting un = inr refl
 unnamed_mode (Named n) un = absurd un
 
 -- what isn't committed is held or aborted
-held_or : {A : Type 0} (st : Status) → IsHeldOrAborted st → A → (st ≡ Held) ⊎ (IsAborted st × A)
+held_or : {A : Type 0} (st : WriteSetStatus) → IsHeldOrAborted st → A → (st ≡ Held) ⊎ (IsAborted st × A)
 held_or Held known a = inl refl
 held_or (Aborted dead) known a = inr (tt, a)
 held_or (Committed note) known a = absurd known
 
-module _ {starts : State → Type 0} {allows : List ℕ → State → Writes → Type 0} {c : Config} {start : State} {m : Memory} {h : List Entry} (seats : ℕ → View)
+module _ {starts : State → Type 0} {allows : List ℕ → State → Writes → Type 0} {c : Config} {start : State} {m : Memory} {h : List Entry}
+    (seats : ℕ → Knowledge)
     (k : Facts starts allows c start m h (parts_of seats)) where
   abbrev f : ViewParts
   f = parts_of seats
@@ -43,7 +44,7 @@ module _ {starts : State → Type 0} {allows : List ℕ → State → Writes →
       let one = live_once (slot_at (f.ring s) (index_of c (x.first + 0))) p.0 q.0 (Committed p.1) (Committed q.1) p.2 there in
       sym q.3 ∙ ap (λ (n : CommitNote). n.time) (sym (note_once p.1 q.1 one.1)) ∙ p.3
 
-  pub one_fate : (s i l : ℕ) (x y : Version) (st su : Status) → Lives f.ring s i x st → Lives f.ring s l y su → y.first ≡ x.first → HaveOneFate st su
+  pub one_fate : (s i l : ℕ) (x y : Version) (st su : WriteSetStatus) → Lives f.ring s i x st → Lives f.ring s l y su → y.first ≡ x.first → HaveOneFate st su
   one_fate s i l x y (Committed note) (Committed other) a b same = one_time s i l x y note other a b same
   one_fate s i l x y (Committed note) Held a b same = absurd (k.write_sets.apart s l i y x Held note b tt a same)
   one_fate s i l x y (Committed note) (Aborted dead) a b same = absurd (k.write_sets.apart s l i y x (Aborted dead) note b tt a same)
@@ -55,7 +56,7 @@ module _ {starts : State → Type 0} {allows : List ℕ → State → Writes →
   one_fate s i l x y (Aborted dead) (Aborted other) a b same = tt
 
   -- each position from the first of a set on has a version of it
-  runs : (s i : ℕ) (x : Version) (st : Status) → Lives f.ring s i x st → (p : ℕ) → x.first ≤ p → p ≤ x.position
+  runs : (s i : ℕ) (x : Version) (st : WriteSetStatus) → Lives f.ring s i x st → (p : ℕ) → x.first ≤ p → p ≤ x.position
       → InHeldSet c f.ring s x.first p (HaveOneFate st)
   runs s i x st lives p from to =
       let a = k.write_sets.between s i x st lives p from to in
@@ -69,7 +70,7 @@ module _ {starts : State → Type 0} {allows : List ℕ → State → Writes →
       }
 
   -- a version of a set that begins at or before the position of another one there is of its set
-  of_set : (s i l : ℕ) (x y : Version) (st su : Status) → Lives f.ring s i x st → Lives f.ring s l y su → y.first ≤ x.position → x.position ≤ y.position
+  of_set : (s i l : ℕ) (x y : Version) (st su : WriteSetStatus) → Lives f.ring s i x st → Lives f.ring s l y su → y.first ≤ x.position → x.position ≤ y.position
       → y.first ≡ x.first
   of_set s i l x y st su a b from to =
       let z = k.write_sets.between s l y su b x.position from to in
@@ -77,7 +78,7 @@ module _ {starts : State → Type 0} {allows : List ℕ → State → Writes →
       sym z.first_is ∙ ap (λ (v : Version). v.first) one.1
 
   -- and what comes after a version is of its set or begins another
-  goes_on : (s i : ℕ) (x : Version) (st : Status) → Lives f.ring s i x st → x.position + 1 < (f.ring s).next → GoesOnWith c f s x
+  goes_on : (s i : ℕ) (x : Version) (st : WriteSetStatus) → Lives f.ring s i x st → x.position + 1 < (f.ring s).next → GoesOnWith c f s x
   goes_on s i x st lives more =
       let here : Lives f.ring s (index_of c x.position) x st = subst (λ (j : ℕ). Lives f.ring s j x st) (sym (k.positions.live s i x st lives).0) lives in
       let used : InUse f.ring c s x.position = inl (x, st, here, refl) in

@@ -5,7 +5,7 @@
 //! a record of the trail; the table loads its first word for it, and ignores what it finds. A join is
 //! counted by its caller, and seats are made before anything counts.
 //!
-//! What a step is of and what it tells is picked where it is called, by a `Turn` for `Brand`; it may
+//! What a step is of and what it tells is picked where it is called, by a `Transition` for `Brand`; it may
 //! speak of `about`, which is for the proof alone.
 ghost use Rattle.std.specs.Prelude.{◌≡◌, ◌+◌, ◌<◌, [], length, IfOk};
 ghost use Rattle.std.specs.Mem.Slots.{slots_items, slots_len, IsFull};
@@ -20,11 +20,11 @@ ghost use Rattle.mv_core.specs.SeatSteps.{made_one, newly_made, MayJoin, joined}
 ghost use Rattle.mv_core.specs.Start.{maker_view, ShowsOpening};
 
 use crate::joining::Joining;
-use crate::opening::{Domain, Making};
+use crate::opening::{DomainNumbers, Making};
 use crate::shared::{Opening, Pass, Shared};
 use crate::steps::Steps;
-use crate::turns::{Told, ToldAlone, Turn};
-use crate::view::View;
+use crate::turns::{QuietStep, ToldAlone, Transition};
+use crate::view::Knowledge;
 use atomic_table::{Closed, Seat, Table};
 use mv_history::{Protocol, Tag, Words};
 use mv_layout::{Config, head_cell, slot_cell};
@@ -34,7 +34,7 @@ use std::snapshot::Snapshot;
 use std::sync::ledger::Ledger;
 
 /// A load, in a pass.
-pub(crate) fn load_as<P: Protocol, J: Turn, L: Ledger, T>(
+pub(crate) fn load_as<P: Protocol, J: Transition, L: Ledger, T>(
     shared: &Shared<P>,
     pass: &mut Pass<P>,
     index: usize,
@@ -56,11 +56,11 @@ pub(crate) fn load_as<P: Protocol, J: Turn, L: Ledger, T>(
     shared
         .table
         .shared
-        .load::<Told<P, J>>(&mut pass.seat, index)
+        .load::<QuietStep<P, J>>(&mut pass.seat, index)
 }
 
 /// A store of `new`, in a pass.
-pub(crate) fn store_as<P: Protocol, J: Turn, L: Ledger, T>(
+pub(crate) fn store_as<P: Protocol, J: Transition, L: Ledger, T>(
     shared: &Shared<P>,
     pass: &mut Pass<P>,
     index: usize,
@@ -83,11 +83,11 @@ pub(crate) fn store_as<P: Protocol, J: Turn, L: Ledger, T>(
     shared
         .table
         .shared
-        .store::<Told<P, J>>(&mut pass.seat, index, new)
+        .store::<QuietStep<P, J>>(&mut pass.seat, index, new)
 }
 
 /// An exchange of `old` for `new`, in a pass. It answers what it found.
-pub(crate) fn swap_as<P: Protocol, J: Turn, L: Ledger, T>(
+pub(crate) fn swap_as<P: Protocol, J: Transition, L: Ledger, T>(
     shared: &Shared<P>,
     pass: &mut Pass<P>,
     index: u32,
@@ -111,11 +111,11 @@ pub(crate) fn swap_as<P: Protocol, J: Turn, L: Ledger, T>(
     shared
         .table
         .shared
-        .compare_exchange::<Told<P, J>>(&mut pass.seat, index as usize, old, new)
+        .compare_exchange::<QuietStep<P, J>>(&mut pass.seat, index as usize, old, new)
 }
 
 /// A fetch_max by `by`, in a pass. It answers what it found.
-pub(crate) fn raise_as<P: Protocol, J: Turn, L: Ledger, T>(
+pub(crate) fn raise_as<P: Protocol, J: Transition, L: Ledger, T>(
     shared: &Shared<P>,
     pass: &mut Pass<P>,
     index: u32,
@@ -138,13 +138,13 @@ pub(crate) fn raise_as<P: Protocol, J: Turn, L: Ledger, T>(
     shared
         .table
         .shared
-        .fetch_max::<Told<P, J>>(&mut pass.seat, index as usize, by)
+        .fetch_max::<QuietStep<P, J>>(&mut pass.seat, index as usize, by)
 }
 
 /// A load, whose caller sets afterwards what the pass has at run time.
-pub(crate) fn load_alone<P: Protocol, J: Turn, L: Ledger, T>(
+pub(crate) fn load_alone<P: Protocol, J: Transition, L: Ledger, T>(
     shared: &Shared<P>,
-    seat: &mut Seat<Tag, View>,
+    seat: &mut Seat<Tag, Knowledge>,
     index: u32,
     about: &T,
     steps: &mut Steps<L>,
@@ -169,9 +169,9 @@ pub(crate) fn load_alone<P: Protocol, J: Turn, L: Ledger, T>(
 }
 
 /// An exchange, whose caller sets afterwards what the pass has at run time.
-pub(crate) fn swap_alone<P: Protocol, J: Turn, L: Ledger, T>(
+pub(crate) fn swap_alone<P: Protocol, J: Transition, L: Ledger, T>(
     shared: &Shared<P>,
-    seat: &mut Seat<Tag, View>,
+    seat: &mut Seat<Tag, Knowledge>,
     index: u32,
     old: u64,
     new: u64,
@@ -200,10 +200,10 @@ pub(crate) fn swap_alone<P: Protocol, J: Turn, L: Ledger, T>(
 
 /// Cuts the seat that comes next from the first one, in the domain whose numbers are `D`'s.
 #[tactic(auto, using(crate::proofs::kinds::opening::MakeSeat::seat_splits_in))]
-pub(crate) fn split_as<P: Protocol, D: Domain>(
+pub(crate) fn split_as<P: Protocol, D: DomainNumbers>(
     shared: &Shared<P>,
-    seat: &mut Seat<Tag, View>,
-) -> Seat<Tag, View>
+    seat: &mut Seat<Tag, Knowledge>,
+) -> Seat<Tag, Knowledge>
     requires config { D.config ≡ config_of shared.now }
     requires of { IsSeatOf P.start P.allowed shared.now seat.old }
     requires maker { (0 < seat.old.me.0.made) × (seat.old.me.0.made < (config_of shared.now).seats) }
@@ -215,10 +215,10 @@ pub(crate) fn split_as<P: Protocol, D: Domain>(
 }
 
 /// Joins a seat into another, in the domain whose numbers are `D`'s.
-pub(crate) fn join_as<P: Protocol, D: Domain>(
+pub(crate) fn join_as<P: Protocol, D: DomainNumbers>(
     shared: &Shared<P>,
-    seat: &mut Seat<Tag, View>,
-    other: Seat<Tag, View>,
+    seat: &mut Seat<Tag, Knowledge>,
+    other: Seat<Tag, Knowledge>,
 )
     requires config { D.config ≡ config_of shared.now }
     requires of { IsSeatOf P.start P.allowed shared.now seat.old }

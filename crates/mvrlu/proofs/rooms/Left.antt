@@ -13,7 +13,7 @@ use Rattle.mv_history.specs.Calls.{Prepares}
 use Rattle.mv_layout.specs.declared.Config.{Config}
 use Rattle.object_lock.specs.mv_core.declared.shared.Shared.{Shared}
 use Rattle.object_lock.specs.mv_core.declared.shared.Pass.{Pass}
-use Rattle.object_lock.specs.mv_core.declared.view.View.{View}
+use Rattle.object_lock.specs.mv_core.declared.view.Knowledge.{Knowledge}
 use Rattle.object_lock.specs.mv_core.Passes.{view, config_of, IsSame}
 use Rattle.object_lock.specs.mv_core.Rings.{spare_count}
 use Rattle.object_lock.specs.mv_core.Known.{Known}
@@ -22,7 +22,7 @@ use Rattle.object_lock.specs.seat_log.Notes.{Noted}
 use Rattle.object_lock.specs.seat_log.Stands.{is_free, Stands}
 use Rattle.log_reclaim.specs.Parts.{IsReclaimKind, Reclaims, Shrinks, grace_load}
 use Rattle.log_reclaim.specs.Rounds.{FreesFirst}
-use Rattle.mvrlu.specs.declared.places.Place.{Place}
+use Rattle.mvrlu.specs.declared.places.SeatState.{SeatState}
 use Rattle.mvrlu.specs.Placed.{Placed, placed, seat_from, IsIdle, Fits}
 use Rattle.mvrlu.proofs.Names.{fits_on}
 use Rattle.mvrlu.proofs.Behind.{Lent}
@@ -42,10 +42,10 @@ module _ (starts : State → Type 0) (allows : List ℕ → State → Writes →
   trail_is = made_since p.view.trail q.view.trail made reclaims.trail
 
   number_is : q.view.number ≡ p.view.number
-  number_is = ap (λ (x : View). x.number) reclaims.rest
+  number_is = ap (λ (x : Knowledge). x.number) reclaims.rest
 
   base_is : q.view.base ≡ p.view.base
-  base_is = ap (λ (x : View). x.base) reclaims.rest
+  base_is = ap (λ (x : Knowledge). x.base) reclaims.rest
 
   pub idle_after : q.log.built ≡ p.log.built → IsIdle starts allows q
   idle_after built = record {
@@ -55,7 +55,7 @@ module _ (starts : State → Type 0) (allows : List ℕ → State → Writes →
 
   pub prepared : Prepares (seat_from p) (seat_from q)
   prepared = record {
-    continues = continues p q config table made number_is (ap (λ (x : View). x.start) reclaims.rest) base_is reclaims.seen reclaims.trail;
+    continues = continues p q config table made number_is (ap (λ (x : Knowledge). x.start) reclaims.rest) base_is reclaims.seen reclaims.trail;
     mine = reclaims.mine;
     names_no_commit = ap commit_exchanges trail_is ∙ none_named IsReclaimKind no_name made reclaims.kinds;
   }
@@ -101,7 +101,7 @@ pub record HasReclaimed {P : Type 0} {g : Ghosts P} (s : Shared P) (old : Placed
   pub lawful : IsSeat g.start g.allowed (seat_from (placed pass log))
   pub aborts : log.aborts ≡ old.log.aborts
 
-module _ {P : Type 0} {g : Ghosts P} {s : Shared P} {old : Placed} {i : Place P g} (l : Lent s (IsIdle g.start g.allowed) old i) (pass : Pass P g)
+module _ {P : Type 0} {g : Ghosts P} {s : Shared P} {old : Placed} {i : SeatState P g} (l : Lent s (IsIdle g.start g.allowed) old i) (pass : Pass P g)
     (log : Noted) (same : IsSame i.pass pass) (freed : ℕ) (shrinks : Shrinks i.log log freed) (stands : Stands (config_of s) (view pass) log)
     (made : List Step) (reclaims : Reclaims (view i.pass) (view pass) made) where
   idle_on : IsIdle g.start g.allowed (placed pass log)

@@ -4,7 +4,7 @@ use Rattle.mv_history.specs.State.{State, Writes}
 use Rattle.mv_history.specs.declared.Step.{Step}
 use Rattle.mv_history.specs.Trail.{clock_exchanges}
 use Rattle.mv_layout.specs.declared.Config.{Config}
-use Rattle.object_lock.specs.mv_core.declared.view.View.{View}
+use Rattle.object_lock.specs.mv_core.declared.view.Knowledge.{Knowledge}
 use Rattle.object_lock.specs.mv_core.Known.{Known}
 use Rattle.object_lock.specs.seat_log.Notes.{Noted}
 use Rattle.object_lock.specs.seat_log.Stands.{Stands}
@@ -17,7 +17,7 @@ use Rattle.mvrlu.specs.Holding.{Rounds}
 use Rattle.mvrlu.proofs.rooms.Left.{trail_is, prepared, freed_is, spare_is, some_step, few_steps}
 
 -- what a round with write-backs has told of the views and logs before and after it
-pub record HasRounded (c : Config) (v w : View) (l m : Noted) (t : Tidy) : Type 0 where
+pub record HasRounded (c : Config) (v w : Knowledge) (l m : Noted) (t : Tidy) : Type 0 where
   pub made : List Step
   pub stands : Stands c w m
   pub live : t.live ≡ length m.live
@@ -31,7 +31,7 @@ pub record HasRounded (c : Config) (v w : View) (l m : Noted) (t : Tidy) : Type 
   pub trail : length w.trail ≤ length v.trail + (4 + c.seats + 20 * c.slots)
 
 -- that, by the numbers that the seat's place has
-pub has_rounded : (c d : Config) → c ≡ d → (v w : View) (l m : Noted) (t : Tidy) → Stands c w m → t.live ≡ length m.live → Shrinks l m t.freed
+pub has_rounded : (c d : Config) → c ≡ d → (v w : Knowledge) (l m : Noted) (t : Tidy) → Stands c w m → t.live ≡ length m.live → Shrinks l m t.freed
     → w.past.rests ≡ v.past.rests
     → (made : List Step) × Reclaims v w made × SweptSo c w m made true × HeldSo (RoundHolds c w m made true) m t.held × (clock_exchanges made ≡ [])
     × FreesFirst c l made false

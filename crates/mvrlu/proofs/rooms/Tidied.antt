@@ -8,7 +8,7 @@ use Rattle.mv_history.specs.declared.answers.Holder.{Holder}
 use Rattle.mv_history.specs.declared.answers.Holder.TheVariants.{Mark, Above, Fresh, End}
 use Rattle.mv_history.specs.Trail.{clock_exchanges}
 use Rattle.mv_layout.specs.declared.Config.{Config}
-use Rattle.object_lock.specs.mv_core.declared.view.View.{View}
+use Rattle.object_lock.specs.mv_core.declared.view.Knowledge.{Knowledge}
 use Rattle.object_lock.specs.mv_core.Known.{Known}
 use Rattle.object_lock.specs.seat_log.Notes.{Noted}
 use Rattle.object_lock.specs.seat_log.Stands.{Stands}
@@ -23,7 +23,7 @@ use Rattle.mvrlu.specs.Holding.{Tidies, TidiesAlone}
 use Rattle.mvrlu.proofs.rooms.Left.{trail_is, idle_after, prepared, freed_is, spare_is, live_is, some_step, few_steps}
 
 -- what a tidy has told of the views and logs before and after it
-pub record HasTidied (c : Config) (v w : View) (l m : Noted) (t : Tidy) : Type 0 where
+pub record HasTidied (c : Config) (v w : Knowledge) (l m : Noted) (t : Tidy) : Type 0 where
   pub made : List Step
   pub stands : Stands c w m
   pub live : t.live ≡ length m.live
@@ -41,7 +41,7 @@ pub record HasTidied (c : Config) (v w : View) (l m : Noted) (t : Tidy) : Type 0
   pub alone : c.seats ≡ 1 → v.base + length v.past.seen < 35184372088831 → m.live ≡ []
 
 -- that, by the numbers that the seat's place has
-pub has_tidied : (c d : Config) → c ≡ d → (v w : View) (l m : Noted) (t : Tidy) → Stands c w m → t.live ≡ length m.live → Shrinks l m t.freed
+pub has_tidied : (c d : Config) → c ≡ d → (v w : Knowledge) (l m : Noted) (t : Tidy) → Stands c w m → t.live ≡ length m.live → Shrinks l m t.freed
     → RestsOnce v w
     → (made : List Step) × Reclaims v w made × SweptSo c w m made false × HeldSo (TidyHolds c w m made) m t.held × (length (clock_exchanges made) ≤ 1)
     × WritesBackSo c w m made × FreesFirst c l made true × RestsWhereDue c w l made

@@ -6,7 +6,7 @@ use Rattle.std.specs.Prelude.{None}
 use Rattle.mv_history.specs.declared.Step.{Step}
 use Rattle.mv_history.specs.declared.StepKind.TheVariants.{JoinSeat}
 use Rattle.mv_layout.specs.declared.Config.{Config}
-use Rattle.object_lock.specs.mv_core.declared.view.View.{View}
+use Rattle.object_lock.specs.mv_core.declared.view.Knowledge.{Knowledge}
 use Rattle.object_lock.specs.mv_core.SeatSteps.{joined}
 use Rattle.mvrlu.specs.declared.domain.Seat.{Seat}
 use Rattle.mvrlu.specs.Joined.{IsKept, AreJoining}
@@ -21,7 +21,7 @@ all_front P (y ∷ xs) x all =
 
 module _ {P : Type 0} {rules : _} where
   -- the first of them alone
-  pub joining_first : (all left : List (Seat P rules)) (first : Seat P rules) (v : View) → all ≡ left ++ first ∷ [] → v ≡ first.idle.view
+  pub joining_first : (all left : List (Seat P rules)) (first : Seat P rules) (v : Knowledge) → all ≡ left ++ first ∷ [] → v ≡ first.idle.view
       → AreJoining all left v
   joining_first all left first v split view_is = record {
     met = first ∷ [];
@@ -29,20 +29,21 @@ module _ {P : Type 0} {rules : _} where
     first = first;
     there = (0, omega arith, refl);
     each = All-cons (λ (s : Seat P rules). IsKept (seat_of first).trail v (seat_of s)) first []
-        (kept_own v (seat_of first) (ap (λ (u : View). u.number) view_is) (sym (ap (λ (u : View). u.start) view_is)) (sym (ap (λ (u : View). u.base) view_is))
-        (ap (λ (u : View). u.past.seen) view_is) (ap (λ (u : View). u.past.mine) view_is) (ap (λ (u : View). u.past.rests) view_is))
+        (kept_own v (seat_of first) (ap (λ (u : Knowledge). u.number) view_is) (sym (ap (λ (u : Knowledge). u.start) view_is))
+        (sym (ap (λ (u : Knowledge). u.base) view_is))
+        (ap (λ (u : Knowledge). u.past.seen) view_is) (ap (λ (u : Knowledge). u.past.mine) view_is) (ap (λ (u : Knowledge). u.past.rests) view_is))
         (All-nil (λ (s : Seat P rules). IsKept (seat_of first).trail v (seat_of s)));
     steps = [];
-    trail = ap (λ (u : View). u.trail) view_is ∙ sym (append-nil first.idle.view.trail);
+    trail = ap (λ (u : Knowledge). u.trail) view_is ∙ sym (append-nil first.idle.view.trail);
     count = refl;
     kinds = All-nil (λ (s : Step). s.kind ≡ JoinSeat);
   }
 
   -- and one more
-  pub joining_next : (c : Config) (all left rest : List (Seat P rules)) (other : Seat P rules) (v u : View) → AreJoining all left v
+  pub joining_next : (c : Config) (all left rest : List (Seat P rules)) (other : Seat P rules) (v u : Knowledge) → AreJoining all left v
       → left ≡ rest ++ other ∷ [] → u ≡ other.idle.view → u.start ≡ v.start → u.base ≡ v.base → AreJoining all rest (joined c v u)
   joining_next c all left rest other v u k split view_is start base =
-      let w : View = joined c v u in
+      let w : Knowledge = joined c v u in
       let t : List Step = (seat_of k.first).trail in
       let join : Step = record { kind = JoinSeat; word = 0; found = None; stored = None } in record {
         met = other ∷ k.met;
@@ -50,8 +51,8 @@ module _ {P : Type 0} {rules : _} where
         first = k.first;
         there = contains_tail k.met other k.first k.there;
         each = All-cons (λ (s : Seat P rules). IsKept t w (seat_of s)) other k.met
-            (kept_other c t v u (seat_of other) (sym (ap (λ (x : View). x.start) view_is) ∙ start) (sym (ap (λ (x : View). x.base) view_is) ∙ base)
-            (ap (λ (x : View). x.number) view_is) (ap (λ (x : View). x.past) view_is) (ap (λ (x : View). x.trail) view_is))
+            (kept_other c t v u (seat_of other) (sym (ap (λ (x : Knowledge). x.start) view_is) ∙ start) (sym (ap (λ (x : Knowledge). x.base) view_is) ∙ base)
+            (ap (λ (x : Knowledge). x.number) view_is) (ap (λ (x : Knowledge). x.past) view_is) (ap (λ (x : Knowledge). x.trail) view_is))
             (All-weaker (λ (s : Seat P rules). IsKept t v (seat_of s)) (λ (s : Seat P rules). IsKept t w (seat_of s))
             (λ s kept. kept_on t v w (seat_of s) (joins_on c v u) kept) k.met k.each);
         steps = k.steps ++ join ∷ [];

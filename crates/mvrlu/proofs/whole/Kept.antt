@@ -8,9 +8,9 @@ use Rattle.mv_history.specs.declared.Entry.{Entry}
 use Rattle.mv_history.specs.declared.Step.{Step}
 use Rattle.mv_history.specs.State.{commits_of, rests_of}
 use Rattle.mv_layout.specs.declared.Config.{Config}
-use Rattle.object_lock.specs.mv_core.declared.view.View.{View}
+use Rattle.object_lock.specs.mv_core.declared.view.Knowledge.{Knowledge}
 use Rattle.object_lock.specs.mv_core.declared.view.Past.{Past}
-use Rattle.object_lock.specs.mv_core.declared.view.Note.{Note}
+use Rattle.object_lock.specs.mv_core.declared.view.JoinedSeat.{JoinedSeat}
 use Rattle.object_lock.specs.mv_core.HistoryFacts.{BeginsWith}
 use Rattle.object_lock.specs.mv_core.SeatSteps.{joined, note_of, AreJoined}
 use Rattle.mvrlu.specs.Joined.{IsOwn, IsNoted, IsKept}
@@ -22,16 +22,16 @@ pub begins_long : (h g front : List Entry) → BeginsWith h g → BeginsWith g f
 begins_long h g front a b = (b.0 ++ a.0, a.1 ∙ ap (λ x. x ++ a.0) b.1 ∙ append_assoc front b.0 a.0)
 
 -- the later view may have seen more, and has more notes
-pub record GoesOn (v w : View) : Type 0 where
+pub record GoesOn (v w : Knowledge) : Type 0 where
   pub number : w.number ≡ v.number
   pub start : w.start ≡ v.start
   pub base : w.base ≡ v.base
   pub mine : w.past.mine ≡ v.past.mine
   pub rests : w.past.rests ≡ v.past.rests
   pub seen : BeginsWith w.past.seen v.past.seen
-  pub notes : (more : List Note) × (w.notes ≡ v.notes ++ more)
+  pub notes : (more : List JoinedSeat) × (w.notes ≡ v.notes ++ more)
 
-pub kept_on : (t : List Step) (v w : View) (s : history.Seat) → GoesOn v w → IsKept t v s → IsKept t w s
+pub kept_on : (t : List Step) (v w : Knowledge) (s : history.Seat) → GoesOn v w → IsKept t v s → IsKept t w s
 kept_on t v w s on k = record {
   start = k.start ∙ sym on.start;
   base = k.base ∙ sym on.base;
@@ -53,7 +53,7 @@ kept_on t v w s on k = record {
       k.past;
 }
 
-pub joins_on : (c : Config) (v other : View) → GoesOn v (joined c v other)
+pub joins_on : (c : Config) (v other : Knowledge) → GoesOn v (joined c v other)
 joins_on c v other = record {
   number = refl;
   start = refl;
@@ -65,7 +65,7 @@ joins_on c v other = record {
 }
 
 -- a seat's own view keeps what it knows
-pub kept_own : (v : View) (s : history.Seat) → v.number ≡ s.number → s.start ≡ v.start → s.base ≡ v.base → v.past.seen ≡ s.seen → v.past.mine ≡ s.mine
+pub kept_own : (v : Knowledge) (s : history.Seat) → v.number ≡ s.number → s.start ≡ v.start → s.base ≡ v.base → v.past.seen ≡ s.seen → v.past.mine ≡ s.mine
     → v.past.rests ≡ s.rests → IsKept s.trail v s
 kept_own v s number start base seen mine rests = record {
   start = start;
@@ -74,7 +74,7 @@ kept_own v s number start base seen mine rests = record {
 }
 
 -- what the joined seat knew is kept
-pub kept_other : (c : Config) (t : List Step) (v other : View) (s : history.Seat) → s.start ≡ v.start → s.base ≡ v.base → other.number ≡ s.number
+pub kept_other : (c : Config) (t : List Step) (v other : Knowledge) (s : history.Seat) → s.start ≡ v.start → s.base ≡ v.base → other.number ≡ s.number
     → other.past ≡ record { seen = s.seen; mine = s.mine; rests = s.rests } → other.trail ≡ s.trail → IsKept t (joined c v other) s
 kept_other c t v other s start base number past steps = record {
   start = start;
@@ -96,7 +96,7 @@ pub record KnowsIn (c : Config) (h : List Entry) (s : history.Seat) : Type 0 whe
   pub rests : s.rests ≡ rests_of s.number h
 
 -- what is kept is told of, where the whole history is h
-pub knows_in : (c : Config) (t : List Step) (v : View) (h : List Entry) (s : history.Seat) → v.number < c.seats → AreJoined c v h → IsKept t v s
+pub knows_in : (c : Config) (t : List Step) (v : Knowledge) (h : List Entry) (s : history.Seat) → v.number < c.seats → AreJoined c v h → IsKept t v s
     → KnowsIn c h s
 knows_in c t v h s range told kept =
     ⊎_elim

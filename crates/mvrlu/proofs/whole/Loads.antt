@@ -11,8 +11,8 @@ use Rattle.mv_history.specs.Laws.{IsSeat-prop}
 use Rattle.mv_history.specs.Meaning.{IsSeat}
 use Rattle.mv_history.proofs.Histories.{IsLegal-front}
 use Rattle.mv_layout.specs.declared.Config.{Config}
-use Rattle.object_lock.specs.mv_core.declared.view.View.{View}
-use Rattle.object_lock.specs.mv_core.declared.view.Section.{Section}
+use Rattle.object_lock.specs.mv_core.declared.view.Knowledge.{Knowledge}
+use Rattle.object_lock.specs.mv_core.declared.view.OwnSection.{OwnSection}
 use Rattle.object_lock.specs.mv_core.Known.{Known}
 use Rattle.object_lock.specs.mv_core.Passes.{seat_meant}
 use Rattle.object_lock.specs.mv_core.Views.{time_in}
@@ -26,24 +26,24 @@ use Rattle.mvrlu.specs.Whole.{IsSound, AreApart, whole_from}
 use Rattle.mvrlu.proofs.whole.Named.{apart_notes}
 
 -- what the view means then, in a domain of these numbers
-pub record HasRead (c : Config) (tables : List LogTable) (w : View) : Type 0 where
+pub record HasRead (c : Config) (tables : List LogTable) (w : Knowledge) : Type 0 where
   pub sound : IsSound (whole_from c tables w)
   pub numbered : AreApart (whole_from c tables w)
   pub may : MayWalk w
   pub after : w.base ≤ time_at w
   pub seen : time_at w ≤ w.base + length w.past.seen
 
-module _ (c : Config) (tables : List LogTable) (v u : View) (base : v.base ≡ c.base)
+module _ (c : Config) (tables : List LogTable) (v u : Knowledge) (base : v.base ≡ c.base)
     (first : ℕ) (h : List Entry) (time : ℕ) (begins : Begins c (joined_loaded c v first h) u time)
     (last : ℕ) (g : List Entry) (all : IsWhole c u last g) (tells : AreJoined c u g) where
-  abbrev w : View
+  abbrev w : Knowledge
   w = joined_loaded c u last g
 
   base_is : u.base ≡ c.base
-  base_is = ap (λ (x : View). x.base) begins.rest ∙ base
+  base_is = ap (λ (x : Knowledge). x.base) begins.rest ∙ base
 
   at_is : time_at w ≡ c.base + begins.at
-  at_is = ap (λ (s : Section). time_in s) (ap inside_of begins.phase) ∙ begins.word_is ∙ begins.time_is
+  at_is = ap (λ (s : OwnSection). time_in s) (ap inside_of begins.phase) ∙ begins.word_is ∙ begins.time_is
 
   after : w.base ≤ time_at w
   after = let b = base_is in let t = at_is in omega arith
@@ -106,11 +106,11 @@ module _ (c : Config) (tables : List LogTable) (v u : View) (base : v.base ≡ c
 
 -- a pass with a load of CLOCK, an entering and a load of CLOCK
 pub has_read : (starts : State → Type 0) (allows : List ℕ → State → Writes → Type 0) → ((s : State) → IsProp (starts s))
-    → ((t : List ℕ) (s : State) (x : Writes) → IsProp (allows t s x)) → (c : Config) (tables : List LogTable) (v x u w : View) (first last time : ℕ)
+    → ((t : List ℕ) (s : State) (x : Writes) → IsProp (allows t s x)) → (c : Config) (tables : List LogTable) (v x u w : Knowledge) (first last time : ℕ)
     → v.base ≡ c.base
     → ((h : List Entry) × IsWhole c v first h × AreJoined c v h × (x ≡ joined_loaded c v first h)) → Begins c x u time
     → ((g : List Entry) × IsWhole c u last g × AreJoined c u g × (w ≡ joined_loaded c u last g)) → ∥ Known starts allows w ∥₁ → HasRead c tables w
 has_read starts allows one_start one_allowed c tables v x u w first last time base one begins two known =
-    let begun = subst (λ (y : View). Begins c y u time) one.3 begins in
-    let knows = subst (λ (y : View). ∥ Known starts allows y ∥₁) two.3 known in
+    let begun = subst (λ (y : Knowledge). Begins c y u time) one.3 begins in
+    let knows = subst (λ (y : Knowledge). ∥ Known starts allows y ∥₁) two.3 known in
     subst (HasRead c tables) (sym two.3) (read c tables v u base first one.0 time begun last two.0 two.1 two.2 starts allows one_start one_allowed knows)

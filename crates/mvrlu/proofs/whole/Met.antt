@@ -14,8 +14,8 @@ use Rattle.mv_history.specs.State.{State, Writes, maker_of, commits_of, rests_of
 use Rattle.mv_history.specs.Laws.{IsSeat-prop}
 use Rattle.mv_history.specs.Meaning.{IsSeat}
 use Rattle.mv_layout.specs.declared.Config.{Config}
-use Rattle.object_lock.specs.mv_core.declared.view.View.{View}
-use Rattle.object_lock.specs.mv_core.declared.view.Section.{Section}
+use Rattle.object_lock.specs.mv_core.declared.view.Knowledge.{Knowledge}
+use Rattle.object_lock.specs.mv_core.declared.view.OwnSection.{OwnSection}
 use Rattle.object_lock.specs.mv_core.HistoryFacts.{BeginsWith}
 use Rattle.object_lock.specs.mv_core.Known.{Known}
 use Rattle.object_lock.specs.mv_core.Passes.{seat_meant}
@@ -38,17 +38,17 @@ use Rattle.mvrlu.proofs.whole.Kept.{GoesOn, KnowsIn, begins_long, kept_on, knows
 longer : {A : Type 0} (all front more xs : List A) → all ≡ front ++ more → all ++ xs ≡ front ++ (more ++ xs)
 longer all front more xs e = ap (λ t. t ++ xs) e ∙ append_assoc front more xs
 
-module _ {P : Type 0} {rules : _} (c : Config) (tables : List LogTable) (seats : List (Seat P rules)) (v : View) (joining : AreJoining seats [] v)
+module _ {P : Type 0} {rules : _} (c : Config) (tables : List LogTable) (seats : List (Seat P rules)) (v : Knowledge) (joining : AreJoining seats [] v)
     (many : length seats ≡ c.seats) (apart : AllPairs (λ s t. (seat_of s).number ≢ (seat_of t).number) seats) (range : v.number < c.seats)
     (base : v.base ≡ c.base)
     (first : ℕ) (h : List Entry) (whole : IsWhole c v first h) (told : AreJoined c v h)
-    (u : View) (time : ℕ) (begins : Begins c (joined_loaded c v first h) u time)
+    (u : Knowledge) (time : ℕ) (begins : Begins c (joined_loaded c v first h) u time)
     (last : ℕ) (g : List Entry) (all : IsWhole c u last g) (tells : AreJoined c u g) where
   -- the view of the first load, and that of the last
-  abbrev v1 : View
+  abbrev v1 : Knowledge
   v1 = joined_loaded c v first h
 
-  abbrev w : View
+  abbrev w : Knowledge
   w = joined_loaded c u last g
 
   -- the trail of the seat that is left
@@ -71,13 +71,13 @@ module _ {P : Type 0} {rules : _} (c : Config) (tables : List LogTable) (seats :
 
   enter_on : GoesOn v1 u
   enter_on = record {
-    number = ap (λ (x : View). x.number) begins.rest;
-    start = ap (λ (x : View). x.start) begins.rest;
-    base = ap (λ (x : View). x.base) begins.rest;
-    mine = ap (λ (x : View). x.past.mine) begins.rest;
-    rests = ap (λ (x : View). x.past.rests) begins.rest;
+    number = ap (λ (x : Knowledge). x.number) begins.rest;
+    start = ap (λ (x : Knowledge). x.start) begins.rest;
+    base = ap (λ (x : Knowledge). x.base) begins.rest;
+    mine = ap (λ (x : Knowledge). x.past.mine) begins.rest;
+    rests = ap (λ (x : Knowledge). x.past.rests) begins.rest;
     seen = begins_long u.past.seen (take begins.at u.past.seen) h (drop begins.at u.past.seen, sym (take-append-drop begins.at u.past.seen)) begins.snapshot;
-    notes = ([], ap (λ (x : View). x.notes) begins.rest ∙ sym (append-nil v.notes));
+    notes = ([], ap (λ (x : Knowledge). x.notes) begins.rest ∙ sym (append-nil v.notes));
   }
 
   knows : (s : Seat P rules) → IsKept t v (seat_of s) → KnowsIn c h (seat_of s)
@@ -133,7 +133,7 @@ module _ {P : Type 0} {rules : _} (c : Config) (tables : List LogTable) (seats :
   pub time_is : time_at w ≡ w.base + length g
   time_is =
       let at = at_is in
-      let here = ap (λ (s : Section). time_in s) (ap inside_of begins.phase) ∙ begins.word_is ∙ begins.time_is in
+      let here = ap (λ (s : OwnSection). time_in s) (ap inside_of begins.phase) ∙ begins.word_is ∙ begins.time_is in
       let same_base = enter_on.base ∙ base in
       omega arith
 
@@ -242,21 +242,21 @@ module _ {P : Type 0} {rules : _} (c : Config) (tables : List LogTable) (seats :
 
 -- what a view means after all this
 pub record HasMet {P : Type 0} {rules : _} (starts : State → Type 0) (allows : List ℕ → State → Writes → Type 0) (c : Config)
-    (tables : List LogTable) (seats : List (Seat P rules)) (w : View) : Type 0 where
+    (tables : List LogTable) (seats : List (Seat P rules)) (w : Knowledge) : Type 0 where
   pub law : LawOfTheWhole starts allows seats (whole_from c tables w)
   pub short : IsAtMostBehindOneOf seats (whole_from c tables w) (c.seats + 7)
 
 -- the pass of joined seats, with a load of CLOCK, an entering and a load of CLOCK
 pub has_met : {P : Type 0} {rules : _} (starts : State → Type 0) (allows : List ℕ → State → Writes → Type 0) → ((s : State) → IsProp (starts s))
     → ((t : List ℕ) (s : State) (x : Writes) → IsProp (allows t s x)) → (c : Config) (tables : List LogTable) (seats : List (Seat P rules))
-    (v x u w : View) (first last time : ℕ)
+    (v x u w : Knowledge) (first last time : ℕ)
     → length seats ≡ c.seats → AllPairs (λ s t. (seat_of s).number ≢ (seat_of t).number) seats → v.number < c.seats → v.base ≡ c.base
     → AreJoining seats [] v → ((h : List Entry) × IsWhole c v first h × AreJoined c v h × (x ≡ joined_loaded c v first h)) → Begins c x u time
     → ((g : List Entry) × IsWhole c u last g × AreJoined c u g × (w ≡ joined_loaded c u last g)) → ∥ Known starts allows w ∥₁
     → HasMet starts allows c tables seats w
 has_met {P} {rules} starts allows one_start one_allowed c tables seats v x u w first last time many apart range base joining one begins two known =
-    let begun = subst (λ (y : View). Begins c y u time) one.3 begins in
-    let knows = subst (λ (y : View). ∥ Known starts allows y ∥₁) two.3 known in
+    let begun = subst (λ (y : Knowledge). Begins c y u time) one.3 begins in
+    let knows = subst (λ (y : Knowledge). ∥ Known starts allows y ∥₁) two.3 known in
     subst (HasMet starts allows c tables seats) (sym two.3) (record {
       law = law c tables seats v joining many apart range base first one.0 one.1 one.2 u time begun last two.0 two.1 two.2
           starts allows one_start one_allowed knows;

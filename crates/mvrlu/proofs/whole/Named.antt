@@ -9,8 +9,8 @@ use lib.ListN.{get_elem?}
 use Rattle.mv_history.specs.declared.Step.{Step}
 use Rattle.mv_history.specs.declared.StepKind.TheVariants.{JoinSeat, LoadJoined}
 use Rattle.mv_history.specs.Meaning as history
-use Rattle.object_lock.specs.mv_core.declared.view.View.{View}
-use Rattle.object_lock.specs.mv_core.declared.view.Note.{Note}
+use Rattle.object_lock.specs.mv_core.declared.view.Knowledge.{Knowledge}
+use Rattle.object_lock.specs.mv_core.declared.view.JoinedSeat.{JoinedSeat}
 use Rattle.object_lock.specs.reader_marks.Sections.{IsEnterStep}
 use Rattle.mvrlu.specs.Joined.{IsOwn, IsNoted, IsKept}
 use Rattle.mvrlu.specs.MetSeats.{MetSeat, met_seat, noted_seat, IsLookStep, MeetsBy}
@@ -25,18 +25,18 @@ contains_map f (y ∷ xs) x (suc k, lt, e) =
     let r = contains_map f xs x (k, omega (arith, lt), e) in let within = r.1 in (suc r.0, omega arith, r.2)
 
 -- no two of the seats of these notes have one number
-pub apart_notes : (ns : List Note)
-    → ((a b : ℕ) (m n : Note) → get_elem? ns a ≡ some m → get_elem? ns b ≡ some n → m.number ≡ n.number → a ≡ b)
+pub apart_notes : (ns : List JoinedSeat)
+    → ((a b : ℕ) (m n : JoinedSeat) → get_elem? ns a ≡ some m → get_elem? ns b ≡ some n → m.number ≡ n.number → a ≡ b)
     → AllPairs (λ (m n : MetSeat). m.number ≢ n.number) (map noted_seat ns)
 apart_notes [] once = λ i j d lt within. absurd (omega arith)
 apart_notes (x ∷ ns) once =
     AllPairs-cons (λ (m n : MetSeat). m.number ≢ n.number) (noted_seat x) (map noted_seat ns)
     (All-map (λ (m : MetSeat). x.number ≢ m.number) noted_seat ns
-    (all_from_places (λ (n : Note). x.number ≢ n.number) ns (λ k n e same. let far = once 0 (suc k) x n refl e same in absurd (omega arith))))
+    (all_from_places (λ (n : JoinedSeat). x.number ≢ n.number) ns (λ k n e same. let far = once 0 (suc k) x n refl e same in absurd (omega arith))))
     (apart_notes ns (λ a b m n e f same. let next = once (suc a) (suc b) m n e f same in omega arith))
 
 -- a seat of which this is kept is one of those that met
-pub named_by : (t : List Step) (w : Whole) (u : View) (s : history.Seat) → w.number ≡ u.number → w.others ≡ map noted_seat u.notes
+pub named_by : (t : List Step) (w : Whole) (u : Knowledge) (s : history.Seat) → w.number ≡ u.number → w.others ≡ map noted_seat u.notes
     → MeetsBy w.config.seats t w.trail → IsKept t u s → IsMetSeat w s
 named_by t w u s number others steps k =
     ⊎_elim

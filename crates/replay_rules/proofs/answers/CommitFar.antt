@@ -3,7 +3,7 @@ use Rattle.std.proofs.Common.{◌≡◌, ◌≢◌, ℕ, ◌+◌, ◌-◌, ◌<�
 use Rattle.mv_history.specs.declared.Entry.{Entry}
 use Rattle.mv_layout.specs.Words.{clock_time_of}
 use Rattle.mv_core.proofs.Terms.{Config}
-use Rattle.mv_core.specs.declared.view.View.{View}
+use Rattle.mv_core.specs.declared.view.Knowledge.{Knowledge}
 use Rattle.mv_core.specs.declared.view.Phase.TheVariants.{Inside}
 use Rattle.mv_core.specs.declared.view.Mode.TheVariants.{Open}
 use Rattle.mv_core.specs.Known.{Known}
@@ -14,12 +14,12 @@ use Rattle.mv_core.specs.NameSteps.{commit_named}
 use Rattle.reader_marks.specs.Sections.{section_in}
 use Rattle.commit_clock.specs.Helps.{Helps}
 use Rattle.commit_abort.specs.Finishes.{IsFinishStep}
-use Rattle.replay_rules.specs.declared.seats.Version.{Version}
+use Rattle.replay_rules.specs.declared.seats.NotedVersion.{NotedVersion}
 use Rattle.replay_rules.specs.declared.seats.Helping.{Helping}
 use Rattle.replay_rules.specs.declared.seats.Ending.{Ending}
 use Rattle.replay_rules.specs.declared.seats.Ending.TheVariants.{LoadNow, Name, StampOwn, StoreSuper, Unlock, LoadDeath, Leave}
 use Rattle.replay_rules.specs.declared.seats.Leaving.TheVariants.{Plainly, WithCommit, WithAbort}
-use Rattle.replay_rules.specs.declared.seats.Task.TheVariants as task
+use Rattle.replay_rules.specs.declared.seats.NextStep.TheVariants as task
 use Rattle.replay_rules.specs.Kinds.{no_tag}
 use Rattle.replay_rules.specs.States.{any_commit, any_start}
 use Rattle.replay_rules.proofs.runs.Sections.{helped_word}
@@ -28,14 +28,14 @@ use Rattle.replay_rules.proofs.answers.Helps.{HelpFar}
 use Rattle.replay_rules.proofs.answers.Progress.{FarOf}
 
 -- the section that a commit is of: it is open and past its help, and holds what the notes say
-pub record Opens (v : View) (log : List Version) (from : ℕ) : Type 0 where
+pub record Opens (v : Knowledge) (log : List NotedVersion) (from : ℕ) : Type 0 where
   pub phase : v.phase ≡ Inside (section_in v)
   pub open_is : (section_in v).mode ≡ Open
   pub past_help : IsPastHelp v.clocks (section_in v)
   pub held : held_count v.ring + from ≡ length log
 
 -- the first step of the commit loaded this word of CLOCK, whose time isn't the last one
-pub record LoadedNow (c : Config) (v x : View) (word : ℕ) : Type 0 where
+pub record LoadedNow (c : Config) (v x : Knowledge) (word : ℕ) : Type 0 where
   pub history : List Entry
   pub whole : IsWhole c v word history
   pub is : x ≡ check_loaded c v word history
@@ -43,21 +43,21 @@ pub record LoadedNow (c : Config) (v x : View) (word : ℕ) : Type 0 where
   pub early : clock_time_of word ≢ 35184372088831
 
 -- the word that the commit loaded is being helped
-pub record HelpingNow (c : Config) (v w : View) (step : Helping) : Type 0 where
-  pub loaded_by : View
+pub record HelpingNow (c : Config) (v w : Knowledge) (step : Helping) : Type 0 where
+  pub loaded_by : Knowledge
   pub loaded : LoadedNow c v loaded_by (helped_word step)
   pub far : HelpFar c loaded_by w step
 
 -- and was
-pub record HelpedNow (c : Config) (v y : View) (word : ℕ) : Type 0 where
-  pub loaded_by : View
+pub record HelpedNow (c : Config) (v y : Knowledge) (word : ℕ) : Type 0 where
+  pub loaded_by : Knowledge
   pub loaded : LoadedNow c v loaded_by word
   pub helps : Helps c loaded_by y word
 
 -- the exchange of CLOCK from that word was won, and named the commit of this time
-pub record NamedNow (c : Config) (v z : View) (time : ℕ) : Type 0 where
+pub record NamedNow (c : Config) (v z : Knowledge) (time : ℕ) : Type 0 where
   pub word : ℕ
-  pub before : View
+  pub before : Knowledge
   pub helped : HelpedNow c v before word
   pub time_is : time ≡ clock_time_of word + 1
   pub history : List Entry
@@ -65,18 +65,18 @@ pub record NamedNow (c : Config) (v z : View) (time : ℕ) : Type 0 where
   pub is : z ≡ commit_named c before (section_in v) no_tag word history
 
 -- Since the view z at most so many steps were made, each of a finish. Nothing else changed but the phase, the clock words and the log.
-pub record FinishingBy (z w : View) (made : ℕ) : Type 0 where
+pub record FinishingBy (z w : Knowledge) (made : ℕ) : Type 0 where
   pub trail : Grows IsFinishStep made z.trail w.trail
   pub rest : w ≡ record z { phase = w.phase; clocks = w.clocks; ring = w.ring; trail = w.trail }
 
 -- a commit that was named is being finished
-pub record Finishing (c : Config) (v w : View) (time made : ℕ) : Type 0 where
-  pub at_name : View
+pub record Finishing (c : Config) (v w : Knowledge) (time made : ℕ) : Type 0 where
+  pub at_name : Knowledge
   pub named : NamedNow c v at_name time
   pub by_steps : FinishingBy at_name w made
 
 -- how far a commit has come, by its next step
-abbrev pub CommittingFar : Config → View → View → List Version → ℕ → Ending → Type 0
+abbrev pub CommittingFar : Config → Knowledge → Knowledge → List NotedVersion → ℕ → Ending → Type 0
 CommittingFar c v w log from LoadNow = Opens v log from × (w ≡ v)
 CommittingFar c v w log from (Name word new) = Opens v log from × HelpedNow c v w word
 CommittingFar c v w log from (StampOwn first time) = Opens v log from × NamedNow c v w time

@@ -5,16 +5,16 @@ use Rattle.mv_history.specs.declared.Step.{Step}
 use Rattle.mv_history.specs.declared.answers.Rival.{Rival}
 use Rattle.mv_layout.specs.Words.{clock_time_of, clock_seat_of, clock_slot_of}
 use Rattle.mv_core.proofs.Terms.{dite, ℕ_discrete, Config, Checked, Clock, Stamp}
-use Rattle.mv_core.specs.declared.view.View.{View}
+use Rattle.mv_core.specs.declared.view.Knowledge.{Knowledge}
 use Rattle.mv_core.specs.declared.view.Phase.TheVariants.{Outside, Inside}
-use Rattle.mv_core.specs.declared.view.Section.{Section}
-use Rattle.mv_core.specs.declared.view.Walk.TheVariants.{Nowhere}
+use Rattle.mv_core.specs.declared.view.OwnSection.{OwnSection}
+use Rattle.mv_core.specs.declared.view.WalkStage.TheVariants.{Nowhere}
 use Rattle.mv_core.specs.Known.{Known}
 use Rattle.mv_core.specs.Rings.{held_count}
 use Rattle.mv_core.specs.Views.{no_clocks}
 use Rattle.mv_core.specs.EnterSteps.{IsWhole, check_loaded, stamp_swapped, mark_cleared}
 use Rattle.mv_core.specs.NameSteps.{MayNameCommit, commit_named, commit_lost, super_stored}
-use Rattle.mv_core.specs.Moves.{Moment, Kind, act, stamp}
+use Rattle.mv_core.specs.Moves.{Moment, MoveKind, act, stamp}
 use Rattle.mv_core.proofs.frames.FrameLaw.{set_at_here}
 use Rattle.mv_core.proofs.kinds.naming.LostClock.{lost_overtaken}
 use Rattle.reader_marks.specs.Sections.{inside_of, section_in}
@@ -27,16 +27,16 @@ use Rattle.commit_abort.specs.Finishes as finishes
 use Rattle.commit_abort.proofs.Tried.{at_end, phase_next}
 use Rattle.commit_abort.proofs.TriedEnds.{committed, overtaken}
 use Rattle.replay_rules.specs.declared.plan.Call.TheVariants.{Commit}
-use Rattle.replay_rules.specs.declared.seats.Version.{Version}
+use Rattle.replay_rules.specs.declared.seats.NotedVersion.{NotedVersion}
 use Rattle.replay_rules.specs.declared.seats.State.{State}
 use Rattle.replay_rules.specs.declared.seats.Sweep.{Sweep}
 use Rattle.replay_rules.specs.declared.seats.Helping.{Helping}
 use Rattle.replay_rules.specs.declared.seats.Helping.TheVariants.{LoadNamed, LoadCheck, SwapStamp}
 use Rattle.replay_rules.specs.declared.seats.Ending.TheVariants.{LoadNow, Name, StampOwn, StoreSuper, Unlock, LoadDeath, Leave}
 use Rattle.replay_rules.specs.declared.seats.Leaving.TheVariants.{Plainly, WithCommit, WithAbort}
-use Rattle.replay_rules.specs.declared.seats.Task.{Task}
-use Rattle.replay_rules.specs.declared.seats.Task.TheVariants.{Enters, Helps, Walks, Locks, Writes, EndsSection, Tidies}
-use Rattle.replay_rules.specs.declared.seats.Answer.TheVariants.{Committed}
+use Rattle.replay_rules.specs.declared.seats.NextStep.{NextStep}
+use Rattle.replay_rules.specs.declared.seats.NextStep.TheVariants.{Enters, Helps, Walks, Locks, Writes, EndsSection, Tidies}
+use Rattle.replay_rules.specs.declared.seats.CallAnswer.TheVariants.{Committed}
 use Rattle.replay_rules.specs.declared.seats.Then.{Then}
 use Rattle.replay_rules.specs.declared.seats.Then.TheVariants.{Goes, Ends}
 use Rattle.replay_rules.specs.declared.seats.Test.TheVariants.{IsLinked}
@@ -59,41 +59,42 @@ use Rattle.replay_rules.proofs.answers.Progress.{Comes, state_with, BeginsSo, Go
 use Rattle.replay_rules.proofs.answers.CommitFar.{Opens, LoadedNow, HelpingNow, HelpedNow, NamedNow, FinishingBy, Finishing, CommitFar}
 
 -- a seat that is in a section and in no call is in an open one
-opens_now : (c : Config) → Checked c → (v : View) (log : List Version) (freed from : ℕ) (time : Option ℕ) → InSection c v log freed from time → Opens v log from
+opens_now : (c : Config) → Checked c → (v : Knowledge) (log : List NotedVersion) (freed from : ℕ) (time : Option ℕ) → InSection c v log freed from time
+    → Opens v log from
 opens_now c k v log freed from time i =
     let is : section_in v ≡ i.section = ap inside_of i.walking.phase in
     record {
       phase = i.walking.phase ∙ (λ j. Inside (sym is j));
-      open_is = ap (λ (s : Section). s.mode) is ∙ i.walking.open_is;
-      past_help = subst (λ (s : Section). Contains v.clocks.helped s.word) (sym is) i.walking.helped;
+      open_is = ap (λ (s : OwnSection). s.mode) is ∙ i.walking.open_is;
+      past_help = subst (λ (s : OwnSection). Contains v.clocks.helped s.word) (sym is) i.walking.helped;
       held = held_are c k v log freed from i.logs;
     }
 
 -- a finish has made one step more
-finish_one : (z v w : View) (made : ℕ) (s : Step) → FinishingBy z v made → w.trail ≡ v.trail ++ s ∷ [] → IsFinishStep s.kind
+finish_one : (z v w : Knowledge) (made : ℕ) (s : Step) → FinishingBy z v made → w.trail ≡ v.trail ++ s ∷ [] → IsFinishStep s.kind
     → w ≡ record v { phase = w.phase; clocks = w.clocks; ring = w.ring; trail = w.trail } → FinishingBy z w (made + 1)
 finish_one z v w made s f trail is rest = record {
   trail = subst (Grows IsFinishStep (made + 1) z.trail) (sym trail) (grows_one IsFinishStep made z.trail v.trail s is f.trail);
-  rest = rest ∙ ap (λ (u : View). record u { phase = w.phase; clocks = w.clocks; ring = w.ring; trail = w.trail }) f.rest;
+  rest = rest ∙ ap (λ (u : Knowledge). record u { phase = w.phase; clocks = w.clocks; ring = w.ring; trail = w.trail }) f.rest;
 }
 
 -- and none yet
-finish_none : (z : View) → FinishingBy z z 0
+finish_none : (z : Knowledge) → FinishingBy z z 0
 finish_none z = record { trail = grows_none IsFinishStep z.trail; rest = refl }
 
 -- a finish whose section was left
-finished : (c : Config) (z v : View) (made most : ℕ) → FinishingBy z v made → made + 1 ≤ most → finishes.Finishes z (mark_cleared c v) most
+finished : (c : Config) (z v : Knowledge) (made most : ℕ) → FinishingBy z v made → made + 1 ≤ most → finishes.Finishes z (mark_cleared c v) most
 finished c z v made most f few = record {
   outside = refl;
   trail = grows_within IsFinishStep (made + 1) most z.trail (mark_cleared c v).trail few (grows_one IsFinishStep made z.trail v.trail _ tt f.trail);
   rest = ap
-      (λ (u : View).
+      (λ (u : Knowledge).
       record u { phase = Outside; clocks = no_clocks; walk = Nowhere; back = None; ring = v.ring; trail = (mark_cleared c v).trail })
       f.rest;
 }
 
 -- more steps than were made
-finishing_within : (c : Config) (v w : View) (time made more : ℕ) → made ≤ more → Finishing c v w time made → Finishing c v w time more
+finishing_within : (c : Config) (v w : Knowledge) (time made more : ℕ) → made ≤ more → Finishing c v w time made → Finishing c v w time more
 finishing_within c v w time made more le f = record {
   at_name = f.at_name;
   named = f.named;
@@ -104,7 +105,7 @@ finishing_within c v w time made more le f = record {
 }
 
 -- the section of a commit that was finished has ended, and its answer is the time
-commit_ends : (c : Config) (v0 v : View) (log : List Version) (from time : ℕ) → Opens v0 log from → Finishing c v0 v time (held_count v0.ring + 1)
+commit_ends : (c : Config) (v0 v : Knowledge) (log : List NotedVersion) (from time : ℕ) → Opens v0 log from → Finishing c v0 v time (held_count v0.ring + 1)
     → Commits c v0 (mark_cleared c v) (section_in v0) no_tag time
 commit_ends c v0 v log from time opens f =
     let won = f.named in
@@ -114,41 +115,41 @@ commit_ends c v0 v log from time opens f =
     won.helped.helps opens.open_is no_tag f.at_name (mark_cleared c v) time held won.history won.time_is won.whole won.is
     (finished c f.at_name v (held + 1) (held + 2) f.by_steps (omega arith)) refl
 
-module _ (c : Config) (k : Checked c) (n : ℕ) (made : List Made) (each : AreMade c made) (v0 : View) (log : List Version) (freed from : ℕ)
+module _ (c : Config) (k : Checked c) (n : ℕ) (made : List Made) (each : AreMade c made) (v0 : Knowledge) (log : List NotedVersion) (freed from : ℕ)
     (time : Option ℕ) (sweep : Sweep) (opens : Opens v0 log from) where
   abbrev m : Moment
   m = state_of c made
 
-  abbrev v : View
+  abbrev v : Knowledge
   v = m.seats n
 
   abbrev s : State
   s = state_with n time from freed Commit sweep
 
   -- what a commit of this seat comes to, by the view behind its step
-  abbrev To : View → Then → Type 0
+  abbrev To : Knowledge → Then → Type 0
   To w = Comes (CommitFar c n v0 w log s) (AnswersSo c Commit v0 w)
 
   -- what is known behind a step
-  known_behind : (task : Task) (kind : Kind) → IsStepOf c made (step_of n kind) n task → Known any_start any_commit (view_by c m n kind)
+  known_behind : (task : NextStep) (kind : MoveKind) → IsStepOf c made (step_of n kind) n task → Known any_start any_commit (view_by c m n kind)
   known_behind task kind next =
       subst (Known any_start any_commit) (set_at_here m.seats n (view_by c m n kind)) (knows c k n (step_of n kind ∷ made) (next.may, each))
 
   -- once the word is helped the exchange is next
-  name_next : (w : View) (word : ℕ) → HelpedNow c v0 w word → To w (name c s word)
+  name_next : (w : Knowledge) (word : ℕ) → HelpedNow c v0 w word → To w (name c s word)
   name_next w word h =
       if_so (To w) (is_last (clock_time_of word)) (Ends (Committed ends.End)) (Goes (EndsSection (Name word (commit_clock c word n from))))
       (λ last. absurd (h.loaded.early (eqb-true (clock_time_of word) 35184372088831 last)))
       (λ more. (opens, h))
 
   -- CLOCK was loaded
-  pub now_goes : (w : View) → v ≡ v0 → w ≡ check_loaded c v (m.memory Clock) m.history → Known any_start any_commit w
+  pub now_goes : (w : Knowledge) → v ≡ v0 → w ≡ check_loaded c v (m.memory Clock) m.history → Known any_start any_commit w
       → To w (after_now Commit c log s (m.memory Clock))
   now_goes w same is known =
       let word = m.memory Clock in
       let h = m.history in
-      let whole : IsWhole c v0 word h = subst (λ (u : View). IsWhole c u word h) same (whole_now c k n made each) in
-      let view : w ≡ check_loaded c v0 word h = is ∙ ap (λ (u : View). check_loaded c u word h) same in
+      let whole : IsWhole c v0 word h = subst (λ (u : Knowledge). IsWhole c u word h) same (whole_now c k n made each) in
+      let view : w ≡ check_loaded c v0 word h = is ∙ ap (λ (u : Knowledge). check_loaded c u word h) same in
       if_so (To w) (is_last (clock_time_of word)) (Ends (Committed ends.End)) (help c log s word)
       (λ last. at_end c v0 w word h whole view (section_in v0) opens.phase opens.past_help (eqb-true (clock_time_of word) 35184372088831 last))
       (λ more.
@@ -167,7 +168,7 @@ module _ (c : Config) (k : Checked c) (n : ℕ) (made : List Made) (each : AreMa
       (λ other. (opens, record { loaded_by = w; loaded = loaded; far = (eqb_ne (clock_slot_of word) 8191 other, refl) })))
 
   -- a step of the help was made
-  pub helping_goes : (step : Helping) (kind : Kind) → IsKindOf (Helps step) kind → HelpingNow c v0 v step
+  pub helping_goes : (step : Helping) (kind : MoveKind) → IsKindOf (Helps step) kind → HelpingNow c v0 v step
       → To (view_by c m n kind) (after_helping step c log s (m.memory (helping_place step)))
   helping_goes step kind is h =
       let w = view_by c m n kind in
@@ -176,7 +177,7 @@ module _ (c : Config) (k : Checked c) (n : ℕ) (made : List Made) (each : AreMa
       (λ next same far. (opens, record { loaded_by = x; loaded = subst (LoadedNow c v0 x) (sym same) h.loaded; far = far }))
       (λ last has. name_next w (helped_word step) (record { loaded_by = x; loaded = h.loaded; helps = has.helps }))
 
-  module _ (word : ℕ) (h : HelpedNow c v0 v word) (inside : Section) (may : MayNameCommit any_commit c v word no_tag inside) where
+  module _ (word : ℕ) (h : HelpedNow c v0 v word) (inside : OwnSection) (may : MayNameCommit any_commit c v word no_tag inside) where
     -- the exchange was won
     name_won : m.memory Clock ≡ word → NamedNow c v0 (commit_named c v inside no_tag word m.history) (clock_time_of word + 1)
     name_won won =
@@ -191,7 +192,7 @@ module _ (c : Config) (k : Checked c) (n : ℕ) (made : List Made) (each : AreMa
           time_is = refl;
           history = m.history;
           whole = subst (λ (x : ℕ). IsWhole c v x m.history) won (whole_now c k n made each);
-          is = ap (λ (i : Section). commit_named c v i no_tag word m.history) same;
+          is = ap (λ (i : OwnSection). commit_named c v i no_tag word m.history) same;
         }
 
     -- and lost
@@ -213,13 +214,14 @@ module _ (c : Config) (k : Checked c) (n : ℕ) (made : List Made) (each : AreMa
         (commit_lost c v (m.memory Clock) m.history) (m.memory Clock) m.history rival told refl any_start any_commit ∣ load.knows ∣₁ ∣ known ∣₁
 
   -- the exchange of CLOCK was tried
-  pub name_goes : (word new : ℕ) (kind : Kind) → IsKindOf (EndsSection (Name word new)) kind → IsStepOf c made (step_of n kind) n (EndsSection (Name word new))
+  pub name_goes : (word new : ℕ) (kind : MoveKind) → IsKindOf (EndsSection (Name word new)) kind
+      → IsStepOf c made (step_of n kind) n (EndsSection (Name word new))
       → HelpedNow c v0 v word → To (view_by c m n kind) (after_name s word (m.memory Clock))
   name_goes word new kind is next h =
       let found = m.memory Clock in
       let w = view_by c m n kind in
       let inside = is.0 in
-      let may : MayNameCommit any_commit c v word no_tag inside = subst (λ (q : Kind). (act any_commit c v q).may) is.1 next.may.may in
+      let may : MayNameCommit any_commit c v word no_tag inside = subst (λ (q : MoveKind). (act any_commit c v q).may) is.1 next.may.may in
       let A = commit_named c v inside no_tag word m.history in
       let B = commit_lost c v found m.history in
       let view : w ≡ (if found == word then A else B) = ap (view_by c m n) is.1 in
@@ -228,17 +230,17 @@ module _ (c : Config) (k : Checked c) (n : ℕ) (made : List Made) (each : AreMa
       dite (ℕ_discrete found word)
       (λ won.
       let yes = eq-eqb found word won in
-      subst (λ (u : View). To u (if found == word then goes else again)) (sym (view ∙ ap (λ b. if b then A else B) yes))
+      subst (λ (u : Knowledge). To u (if found == word then goes else again)) (sym (view ∙ ap (λ b. if b then A else B) yes))
       (subst (To A) (sym (ap (λ b. if b then goes else again) yes)) (opens, name_won word h inside may won)))
       (λ lost.
       let no = ne_eqb found word lost in
       let lost_is : w ≡ B = view ∙ ap (λ b. if b then A else B) no in
-      subst (λ (u : View). To u (if found == word then goes else again)) (sym lost_is)
+      subst (λ (u : Knowledge). To u (if found == word then goes else again)) (sym lost_is)
       (subst (To B) (sym (ap (λ b. if b then goes else again) no))
       (name_lost word h inside may lost (subst (Known any_start any_commit) lost_is (known_behind (EndsSection (Name word new)) kind next)))))
 
   -- SUPER is stored next below a version from this place on, or the section is left
-  super_next : (w : View) (at t2 : ℕ) → from ≤ at → at ≤ length log → Finishing c v0 w t2 (at + 1 - from)
+  super_next : (w : Knowledge) (at t2 : ℕ) → from ≤ at → at ≤ length log → Finishing c v0 w t2 (at + 1 - from)
       → To w (store_super log (first_from log at IsLinked) t2)
   super_next w at t2 first within f =
       let next = first_from log at IsLinked in
@@ -256,7 +258,7 @@ module _ (c : Config) (k : Checked c) (n : ℕ) (made : List Made) (each : AreMa
       (λ e. (opens, finishing_within c v0 w t2 (at + 1 - from) (held_count v0.ring + 1) (omega (arith, within, held)) f))
 
   -- the own stamp was exchanged
-  pub stamp_goes : (first t2 : ℕ) (kind : Kind) → IsKindOf (EndsSection (StampOwn first t2)) kind → first ≡ from → from ≤ length log → NamedNow c v0 v t2
+  pub stamp_goes : (first t2 : ℕ) (kind : MoveKind) → IsKindOf (EndsSection (StampOwn first t2)) kind → first ≡ from → from ≤ length log → NamedNow c v0 v t2
       → To (view_by c m n kind) (store_super log (first_from log first IsLinked) t2)
   stamp_goes first t2 kind is at within named =
       let unset = stamp_from first in
@@ -265,15 +267,15 @@ module _ (c : Config) (k : Checked c) (n : ℕ) (made : List Made) (each : AreMa
       let so : (x : ℕ) → FinishingBy v (stamp_swapped c v is.0 unset x) 1 =
       λ x. finish_one v v (stamp_swapped c v is.0 unset x) 0 _ (finish_none v) refl tt refl in
       let both : FinishingBy v (view_by c m n (stamp is.0 unset)) 1 =
-      if_so (λ (u : View). FinishingBy v u 1) (found == unset) (stamp_swapped c v is.0 unset unset) (stamp_swapped c v is.0 unset found)
+      if_so (λ (u : Knowledge). FinishingBy v u 1) (found == unset) (stamp_swapped c v is.0 unset unset) (stamp_swapped c v is.0 unset found)
       (λ e. so unset) (λ e. so found) in
-      let by_steps : FinishingBy v w 1 = subst (λ (q : Kind). FinishingBy v (view_by c m n q) 1) (sym is.1) both in
+      let by_steps : FinishingBy v w 1 = subst (λ (q : MoveKind). FinishingBy v (view_by c m n q) 1) (sym is.1) both in
       let one : 1 ≡ first + 1 - from = omega (arith, at) in
       super_next w first t2 (omega (arith, at)) (omega (arith, at, within))
       (record { at_name = v; named = named; by_steps = subst (FinishingBy v w) one by_steps })
 
   -- SUPER was stored below one version more
-  pub super_goes : (at link t2 : ℕ) (kind : Kind) → IsKindOf (EndsSection (StoreSuper at link t2)) kind → from ≤ at → at < length log
+  pub super_goes : (at link t2 : ℕ) (kind : MoveKind) → IsKindOf (EndsSection (StoreSuper at link t2)) kind → from ≤ at → at < length log
       → Finishing c v0 v t2 (at + 1 - from) → To (view_by c m n kind) (store_super log (first_from log (at + 1) IsLinked) t2)
   super_goes at link t2 kind is first live f =
       let stored = super_stored c v link t2 is.0 is.1 is.2 in
@@ -284,7 +286,7 @@ module _ (c : Config) (k : Checked c) (n : ℕ) (made : List Made) (each : AreMa
         by_steps = subst (FinishingBy f.at_name stored) one (finish_one f.at_name v stored (at + 1 - from) _ f.by_steps refl tt refl);
       } in
       super_next (view_by c m n kind) (at + 1) t2 (omega (arith, first)) (omega (arith, live))
-      (subst (λ (u : View). Finishing c v0 u t2 (at + 1 + 1 - from)) (sym (ap (view_by c m n) is.3)) more)
+      (subst (λ (u : Knowledge). Finishing c v0 u t2 (at + 1 + 1 - from)) (sym (ap (view_by c m n) is.3)) more)
 
 pub commit_begins : BeginsSo Commit CommitFar
 commit_begins c k fit n lt made each log freed from None rests may = let no : false ≡ true = may in absurd (cc)
@@ -309,7 +311,7 @@ commit_goes c k n lt made each log freed from time sweep (EndsSection (StampOwn 
 commit_goes c k n lt made each log freed from time sweep (EndsSection (StoreSuper at link t)) stands scans kind next is v0 far behind =
     super_goes c k n made each v0 log freed from time sweep far.0 at link t kind is far.1 far.2 far.3
 commit_goes c k n lt made each log freed from time sweep (EndsSection (Leave (WithCommit t))) stands scans kind next is v0 far behind =
-    subst (λ (u : View). Commits c v0 u (section_in v0) no_tag t) (sym (ap (view_by c (state_of c made) n) is))
+    subst (λ (u : Knowledge). Commits c v0 u (section_in v0) no_tag t) (sym (ap (view_by c (state_of c made) n) is))
     (commit_ends c v0 ((state_of c made).seats n) log from t far.0 far.1)
 commit_goes c k n lt made each log freed from time sweep (EndsSection (Leave Plainly)) stands scans kind next is v0 far behind = absurd far
 commit_goes c k n lt made each log freed from time sweep (EndsSection (Leave (WithAbort dead))) stands scans kind next is v0 far behind = absurd far

@@ -4,21 +4,21 @@ use Rattle.std.proofs.lemmas.List.Elements.{Contains-push}
 use Rattle.mv_history.specs.declared.Entry.{Entry}
 use Rattle.mv_layout.specs.Words.{clock_time_of, clock_slot_of}
 use Rattle.mv_core.proofs.Terms.{Config, Checked, Clock}
-use Rattle.mv_core.specs.declared.view.View.{View}
+use Rattle.mv_core.specs.declared.view.Knowledge.{Knowledge}
 use Rattle.mv_core.specs.declared.view.Phase.TheVariants.{Lowered}
 use Rattle.mv_core.specs.Rings.{HoldsNothing}
 use Rattle.mv_core.specs.EnterSteps.{IsWhole, low_loaded, mark_stored, time_loaded}
-use Rattle.mv_core.specs.Moves.{Moment, Kind, load_time}
+use Rattle.mv_core.specs.Moves.{Moment, MoveKind, load_time}
 use Rattle.reader_marks.specs.Sections.{Begins}
 use Rattle.reader_marks.proofs.Entered.{begins}
 use Rattle.replay_rules.specs.declared.plan.Call.TheVariants.{Enter}
-use Rattle.replay_rules.specs.declared.seats.Version.{Version}
+use Rattle.replay_rules.specs.declared.seats.NotedVersion.{NotedVersion}
 use Rattle.replay_rules.specs.declared.seats.State.{State}
 use Rattle.replay_rules.specs.declared.seats.Entering.{Entering}
 use Rattle.replay_rules.specs.declared.seats.Entering.TheVariants.{LoadLow, StoreMark, LoadTime}
 use Rattle.replay_rules.specs.declared.seats.Helping.{Helping}
 use Rattle.replay_rules.specs.declared.seats.Helping.TheVariants.{LoadNamed}
-use Rattle.replay_rules.specs.declared.seats.Task.TheVariants.{Enters, Helps, Walks, Locks, Writes, EndsSection, Tidies}
+use Rattle.replay_rules.specs.declared.seats.NextStep.TheVariants.{Enters, Helps, Walks, Locks, Writes, EndsSection, Tidies}
 use Rattle.replay_rules.specs.declared.seats.Then.{Then}
 use Rattle.replay_rules.specs.declared.seats.Then.TheVariants.{Goes}
 use Rattle.replay_rules.specs.Tasks.{entering_place, helping_place}
@@ -38,17 +38,17 @@ use Rattle.replay_rules.proofs.answers.Progress.{FarOf, Comes, state_with, Begin
 use Rattle.replay_rules.proofs.answers.Helps.{HelpFar, HasHelped, helped_at_once, whole_now, help_goes}
 
 -- the view behind the load of a low time and the store of its mark
-abbrev pub marked : Config → View → ℕ → View
+abbrev pub marked : Config → Knowledge → ℕ → Knowledge
 marked c v low = mark_stored c (low_loaded c v low) (clock_time_of low)
 
 -- how far an entering has come before its help
-abbrev pub EnteringFar : Config → View → View → Entering → Type 0
+abbrev pub EnteringFar : Config → Knowledge → Knowledge → Entering → Type 0
 EnteringFar c v w LoadLow = w ≡ v
 EnteringFar c v w (StoreMark mark) = (low : ℕ) × (w ≡ low_loaded c v low)
 EnteringFar c v w LoadTime = (low : ℕ) × (w ≡ marked c v low)
 
 -- the time was taken, of this word
-pub record HasTaken (c : Config) (v w : View) (word : ℕ) : Type 0 where
+pub record HasTaken (c : Config) (v w : Knowledge) (word : ℕ) : Type 0 where
   pub low : ℕ
   pub h : List Entry
   pub whole : IsWhole c (marked c v low) word h
@@ -56,7 +56,7 @@ pub record HasTaken (c : Config) (v w : View) (word : ℕ) : Type 0 where
   pub nothing : HoldsNothing w.ring
 
 -- the section begins once the word is helped
-pub section_begins : (c : Config) (v taken w : View) (word : ℕ) (last : Option ℕ) → HasTaken c v taken word → HasHelped c taken w word last
+pub section_begins : (c : Config) (v taken w : Knowledge) (word : ℕ) (last : Option ℕ) → HasTaken c v taken word → HasHelped c taken w word last
     → Begins c v w (clock_time_of word)
 section_begins c v taken w word last t helped =
     begins c v (low_loaded c v t.low) (marked c v t.low) taken w t.low (clock_time_of t.low) word (clock_time_of word) t.h last refl refl refl t.whole
@@ -65,19 +65,20 @@ section_begins c v taken w word last t helped =
 -- how far an enter has come
 abbrev pub EnterFar : FarOf
 EnterFar c n v0 v log s (Enters step) = EnteringFar c v0 v step
-EnterFar c n v0 v log s (Helps step) = (taken : View) × HasTaken c v0 taken (helped_word step) × HelpFar c taken v step
+EnterFar c n v0 v log s (Helps step) = (taken : Knowledge) × HasTaken c v0 taken (helped_word step) × HelpFar c taken v step
 EnterFar c n v0 v log s (Walks o next) = ⊥
 EnterFar c n v0 v log s (Locks version at next) = ⊥
 EnterFar c n v0 v log s (Writes at words word) = ⊥
 EnterFar c n v0 v log s (EndsSection step) = ⊥
 EnterFar c n v0 v log s (Tidies step) = ⊥
 
-module _ (c : Config) (k : Checked c) (n : ℕ) (made : List Made) (each : AreMade c made) (v : View) (log : List Version) (s : State) (P : Then → Type 0) where
+module _ (c : Config) (k : Checked c) (n : ℕ) (made : List Made) (each : AreMade c made) (v : Knowledge) (log : List NotedVersion) (s : State)
+    (P : Then → Type 0) where
   abbrev m : Moment
   m = state_of c made
 
   -- a step of an entering goes on to the next one, or to the help of its word, or that is done
-  pub entering_goes : (step : Entering) (kind : Kind) → IsKindOfEntering step kind → IsStepOf c made (step_of n kind) n (Enters step)
+  pub entering_goes : (step : Entering) (kind : MoveKind) → IsKindOfEntering step kind → IsStepOf c made (step_of n kind) n (Enters step)
       → HoldsNothing ((state_of c made).seats n).ring → EnteringFar c v ((state_of c made).seats n) step
       → ((next : Entering) → EnteringFar c v (view_by c (state_of c made) n kind) next → P (Goes (Enters next)))
       → ((word : ℕ) → HasTaken c v (view_by c (state_of c made) n kind) word → (next : Helping) → helped_word next ≡ word
@@ -87,33 +88,33 @@ module _ (c : Config) (k : Checked c) (n : ℕ) (made : List Made) (each : AreMa
       → P (after_entering step c log s ((state_of c made).memory (entering_place n step)))
   entering_goes LoadLow kind is next nothing far on help done =
       on (StoreMark (1 + clock_time_of (m.memory Clock)))
-      (m.memory Clock, ap (view_by c m n) is ∙ ap (λ (u : View). low_loaded c u (m.memory Clock)) far)
+      (m.memory Clock, ap (view_by c m n) is ∙ ap (λ (u : Knowledge). low_loaded c u (m.memory Clock)) far)
   entering_goes (StoreMark mark) kind is next nothing far on help done =
       let low = is.0 in
       let step = subst (λ x. IsStepOf c made (step_of n x) n (Enters (StoreMark mark))) is.1 next in
-      let lowered : Lowered (clock_time_of far.0) ≡ Lowered low = sym (ap (λ (u : View). u.phase) far.1) ∙ step.may.may in
+      let lowered : Lowered (clock_time_of far.0) ≡ Lowered low = sym (ap (λ (u : Knowledge). u.phase) far.1) ∙ step.may.may in
       let same : low ≡ clock_time_of far.0 = cc in
       on LoadTime (
         far.0,
         ap (view_by c m n) is.1 ∙ ap (λ x. mark_stored c (m.seats n) x) same
-            ∙ ap (λ (u : View). mark_stored c u (clock_time_of far.0)) far.1,
+            ∙ ap (λ (u : Knowledge). mark_stored c u (clock_time_of far.0)) far.1,
       )
   entering_goes LoadTime kind is next nothing far on help done =
       let word = m.memory Clock in
       let w = view_by c m n load_time in
       let w_is : view_by c m n kind ≡ w = ap (view_by c m n) is in
       let view : view_by c m n kind ≡ time_loaded c (marked c v far.0) word m.history =
-      w_is ∙ ap (λ (u : View). time_loaded c u word m.history) far.1 in
+      w_is ∙ ap (λ (u : Knowledge). time_loaded c u word m.history) far.1 in
       let taken : HasTaken c v (view_by c m n kind) word = record {
         low = far.0;
         h = m.history;
-        whole = subst (λ (u : View). IsWhole c u word m.history) far.1 (whole_now c k n made each);
+        whole = subst (λ (u : Knowledge). IsWhole c u word m.history) far.1 (whole_now c k n made each);
         view_is = view;
-        nothing = subst (λ (u : View). HoldsNothing u.ring) (sym w_is) nothing;
+        nothing = subst (λ (u : Knowledge). HoldsNothing u.ring) (sym w_is) nothing;
       } in
       if_so P (clock_slot_of word == 8191) (helped_in s.call c log s word) (Goes (Helps (LoadNamed word)))
       (λ e. done word taken (helped_at_once c (view_by c m n kind) word (eqb-true (clock_slot_of word) 8191 e)
-      (subst (λ (u : View). Contains u.clocks.helped word) (sym w_is)
+      (subst (λ (u : Knowledge). Contains u.clocks.helped word) (sym w_is)
       (subst (λ x. Contains (if x then word ∷ [] else []) word) (sym e) (Contains-push [] word)))))
       (λ e. help word taken (LoadNamed word) refl (eqb_ne (clock_slot_of word) 8191 e, refl))
 
@@ -121,7 +122,7 @@ pub enter_begins : BeginsSo Enter EnterFar
 enter_begins c k fit n lt made each log freed from time rests may = refl
 
 -- a word that is helped ends an enter
-ends_so : (c : Config) (n : ℕ) (v0 w : View) (log : List Version) (s : State) (word : ℕ) → s.call ≡ Enter → Begins c v0 w (clock_time_of word)
+ends_so : (c : Config) (n : ℕ) (v0 w : Knowledge) (log : List NotedVersion) (s : State) (word : ℕ) → s.call ≡ Enter → Begins c v0 w (clock_time_of word)
     → Comes (EnterFar c n v0 w log s) (AnswersSo c Enter v0 w) (helped_in s.call c log s word)
 ends_so c n v0 w log s word same begun = subst (λ x. Comes (EnterFar c n v0 w log s) (AnswersSo c Enter v0 w) (helped_in x c log s word)) (sym same) begun
 

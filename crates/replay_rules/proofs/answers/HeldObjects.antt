@@ -2,13 +2,13 @@
 use Rattle.std.proofs.Common.{◌≡◌, ℕ, ◌+◌, ◌-◌, ◌<◌, ◌≤◌, List, length, Option, Some, refl, sym, ap, ◌∙◌, arith, eqb-true}
 use Rattle.std.specs.Prelude.{slice_get}
 use Rattle.mv_core.proofs.Terms.{Config, Checked}
-use Rattle.mv_core.specs.declared.view.View.{View}
+use Rattle.mv_core.specs.declared.view.Knowledge.{Knowledge}
 use Rattle.seat_log.specs.declared.version.Note.{Note}
 use Rattle.seat_log.specs.Notes.{Noted, IsNoteAt}
 use Rattle.seat_log.proofs.Places.{get_within}
 use Rattle.object_lock.specs.Locks.{HoldsObject}
 use Rattle.object_lock.specs.Writes.{IsHeldAt}
-use Rattle.replay_rules.specs.declared.seats.Version.{Version}
+use Rattle.replay_rules.specs.declared.seats.NotedVersion.{NotedVersion}
 use Rattle.replay_rules.specs.declared.seats.Test.TheVariants.{IsOf}
 use Rattle.replay_rules.specs.SeatNotes.{first_from, version_at}
 use Rattle.replay_rules.proofs.runs.Notes.{note_of}
@@ -17,7 +17,7 @@ use Rattle.replay_rules.proofs.runs.Known.{eqb_ne}
 use Rattle.replay_rules.proofs.runs.LogFacts.{noted_long, noted_at, held_are, from_there}
 use Rattle.replay_rules.proofs.runs.Searches.{first_after, first_before, first_there, none_of}
 
-module _ (c : Config) (k : Checked c) (v : View) (log : List Version) (freed from : ℕ) (time : Option ℕ) (inside : InSection c v log freed from time)
+module _ (c : Config) (k : Checked c) (v : Knowledge) (log : List NotedVersion) (freed from : ℕ) (time : Option ℕ) (inside : InSection c v log freed from time)
     (o : ℕ) where
   abbrev l : Noted
   l = inside.logs.noted

@@ -1,20 +1,20 @@
 -- A leave ends its section by one step.
 use Rattle.std.proofs.Common.{◌≡◌, refl, ap, ◌∙◌, subst}
-use Rattle.mv_core.specs.declared.view.View.{View}
+use Rattle.mv_core.specs.declared.view.Knowledge.{Knowledge}
 use Rattle.mv_core.specs.EnterSteps.{mark_cleared}
 use Rattle.reader_marks.specs.Sections.{IsOpen}
 use Rattle.replay_rules.specs.declared.plan.Call.TheVariants.{Leave}
 use Rattle.replay_rules.specs.declared.seats.Ending.TheVariants as finish
 use Rattle.replay_rules.specs.declared.seats.Ending.{Ending}
 use Rattle.replay_rules.specs.declared.seats.Leaving.TheVariants.{Plainly, WithCommit, WithAbort}
-use Rattle.replay_rules.specs.declared.seats.Task.TheVariants.{Enters, Helps, Walks, Locks, Writes, EndsSection, Tidies}
+use Rattle.replay_rules.specs.declared.seats.NextStep.TheVariants.{Enters, Helps, Walks, Locks, Writes, EndsSection, Tidies}
 use Rattle.replay_rules.specs.States.{state_of}
 use Rattle.replay_rules.proofs.runs.Stepping.{view_by}
 use Rattle.replay_rules.proofs.runs.Aborting.{holds_nothing}
 use Rattle.replay_rules.proofs.answers.Progress.{FarOf, BeginsSo, GoesOnSo}
 
 -- a leave has its one step before it
-abbrev pub LeavingFar : View → View → Ending → Type 0
+abbrev pub LeavingFar : Knowledge → Knowledge → Ending → Type 0
 LeavingFar v w (finish.Leave Plainly) = w ≡ v
 LeavingFar v w (finish.Leave (WithCommit time)) = ⊥
 LeavingFar v w (finish.Leave (WithAbort dead)) = ⊥

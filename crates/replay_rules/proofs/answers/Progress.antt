@@ -1,14 +1,14 @@
 -- How a call comes to its answer: what its proof says of its begin, and of each of its steps.
 use Rattle.std.proofs.Common.{◌≡◌, ℕ, ◌<◌, true, List, Option, Some}
 use Rattle.mv_core.proofs.Terms.{Config, Checked}
-use Rattle.mv_core.specs.declared.view.View.{View}
-use Rattle.mv_core.specs.Moves.{Kind}
+use Rattle.mv_core.specs.declared.view.Knowledge.{Knowledge}
+use Rattle.mv_core.specs.Moves.{MoveKind}
 use Rattle.replay_rules.specs.declared.plan.Call.{Call}
-use Rattle.replay_rules.specs.declared.seats.Version.{Version}
+use Rattle.replay_rules.specs.declared.seats.NotedVersion.{NotedVersion}
 use Rattle.replay_rules.specs.declared.seats.Sweep.{Sweep}
 use Rattle.replay_rules.specs.declared.seats.State.{State}
-use Rattle.replay_rules.specs.declared.seats.Answer.{Answer}
-use Rattle.replay_rules.specs.declared.seats.Task.{Task}
+use Rattle.replay_rules.specs.declared.seats.CallAnswer.{CallAnswer}
+use Rattle.replay_rules.specs.declared.seats.NextStep.{NextStep}
 use Rattle.replay_rules.specs.declared.seats.Then.{Then}
 use Rattle.replay_rules.specs.declared.seats.Then.TheVariants.{Goes, Ends}
 use Rattle.replay_rules.specs.FitPlans.{IsFitCall}
@@ -27,10 +27,10 @@ use Rattle.replay_rules.proofs.runs.Stepping.{view_by}
 
 -- how far a call has come: by the seat's view at its begin, its view now, its notes, what it is at, and the call's next step
 abbrev pub FarOf : Type 1
-FarOf = Config → ℕ → View → View → List Version → State → Task → Type 0
+FarOf = Config → ℕ → Knowledge → Knowledge → List NotedVersion → State → NextStep → Type 0
 
 -- it goes on from there, or answers so
-abbrev pub Comes : (Task → Type 0) → (Answer → Type 0) → Then → Type 0
+abbrev pub Comes : (NextStep → Type 0) → (CallAnswer → Type 0) → Then → Type 0
 Comes Far Answers (Goes task) = Far task
 Comes Far Answers (Ends answer) = Answers answer
 
@@ -39,7 +39,7 @@ abbrev pub state_with : ℕ → Option ℕ → ℕ → ℕ → Call → Sweep �
 state_with n time from freed call sweep = record { seat = n; time = time; from = from; freed = freed; call = call; sweep = sweep }
 
 -- what the seat is at behind a step
-abbrev pub StandsThen : Config → ℕ → View → List Version → State → Then → Type 0
+abbrev pub StandsThen : Config → ℕ → Knowledge → List NotedVersion → State → Then → Type 0
 StandsThen c n w log s (Goes task) = StandsFor c n w log s.freed s.from s.time s.call s.sweep (Some task)
 StandsThen c n w log s (Ends answer) = RestsAt c w log s.freed s.from s.time
 
@@ -47,7 +47,7 @@ StandsThen c n w log s (Ends answer) = RestsAt c w log s.freed s.from s.time
 abbrev pub BeginsSo : Call → FarOf → Type 0
 BeginsSo call Far =
     (c : Config) → Checked c → IsFitCall c call → (n : ℕ) → n < c.seats → (made : List Made) → AreMade c made
-    → (log : List Version) (freed from : ℕ) (time : Option ℕ) → RestsAt c ((state_of c made).seats n) log freed from time
+    → (log : List NotedVersion) (freed from : ℕ) (time : Option ℕ) → RestsAt c ((state_of c made).seats n) log freed from time
     → may_begin log (state_with n time from freed call (new_sweep freed)) call ≡ true
     → Comes (Far c n ((state_of c made).seats n) ((state_of c made).seats n) log (state_with n time from freed call (new_sweep freed)))
     (AnswersSo c call ((state_of c made).seats n) ((state_of c made).seats n))
@@ -57,10 +57,10 @@ BeginsSo call Far =
 abbrev pub GoesOnSo : Call → FarOf → Type 0
 GoesOnSo call Far =
     (c : Config) → Checked c → (n : ℕ) → n < c.seats → (made : List Made) → AreMade c made
-    → (log : List Version) (freed from : ℕ) (time : Option ℕ) (sweep : Sweep) (task : Task)
+    → (log : List NotedVersion) (freed from : ℕ) (time : Option ℕ) (sweep : Sweep) (task : NextStep)
     → StandsFor c n ((state_of c made).seats n) log freed from time call sweep (Some task) → ScanAt ((state_of c made).seats n) (Some task)
-    → (kind : Kind) → IsStepOf c made (step_of n kind) n task → IsKindOf task kind
-    → (v0 : View) → Far c n v0 ((state_of c made).seats n) log (state_with n time from freed call sweep) task
+    → (kind : MoveKind) → IsStepOf c made (step_of n kind) n task → IsKindOf task kind
+    → (v0 : Knowledge) → Far c n v0 ((state_of c made).seats n) log (state_with n time from freed call sweep) task
     → let found = (state_of c made).memory (place_in_task c n task) in
     let s = state_after task log (state_with n time from freed call sweep) found in
     let notes = applied (edit_of task (state_with n time from freed call sweep) found) log in

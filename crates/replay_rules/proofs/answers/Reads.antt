@@ -5,31 +5,31 @@ use Rattle.std.specs.Prelude.{unwrap_or}
 use Rattle.std.proofs.lemmas.List.Elements.{All-nil, All-push}
 use Rattle.mv_history.specs.declared.Step.{Step}
 use Rattle.mv_layout.specs.Words.{link_seat_of}
-use Rattle.mv_core.proofs.Terms.{Config, Checked, Place, Head, Master, Stamp, Data}
-use Rattle.mv_core.specs.declared.view.View.{View}
+use Rattle.mv_core.proofs.Terms.{Config, Checked, SharedWord, Head, Master, Stamp, Data}
+use Rattle.mv_core.specs.declared.view.Knowledge.{Knowledge}
 use Rattle.mv_core.specs.declared.view.Phase.{Phase}
 use Rattle.mv_core.specs.declared.view.Phase.TheVariants.{Inside}
-use Rattle.mv_core.specs.declared.view.Section.{Section}
+use Rattle.mv_core.specs.declared.view.OwnSection.{OwnSection}
 use Rattle.mv_core.specs.declared.view.Stand.{Stand}
-use Rattle.mv_core.specs.declared.view.Walk.TheVariants as walk
+use Rattle.mv_core.specs.declared.view.WalkStage.TheVariants as walk
 use Rattle.mv_core.specs.HistoryFacts.{BeginsWith}
 use Rattle.mv_core.specs.Rings.{index_of}
 use Rattle.mv_core.specs.WalkSteps.{slot_named, word_read, words_read, MayLoadStamp, MayLoadMaster, MayLoadData}
 use Rattle.mv_core.specs.LockSteps.{StandsToLock}
-use Rattle.mv_core.specs.Moves.{Moment, Kind, load_head, load_first, load_stamp, load_prev, load_data, load_master}
+use Rattle.mv_core.specs.Moves.{Moment, MoveKind, load_head, load_first, load_stamp, load_prev, load_data, load_master}
 use Rattle.mv_core.proofs.history.Fronts.{begins_by}
 use Rattle.mv_core.proofs.kinds.walking.LoadData.{data_loads}
 use Rattle.mv_core.proofs.kinds.walking.LoadMaster.{master_loads}
 use Rattle.reader_marks.specs.Sections.{inside_of}
 use Rattle.replay_rules.specs.declared.plan.Call.TheVariants.{Read}
-use Rattle.replay_rules.specs.declared.seats.Version.{Version}
+use Rattle.replay_rules.specs.declared.seats.NotedVersion.{NotedVersion}
 use Rattle.replay_rules.specs.declared.seats.Sweep.{Sweep}
 use Rattle.replay_rules.specs.declared.seats.State.{State}
 use Rattle.replay_rules.specs.declared.seats.Walking.{Walking}
 use Rattle.replay_rules.specs.declared.seats.Walking.TheVariants.{LoadHead, LoadFirst, LoadStamp, LoadPrev, LoadWord}
-use Rattle.replay_rules.specs.declared.seats.Task.{Task}
-use Rattle.replay_rules.specs.declared.seats.Task.TheVariants.{Enters, Helps, Walks, Locks, Writes, EndsSection, Tidies}
-use Rattle.replay_rules.specs.declared.seats.Answer.TheVariants.{SixWords}
+use Rattle.replay_rules.specs.declared.seats.NextStep.{NextStep}
+use Rattle.replay_rules.specs.declared.seats.NextStep.TheVariants.{Enters, Helps, Walks, Locks, Writes, EndsSection, Tidies}
+use Rattle.replay_rules.specs.declared.seats.CallAnswer.TheVariants.{SixWords}
 use Rattle.replay_rules.specs.declared.seats.Then.TheVariants.{Goes, Ends}
 use Rattle.replay_rules.specs.States.{any_commit, any_start, zeros, Made, state_of, AreMade}
 use Rattle.replay_rules.specs.Tasks.{walking_place}
@@ -48,13 +48,13 @@ use Rattle.replay_rules.proofs.answers.Seen.{all_seen, stamp_told}
 
 -- What a read has left of a view so far: what was seen is only longer, the trail has steps of a read more, and nothing else changed but where the
 -- walk stands and which HEADs were found empty.
-pub record HasRead (v w : View) : Type 0 where
+pub record HasRead (v w : Knowledge) : Type 0 where
   pub seen : BeginsWith w.past.seen v.past.seen
   pub trail : (steps : List Step) × (w.trail ≡ v.trail ++ steps) × All (λ s. IsReadStep s.kind) steps
   pub rest : w ≡ record v { past = record v.past { seen = w.past.seen }; walk = w.walk; empty = w.empty; trail = w.trail }
 
 -- so far has a read come
-abbrev pub ReadFar : ℕ → Config → ℕ → View → View → List Version → State → Task → Type 0
+abbrev pub ReadFar : ℕ → Config → ℕ → Knowledge → Knowledge → List NotedVersion → State → NextStep → Type 0
 ReadFar o c n v w log s (Walks p next) = HasRead v w
 ReadFar o c n v w log s task = ⊥
 
@@ -63,11 +63,11 @@ abbrev IsReads : Step → Type 0
 IsReads s = IsReadStep s.kind
 
 -- no step was made
-none_read : (v : View) → HasRead v v
+none_read : (v : Knowledge) → HasRead v v
 none_read v = record { seen = all_seen v; trail = ([], sym (append-nil v.trail), All-nil IsReads); rest = refl }
 
 -- one step more
-one_read : (u v w : View) (s : Step) → HasRead u v → BeginsWith w.past.seen v.past.seen → w.trail ≡ v.trail ++ s ∷ [] → IsReadStep s.kind
+one_read : (u v w : Knowledge) (s : Step) → HasRead u v → BeginsWith w.past.seen v.past.seen → w.trail ≡ v.trail ++ s ∷ [] → IsReadStep s.kind
     → w ≡ record v { past = record v.past { seen = w.past.seen }; walk = w.walk; empty = w.empty; trail = w.trail } → HasRead u w
 one_read u v w s far seen trail is rest = record {
   seen = begins_by w.past.seen v.past.seen u.past.seen seen far.seen;
@@ -77,32 +77,32 @@ one_read u v w s far seen trail is rest = record {
     All-push IsReads far.trail.0 s far.trail.2 is,
   );
   rest = rest
-      ∙ ap (λ (z : View). record z { past = record z.past { seen = w.past.seen }; walk = w.walk; empty = w.empty; trail = w.trail }) far.rest;
+      ∙ ap (λ (z : Knowledge). record z { past = record z.past { seen = w.past.seen }; walk = w.walk; empty = w.empty; trail = w.trail }) far.rest;
 }
 
-module _ (o : ℕ) (c : Config) (k : Checked c) (n : ℕ) (lt : n < c.seats) (made : List Made) (each : AreMade c made) (log : List Version)
-    (freed from : ℕ) (time : Option ℕ) (sweep : Sweep) (u : View) where
+module _ (o : ℕ) (c : Config) (k : Checked c) (n : ℕ) (lt : n < c.seats) (made : List Made) (each : AreMade c made) (log : List NotedVersion)
+    (freed from : ℕ) (time : Option ℕ) (sweep : Sweep) (u : Knowledge) where
   abbrev s : Moment
   s = state_of c made
 
-  abbrev v : View
+  abbrev v : Knowledge
   v = s.seats n
 
   abbrev state : State
   state = state_with n time from freed (Read o) sweep
 
   -- what comes behind a step of this kind
-  abbrev Comes_so : ℕ → Walking → Kind → Type 0
+  abbrev Comes_so : ℕ → Walking → MoveKind → Type 0
   Comes_so p next kind =
       Comes (ReadFar o c n u (view_by c s n kind) log state) (AnswersSo c (Read o) u (view_by c s n kind))
       (after_walking next c log state p (s.memory (walking_place c p next)))
 
   -- the step of the core is of this kind
-  abbrev Steps : ℕ → Walking → Kind → Type 0
+  abbrev Steps : ℕ → Walking → MoveKind → Type 0
   Steps p next kind = IsStepOf c made (step_of n kind) n (Walks p next)
 
   -- one word more is read, and after the last one they are those of the object
-  word_so : (w : View) (p link : ℕ) (words : List ℕ) (word found : ℕ) → HasRead u w → (i : Section) → w.phase ≡ Inside i → p ≡ o → word < 6
+  word_so : (w : Knowledge) (p link : ℕ) (words : List ℕ) (word found : ℕ) → HasRead u w → (i : OwnSection) → w.phase ≡ Inside i → p ≡ o → word < 6
       → found < 2 ^ 64 → found ≡ word_read c w i p word → WordsSoFar c w i p words word → length (words_read c w i p) ≡ 6
       → Comes (ReadFar o c n u w log state) (AnswersSo c (Read o) u w)
       (if ltb word 5 then Goes (Walks p (LoadWord link (slice_set words word found) (word + 1))) else Ends (SixWords (slice_set words word found)))
@@ -123,7 +123,7 @@ module _ (o : ℕ) (c : Config) (k : Checked c) (n : ℕ) (lt : n < c.seats) (ma
       })
 
   module _ (far : HasRead u v) where
-    head_so : (p : ℕ) (inside : Section) → Comes_so p LoadHead (load_head p inside)
+    head_so : (p : ℕ) (inside : OwnSection) → Comes_so p LoadHead (load_head p inside)
     head_so p inside =
         let w = view_by c s n (load_head p inside) in
         let link = s.memory (Head p) in
@@ -152,19 +152,19 @@ module _ (o : ℕ) (c : Config) (k : Checked c) (n : ℕ) (lt : n < c.seats) (ma
 
     module _ (inside : InSection c v log freed from time) (p : ℕ) (same : p ≡ o) (range : p < c.objects) (link : ℕ) (words : List ℕ) (word : ℕ)
         (less : word < 6) (so : WordsSoFar c v inside.section p words word) where
-      abbrev i : Section
+      abbrev i : OwnSection
       i = inside.section
 
       -- the word that was found is the one at the place of the step
-      at_place : (w : View) (place : Place) → place ≡ walking_place c p (LoadWord link words word)
+      at_place : (w : Knowledge) (place : SharedWord) → place ≡ walking_place c p (LoadWord link words word)
           → Comes (ReadFar o c n u w log state) (AnswersSo c (Read o) u w) (after_walking (LoadWord link words word) c log state p (s.memory place))
           → Comes (ReadFar o c n u w log state) (AnswersSo c (Read o) u w)
           (after_walking (LoadWord link words word) c log state p (s.memory (walking_place c p (LoadWord link words word))))
       at_place w place e =
-          subst (λ (q : Place). Comes (ReadFar o c n u w log state) (AnswersSo c (Read o) u w)
+          subst (λ (q : SharedWord). Comes (ReadFar o c n u w log state) (AnswersSo c (Read o) u w)
           (after_walking (LoadWord link words word) c log state p (s.memory q))) e
 
-      master_so : (there : Section) → Steps p (LoadWord link words word) (load_master p word there)
+      master_so : (there : OwnSection) → Steps p (LoadWord link words word) (load_master p word there)
           → Comes_so p (LoadWord link words word) (load_master p word there)
       master_so there step =
           let may : MayLoadMaster v p word i = record { phase = inside.walking.phase; stands = step.may.may.1.stands; in_range = less } in
@@ -176,7 +176,7 @@ module _ (o : ℕ) (c : Config) (k : Checked c) (n : ℕ) (lt : n < c.seats) (ma
           (word_so w p link words word (s.memory (Master p word)) (one_read u v w _ far (all_seen v) refl tt refl) i inside.walking.phase same less small
           told.1 (record { wide = so.wide; small = so.small; are = so.are }) told.2)
 
-      data_so : (stand : Stand) (there : Section) → StandsToLock v i p link → Steps p (LoadWord link words word) (load_data link word stand there)
+      data_so : (stand : Stand) (there : OwnSection) → StandsToLock v i p link → Steps p (LoadWord link words word) (load_data link word stand there)
           → Comes_so p (LoadWord link words word) (load_data link word stand there)
       data_so stand there (inl at) step = let e : walk.Master p ≡ walk.At stand = sym at.0 ∙ step.may.may.stands in absurd (cc)
       data_so stand there (inr at) step =
@@ -200,7 +200,7 @@ module _ (o : ℕ) (c : Config) (k : Checked c) (n : ℕ) (lt : n < c.seats) (ma
           (ap (λ x. length (words_read c v i x)) (sym at.3) ∙ told.2))
 
     walk_so : (inside : InSection c v log freed from time) (p : ℕ) → p ≡ o → p < c.objects → (next : Walking) → WalksAt c v inside.section p next
-        → (kind : Kind) → Steps p next kind → IsKindOfWalking p next kind → Comes_so p next kind
+        → (kind : MoveKind) → Steps p next kind → IsKindOfWalking p next kind → Comes_so p next kind
     walk_so inside p same range LoadHead at kind step is = subst (Comes_so p LoadHead) (sym is.1) (head_so p is.0)
     walk_so inside p same range (LoadFirst link) at kind step is = subst (Comes_so p (LoadFirst link)) (sym is.1) (first_so p link is.0)
     walk_so inside p same range (LoadStamp link first) at kind step is =

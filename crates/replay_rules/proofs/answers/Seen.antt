@@ -2,7 +2,7 @@
 use Rattle.std.proofs.Common.{ℕ, ◌<◌, List, [], sym, subst, append-nil}
 use Rattle.mv_layout.specs.Words.{link_seat_of}
 use Rattle.mv_core.proofs.Terms.{Config, Checked, Stamp}
-use Rattle.mv_core.specs.declared.view.View.{View}
+use Rattle.mv_core.specs.declared.view.Knowledge.{Knowledge}
 use Rattle.mv_core.specs.declared.view.Stand.{Stand}
 use Rattle.mv_core.specs.HistoryFacts.{BeginsWith}
 use Rattle.mv_core.specs.Rings.{index_of}
@@ -14,14 +14,14 @@ use Rattle.replay_rules.specs.States.{any_commit, any_start, zeros, Made, state_
 use Rattle.replay_rules.proofs.runs.Known.{facts, view_there, seated, starts, word_small}
 
 -- what was seen begins with itself
-pub all_seen : (v : View) → BeginsWith v.past.seen v.past.seen
+pub all_seen : (v : Knowledge) → BeginsWith v.past.seen v.past.seen
 all_seen v = ([], sym (append-nil v.past.seen))
 
 module _ (c : Config) (k : Checked c) (n : ℕ) (lt : n < c.seats) (made : List Made) (each : AreMade c made) where
   abbrev s : Moment
   s = state_of c made
 
-  abbrev v : View
+  abbrev v : Knowledge
   v = s.seats n
 
   -- what was seen behind it is as the core has it

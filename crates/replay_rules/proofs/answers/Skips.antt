@@ -2,11 +2,11 @@
 use Rattle.std.proofs.Common.{◌≡◌, ℕ, ◌-◌, List, length, Bool, true, false, Option, Some, None, refl, arith, inl, inr}
 use Rattle.std.specs.Prelude.{not}
 use Rattle.mv_core.proofs.Terms.{Config, Checked}
-use Rattle.mv_core.specs.declared.view.View.{View}
+use Rattle.mv_core.specs.declared.view.Knowledge.{Knowledge}
 use Rattle.object_lock.proofs.Locked.{noted_is, lacks_is}
 use Rattle.replay_rules.specs.declared.plan.Call.{Call}
 use Rattle.replay_rules.specs.declared.plan.Call.TheVariants.{Enter, Read, Lock, Write, Commit, Abort, Leave, Tidy}
-use Rattle.replay_rules.specs.declared.seats.Version.{Version}
+use Rattle.replay_rules.specs.declared.seats.NotedVersion.{NotedVersion}
 use Rattle.replay_rules.specs.declared.seats.Sweep.{Sweep}
 use Rattle.replay_rules.specs.declared.seats.Test.TheVariants.{IsOf}
 use Rattle.replay_rules.specs.SeatNotes.{first_from}
@@ -22,7 +22,7 @@ not_false : (b : Bool) → not b ≡ false → b ≡ true
 not_false true e = refl
 not_false false e = absurd (cc)
 
-module _ (c : Config) (k : Checked c) (n : ℕ) (v : View) (log : List Version) (freed from : ℕ) (call : Call) (sweep : Sweep) where
+module _ (c : Config) (k : Checked c) (n : ℕ) (v : Knowledge) (log : List NotedVersion) (freed from : ℕ) (call : Call) (sweep : Sweep) where
   outside_not : RestsAt c v log freed from None → (what : Call) → may_begin log (state_with n None from freed call sweep) what ≡ false
       → MayNotBegin c v what
   outside_not rests Enter e = absurd (cc)

@@ -7,9 +7,9 @@ use Rattle.mv_history.specs.declared.Step.{Step}
 use Rattle.mv_history.specs.declared.StepKind.TheVariants.{StoreData}
 use Rattle.mv_core.proofs.Terms.{Config, Checked}
 use Rattle.mv_core.specs.declared.ring.Version as core
-use Rattle.mv_core.specs.declared.view.View.{View}
+use Rattle.mv_core.specs.declared.view.Knowledge.{Knowledge}
 use Rattle.mv_core.specs.LockSteps.{data_stored}
-use Rattle.mv_core.specs.Moves.{Moment, Kind, store_data}
+use Rattle.mv_core.specs.Moves.{Moment, MoveKind, store_data}
 use Rattle.seat_log.specs.declared.version.Note.{Note}
 use Rattle.seat_log.specs.Notes.{Noted, some_noted}
 use Rattle.seat_log.specs.Stands.{Stands}
@@ -20,11 +20,11 @@ use Rattle.object_lock.specs.Writes.{IsHeldAt, Stores}
 use Rattle.object_lock.proofs.Locked.{noted_is}
 use Rattle.object_lock.proofs.Rewriting.{is_held, all_written, spare_stays}
 use Rattle.replay_rules.specs.declared.plan.Call.TheVariants.{Write}
-use Rattle.replay_rules.specs.declared.seats.Version.{Version}
+use Rattle.replay_rules.specs.declared.seats.NotedVersion.{NotedVersion}
 use Rattle.replay_rules.specs.declared.seats.State.{State}
-use Rattle.replay_rules.specs.declared.seats.Task.{Task}
-use Rattle.replay_rules.specs.declared.seats.Task.TheVariants.{Enters, Helps, Walks, Locks, Writes, EndsSection, Tidies}
-use Rattle.replay_rules.specs.declared.seats.Answer.TheVariants.{Silent}
+use Rattle.replay_rules.specs.declared.seats.NextStep.{NextStep}
+use Rattle.replay_rules.specs.declared.seats.NextStep.TheVariants.{Enters, Helps, Walks, Locks, Writes, EndsSection, Tidies}
+use Rattle.replay_rules.specs.declared.seats.CallAnswer.TheVariants.{Silent}
 use Rattle.replay_rules.specs.declared.seats.Then.TheVariants.{Goes, Ends}
 use Rattle.replay_rules.specs.declared.seats.Test.TheVariants.{IsOf}
 use Rattle.replay_rules.specs.SeatNotes.{first_from, applied}
@@ -41,7 +41,7 @@ use Rattle.replay_rules.proofs.answers.Progress.{Comes, state_with, BeginsSo, Go
 use Rattle.replay_rules.proofs.answers.HeldObjects.{held_there}
 
 -- What a write has done so far: so many of the words, the first ones, are those of the object's version, and each was stored in a step.
-pub record HasWritten (c : Config) (v w : View) (o : ℕ) (words : List ℕ) (at word : ℕ) : Type 0 where
+pub record HasWritten (c : Config) (v w : Knowledge) (o : ℕ) (words : List ℕ) (at word : ℕ) : Type 0 where
   pub noted : Noted
   pub before : Stands c v noted
   pub held : IsHeldAt noted o at
@@ -51,23 +51,23 @@ pub record HasWritten (c : Config) (v w : View) (o : ℕ) (words : List ℕ) (at
   pub wide : length (slice_index_or noted.live (at - noted.freed) held.note).words ≡ 6
 
 -- so far has a write come
-abbrev pub WriteFar : ℕ → List ℕ → Config → ℕ → View → View → List Version → State → Task → Type 0
+abbrev pub WriteFar : ℕ → List ℕ → Config → ℕ → Knowledge → Knowledge → List NotedVersion → State → NextStep → Type 0
 WriteFar o words c n v w log s (Writes at these word) = HasWritten c v w o words at word × (these ≡ words)
 WriteFar o words c n v w log s task = ⊥
 
 -- no word was stored
-none_stored : (v : View) → Stores v v 0
+none_stored : (v : Knowledge) → Stores v v 0
 none_stored v = record { rest = refl; trail = ([], sym (append-nil v.trail), refl, All-nil (λ (s : Step). s.kind ≡ StoreData)) }
 
 -- one word more
-one_stored : (u v w : View) (n : ℕ) (s : Step) → Stores u v n → w ≡ record v { ring = w.ring; trail = w.trail } → w.trail ≡ v.trail ++ s ∷ []
+one_stored : (u v w : Knowledge) (n : ℕ) (s : Step) → Stores u v n → w ≡ record v { ring = w.ring; trail = w.trail } → w.trail ≡ v.trail ++ s ∷ []
     → s.kind ≡ StoreData → Stores u w (n + 1)
 one_stored u v w n s so rest trail is =
     let t = so.trail in
     let long = t.2 in
     let more = length-append t.0 (s ∷ []) in
     record {
-      rest = rest ∙ ap (λ (z : View). record z { ring = w.ring; trail = w.trail }) so.rest;
+      rest = rest ∙ ap (λ (z : Knowledge). record z { ring = w.ring; trail = w.trail }) so.rest;
       trail = (
         t.0 ++ s ∷ [],
         trail ∙ ap (λ (l : List Step). l ++ s ∷ []) t.1 ∙ append_assoc u.trail t.0 (s ∷ []),
@@ -78,9 +78,9 @@ one_stored u v w n s so rest trail is =
 
 -- a write begins
 module _ (o : ℕ) (words : List ℕ) (c : Config) (k : Checked c) (six : length words ≡ 6) (n : ℕ) (made : List Made) (each : AreMade c made)
-    (log : List Version) (freed from : ℕ) (time : Option ℕ) (inside : InSection c ((state_of c made).seats n) log freed from time)
+    (log : List NotedVersion) (freed from : ℕ) (time : Option ℕ) (inside : InSection c ((state_of c made).seats n) log freed from time)
     (there : first_from log from (IsOf o) < length log) where
-  abbrev start : View
+  abbrev start : Knowledge
   start = (state_of c made).seats n
 
   abbrev l : Noted
@@ -110,15 +110,15 @@ write_begins o words c k fit n lt made each log freed from (Some t) rests may =
     (begun o words c k fit.1.0 n made each log freed from (Some t) rests (ltb_lt (first_from log from (IsOf o)) (length log) may), refl)
 
 -- and goes on
-module _ (o : ℕ) (words : List ℕ) (c : Config) (n : ℕ) (made : List Made) (u : View) (at word : ℕ) (less : word < 6) where
+module _ (o : ℕ) (words : List ℕ) (c : Config) (n : ℕ) (made : List Made) (u : Knowledge) (at word : ℕ) (less : word < 6) where
   abbrev s : Moment
   s = state_of c made
 
-  abbrev v : View
+  abbrev v : Knowledge
   v = s.seats n
 
   -- the step of the core is of this kind
-  abbrev Steps : List ℕ → Kind → Type 0
+  abbrev Steps : List ℕ → MoveKind → Type 0
   Steps these kind = IsStepOf c made (step_of n kind) n (Writes at these word)
 
   -- one word more was stored
@@ -138,7 +138,7 @@ module _ (o : ℕ) (words : List ℕ) (c : Config) (n : ℕ) (made : List Made) 
       }
 
   -- all of them were
-  all_so : (w : View) → HasWritten c u w o words at 6 → AnswersSo c (Write o words) u w Silent
+  all_so : (w : Knowledge) → HasWritten c u w o words at 6 → AnswersSo c (Write o words) u w Silent
   all_so w far =
       let l = far.noted in
       let noted = all_noted l at words far.held.note far.six far.wide in
@@ -149,7 +149,7 @@ module _ (o : ℕ) (words : List ℕ) (c : Config) (n : ℕ) (made : List Made) 
         stores = far.stores;
       }
 
-  write_so : (notes : List Version) (state : State) (version : core.Version) → Steps words (store_data at word (slice_index words word) version)
+  write_so : (notes : List NotedVersion) (state : State) (version : core.Version) → Steps words (store_data at word (slice_index words word) version)
       → HasWritten c u v o words at word
       → let w = view_by c s n (store_data at word (slice_index words word) version) in
       Comes (WriteFar o words c n u w notes state) (AnswersSo c (Write o words) u w)
@@ -163,16 +163,17 @@ module _ (o : ℕ) (words : List ℕ) (c : Config) (n : ℕ) (made : List Made) 
       let last : word + 1 ≡ 6 = (let ge = ltb_ge word 5 e in omega (arith, ge, less)) in
       all_so w (subst (HasWritten c u w o words at) last more))
 
-  kind_so : (notes : List Version) (state : State) (these : List ℕ) → these ≡ words → HasWritten c u v o words at word → (kind : Kind) → Steps these kind
+  kind_so : (notes : List NotedVersion) (state : State) (these : List ℕ) → these ≡ words → HasWritten c u v o words at word → (kind : MoveKind)
+      → Steps these kind
       → (version : core.Version) → kind ≡ store_data at word (slice_index these word) version
       → Comes (WriteFar o words c n u (view_by c s n kind) notes state) (AnswersSo c (Write o words) u (view_by c s n kind))
       (if ltb word 5 then Goes (Writes at these (word + 1)) else Ends Silent)
   kind_so notes state these same far kind step version is =
       let all : kind ≡ store_data at word (slice_index words word) version =
       is ∙ ap (λ (ws : List ℕ). store_data at word (slice_index ws word) version) same in
-      subst (λ (p : List ℕ × Kind). Comes (WriteFar o words c n u (view_by c s n p.1) notes state) (AnswersSo c (Write o words) u (view_by c s n p.1))
+      subst (λ (p : List ℕ × MoveKind). Comes (WriteFar o words c n u (view_by c s n p.1) notes state) (AnswersSo c (Write o words) u (view_by c s n p.1))
       (if ltb word 5 then Goes (Writes at p.0 (word + 1)) else Ends Silent)) (λ i. (sym same i, sym all i))
-      (write_so notes state version (subst (λ (p : List ℕ × Kind). Steps p.0 p.1) (λ i. (same i, all i)) step) far)
+      (write_so notes state version (subst (λ (p : List ℕ × MoveKind). Steps p.0 p.1) (λ i. (same i, all i)) step) far)
 
 pub write_goes : (o : ℕ) (words : List ℕ) → GoesOnSo (Write o words) (WriteFar o words)
 write_goes o words c k n lt made each log freed from time sweep (Writes at these word) stands scan kind step is u far so =

@@ -6,8 +6,8 @@ use Rattle.mv_layout.specs.Words.{clock_time_of}
 use Rattle.mv_core.proofs.Terms.{Config, Checked, Clock, Mark, Prev}
 use Rattle.mv_core.specs.declared.ring.Version as core
 use Rattle.mv_core.specs.declared.ring.Slot.TheVariants.{Live}
-use Rattle.mv_core.specs.declared.ring.Status.TheVariants.{Held}
-use Rattle.mv_core.specs.declared.view.View.{View}
+use Rattle.mv_core.specs.declared.ring.WriteSetStatus.TheVariants.{Held}
+use Rattle.mv_core.specs.declared.view.Knowledge.{Knowledge}
 use Rattle.mv_core.specs.Rings.{slot_at, index_of, HoldsNothing}
 use Rattle.mv_core.specs.EnterSteps.{IsWhole, IsFinished, MayClearMark}
 use Rattle.mv_core.specs.SetFacts.{HoldsVersion, HoldsSlot}
@@ -18,15 +18,15 @@ use Rattle.commit_abort.specs.Aborts.{IsAborting, HeldSlot, held_number, HasGive
 use Rattle.commit_abort.proofs.AbortParts as parts
 use Rattle.replay_rules.specs.declared.plan.Call.{Call}
 use Rattle.replay_rules.specs.declared.plan.CallOf.{CallOf}
-use Rattle.replay_rules.specs.declared.seats.Version.{Version}
+use Rattle.replay_rules.specs.declared.seats.NotedVersion.{NotedVersion}
 use Rattle.replay_rules.specs.declared.seats.Edit.TheVariants.{AbortedFrom}
 use Rattle.replay_rules.specs.declared.seats.Sweep.{Sweep}
 use Rattle.replay_rules.specs.declared.seats.Ending.{Ending}
 use Rattle.replay_rules.specs.declared.seats.Ending.TheVariants.{Unlock, LoadDeath, Leave}
 use Rattle.replay_rules.specs.declared.seats.Leaving.TheVariants.{Plainly, WithAbort}
-use Rattle.replay_rules.specs.declared.seats.Task.{Task}
-use Rattle.replay_rules.specs.declared.seats.Task.TheVariants.{EndsSection}
-use Rattle.replay_rules.specs.declared.seats.Answer.TheVariants.{Silent}
+use Rattle.replay_rules.specs.declared.seats.NextStep.{NextStep}
+use Rattle.replay_rules.specs.declared.seats.NextStep.TheVariants.{EndsSection}
+use Rattle.replay_rules.specs.declared.seats.CallAnswer.TheVariants.{Silent}
 use Rattle.replay_rules.specs.declared.seats.Then.TheVariants.{Goes}
 use Rattle.replay_rules.specs.FitPlans.{IsFitCallOf}
 use Rattle.replay_rules.specs.SeatNotes.{edited_from, version_at}
@@ -42,11 +42,11 @@ use Rattle.replay_rules.proofs.runs.Known.{if_so, ltb_lt, ltb_ge, facts, number_
 use Rattle.replay_rules.proofs.runs.LogFacts.{noted_long, noted_from, noted_at}
 
 -- the notes with another place from which on versions are held, where it is the same
-pub logs_at : (c : Config) (v : View) (log : List Version) (freed from other : ℕ) → from ≡ other → Logs c v log freed from → Logs c v log freed other
+pub logs_at : (c : Config) (v : Knowledge) (log : List NotedVersion) (freed from other : ℕ) → from ≡ other → Logs c v log freed from → Logs c v log freed other
 logs_at c v log freed from other same = subst (Logs c v log freed) same
 
 -- a section whose notes say that nothing is held holds nothing
-pub holds_nothing : (c : Config) (v : View) (log : List Version) (freed from : ℕ) → Logs c v log freed from → from ≡ length log → HoldsNothing v.ring
+pub holds_nothing : (c : Config) (v : Knowledge) (log : List NotedVersion) (freed from : ℕ) → Logs c v log freed from → from ≡ length log → HoldsNothing v.ring
 holds_nothing c v log freed from logs none j x e =
     let l = logs.noted in
     let r = noted_in c v l logs.stands j x Held e in
@@ -57,12 +57,12 @@ holds_nothing c v log freed from logs none j x e =
     omega (arith, late, first, long, within, none)
 
 module _ (c : Config) (k : Checked c) (n : ℕ) (lt : n < c.seats) (made : List Made) (t : TapeOf) (b : IsTapeBehind c t made)
-    (log : List Version) (freed from : ℕ) (time : Option ℕ) (call : Call) (sweep : Sweep) (own : Option Task) (left : List CallOf)
+    (log : List NotedVersion) (freed from : ℕ) (time : Option ℕ) (call : Call) (sweep : Sweep) (own : Option NextStep) (left : List CallOf)
     (no_scan : ((state_of c made).seats n).scan ≡ None) (before : All (IsFitCallOf c) left) where
   abbrev s : Moment
   s = state_of c made
 
-  abbrev v : View
+  abbrev v : Knowledge
   v = s.seats n
 
   abbrev Made_so : Ending → Type 0

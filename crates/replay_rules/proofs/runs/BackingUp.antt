@@ -6,10 +6,10 @@ use Rattle.mv_layout.specs.Words.{link_of}
 use Rattle.mv_core.proofs.Terms.{Config, Checked, Head, Data}
 use Rattle.mv_core.specs.declared.ring.CommitNote.{CommitNote}
 use Rattle.mv_core.specs.declared.ring.Slot.TheVariants.{Live}
-use Rattle.mv_core.specs.declared.ring.Status.TheVariants.{Committed}
-use Rattle.mv_core.specs.declared.view.View.{View}
+use Rattle.mv_core.specs.declared.ring.WriteSetStatus.TheVariants.{Committed}
+use Rattle.mv_core.specs.declared.view.Knowledge.{Knowledge}
 use Rattle.mv_core.specs.declared.view.Stand.{Stand}
-use Rattle.mv_core.specs.declared.view.Walk.TheVariants as walk
+use Rattle.mv_core.specs.declared.view.WalkStage.TheVariants as walk
 use Rattle.mv_core.specs.declared.view.Passed.TheVariants.{Nothing}
 use Rattle.mv_core.specs.Rings.{slot_at, index_of}
 use Rattle.mv_core.specs.EnterSteps.{stored_if}
@@ -22,15 +22,15 @@ use Rattle.seat_log.specs.Stands.{version_of}
 use Rattle.seat_log.proofs.CutLogs.{stands_cut_lost}
 use Rattle.replay_rules.specs.declared.plan.Call.TheVariants.{Tidy}
 use Rattle.replay_rules.specs.declared.plan.CallOf.{CallOf}
-use Rattle.replay_rules.specs.declared.seats.Version.{Version}
+use Rattle.replay_rules.specs.declared.seats.NotedVersion.{NotedVersion}
 use Rattle.replay_rules.specs.declared.seats.Sweep.{Sweep}
 use Rattle.replay_rules.specs.declared.seats.State.{State}
-use Rattle.replay_rules.specs.declared.seats.Back.{Back}
-use Rattle.replay_rules.specs.declared.seats.Back.TheVariants.{WasGone, WasAbove}
+use Rattle.replay_rules.specs.declared.seats.WriteBackEnd.{WriteBackEnd}
+use Rattle.replay_rules.specs.declared.seats.WriteBackEnd.TheVariants.{WasGone, WasAbove}
 use Rattle.replay_rules.specs.declared.seats.Sweeping.{Sweeping}
 use Rattle.replay_rules.specs.declared.seats.Sweeping.TheVariants.{LoadTop, StoreMaster, CutHead, LoadCutDeath, LeaveBack}
-use Rattle.replay_rules.specs.declared.seats.Task.{Task}
-use Rattle.replay_rules.specs.declared.seats.Task.TheVariants.{Tidies}
+use Rattle.replay_rules.specs.declared.seats.NextStep.{NextStep}
+use Rattle.replay_rules.specs.declared.seats.NextStep.TheVariants.{Tidies}
 use Rattle.replay_rules.specs.declared.seats.Then.{Then}
 use Rattle.replay_rules.specs.declared.seats.Then.TheVariants.{Goes}
 use Rattle.replay_rules.specs.FitPlans.{IsFitCallOf}
@@ -52,12 +52,12 @@ use Rattle.replay_rules.proofs.runs.Building.{link_is}
 use Rattle.replay_rules.proofs.runs.Rounds.{untimed}
 
 module _ (c : Config) (k : Checked c) (n : ℕ) (lt : n < c.seats) (made : List Made) (t : TapeOf) (b : IsTapeBehind c t made)
-    (log : List Version) (freed from : ℕ) (time : Option ℕ) (sweep : Sweep) (own : Option Task) (left : List CallOf)
+    (log : List NotedVersion) (freed from : ℕ) (time : Option ℕ) (sweep : Sweep) (own : Option NextStep) (left : List CallOf)
     (no_scan : ((state_of c made).seats n).scan ≡ None) (before : All (IsFitCallOf c) left) where
   abbrev s : Moment
   s = state_of c made
 
-  abbrev v : View
+  abbrev v : Knowledge
   v = s.seats n
 
   few_seats : n < 64
@@ -70,11 +70,11 @@ module _ (c : Config) (k : Checked c) (n : ℕ) (lt : n < c.seats) (made : List 
   Made_so step = StepsSo c n made t (Tidies step) seat_so
 
   -- what a write-back leaves that wasn't won
-  uncut_so : (w : View) (at link : ℕ) → IsUncut c w log freed from sweep at
+  uncut_so : (w : Knowledge) (at link : ℕ) → IsUncut c w log freed from sweep at
       → GoesSo c n w log freed from time Tidy sweep
       (Goes (Tidies (LeaveBack at (back_by (record { seat = n; time = time; from = from; freed = freed; call = Tidy; sweep = sweep }) link))))
   uncut_so w at link uncut =
-      if_so (λ (x : Back). GoesSo c n w log freed from time Tidy sweep (Goes (Tidies (LeaveBack at x)))) (link == 0) WasGone
+      if_so (λ (x : WriteBackEnd). GoesSo c n w log freed from time Tidy sweep (Goes (Tidies (LeaveBack at x)))) (link == 0) WasGone
       (WasAbove (other_seat n link))
       (λ gone. by_step (Tidies (LeaveBack at WasGone)) refl (uncut, refl))
       (λ above. by_step (Tidies (LeaveBack at (WasAbove (other_seat n link)))) refl (uncut, refl))
@@ -291,7 +291,7 @@ module _ (c : Config) (k : Checked c) (n : ℕ) (lt : n < c.seats) (made : List 
         back = f.back;
         swept = f.swept;
       }) in
-      let So : View → Then → Type 0 = λ u y. (u.scan ≡ None) × GoesSo c n u log freed from time Tidy sweep y in
+      let So : Knowledge → Then → Type 0 = λ u y. (u.scan ≡ None) × GoesSo c n u log freed from time Tidy sweep y in
       let W : Bool → Type 0 = λ y. So (if y then A else B)
       (if y then Goes (Tidies (LoadCutDeath at)) else Goes (Tidies (LeaveBack at (back_by state found)))) in
       let here : (found == link_of v.number at) ≡ (found == link_to n at) = ap (λ l. found == l) link in

@@ -7,8 +7,8 @@ use Rattle.mv_core.proofs.Terms.{Config, Checked}
 use Rattle.mv_core.specs.declared.ring.Build as core
 use Rattle.mv_core.specs.declared.ring.Slot.{Slot}
 use Rattle.mv_core.specs.declared.ring.Slot.TheVariants as slots
-use Rattle.mv_core.specs.declared.view.View.{View}
-use Rattle.mv_core.specs.declared.view.Section.{Section}
+use Rattle.mv_core.specs.declared.view.Knowledge.{Knowledge}
+use Rattle.mv_core.specs.declared.view.OwnSection.{OwnSection}
 use Rattle.mv_core.specs.Rings.{slot_at, index_of}
 use Rattle.mv_core.specs.Times.{words_of}
 use Rattle.mv_core.specs.Views.{time_in}
@@ -19,7 +19,7 @@ use Rattle.seat_log.specs.Stands.{Stands}
 use Rattle.seat_log.specs.Builds.{build_at, stored_next, MayBuild}
 use Rattle.seat_log.proofs.BuildsOn.{BuildsOn, builds_first}
 use Rattle.seat_log.proofs.Standing.{may_build, stands_on, built_is_log}
-use Rattle.replay_rules.specs.declared.seats.Version.{Version}
+use Rattle.replay_rules.specs.declared.seats.NotedVersion.{NotedVersion}
 use Rattle.replay_rules.specs.Tasks.{link_to}
 use Rattle.replay_rules.proofs.runs.Sections.{Logs, InSection}
 use Rattle.replay_rules.proofs.runs.Standing.{HasFields, Builds}
@@ -27,7 +27,7 @@ use Rattle.replay_rules.proofs.runs.LogFacts.{noted_long, next_long}
 use Rattle.replay_rules.proofs.runs.Known.{and_right}
 
 -- the first of another write set isn't the position that is built
-pub other_first : (version : Version) (at field : ℕ) → ((field == 0) && not (version.first == at)) ≡ true → version.first ≢ at
+pub other_first : (version : NotedVersion) (at field : ℕ) → ((field == 0) && not (version.first == at)) ≡ true → version.first ≢ at
 other_first version at field e same =
     let t = eq-eqb version.first at same in
     let f : not (version.first == at) ≡ false = ap not t in
@@ -35,7 +35,7 @@ other_first version at field e same =
     let h = and_right (field == 0) false g in absurd (cc)
 
 -- and the first of its own is
-pub own_first : (version : Version) (at field : ℕ) → field + 1 ≡ 1 → ((field == 0) && not (version.first == at)) ≡ false → version.first ≡ at
+pub own_first : (version : NotedVersion) (at field : ℕ) → field + 1 ≡ 1 → ((field == 0) && not (version.first == at)) ≡ false → version.first ≡ at
 own_first version at field z e =
     let zero : field ≡ 0 = omega (arith, z) in
     let f : (true && not (version.first == at)) ≡ false = ap (λ x. x && not (version.first == at)) (sym (eq-eqb field 0 zero)) ∙ e in
@@ -52,7 +52,8 @@ link_is n at seat lt =
     ∙ ap (λ b. if b then link_of n at else 0) (lt-ltb at 144115188075855872 (omega (arith, lt)))
 
 -- what a lock builds stays with the section and what was seen
-pub builds_stay : (c : Config) (v w : View) (i : Section) (log : List Version) (from o : ℕ) (version : Version) (at : ℕ) → w.start ≡ v.start → w.past ≡ v.past
+pub builds_stay : (c : Config) (v w : Knowledge) (i : OwnSection) (log : List NotedVersion) (from o : ℕ) (version : NotedVersion) (at : ℕ) → w.start ≡ v.start
+    → w.past ≡ v.past
     → Builds c v i log from o version at → Builds c w i log from o version at
 builds_stay c v w i log from o version at start past k = record {
   object_is = k.object_is;
@@ -66,7 +67,7 @@ builds_stay c v w i log from o version at start past k = record {
   no_death = k.no_death;
 }
 
-module _ (c : Config) (k : Checked c) (v : View) (log : List Version) (freed from : ℕ) (time : Option ℕ) (at : ℕ)
+module _ (c : Config) (k : Checked c) (v : Knowledge) (log : List NotedVersion) (freed from : ℕ) (time : Option ℕ) (at : ℕ)
     (inside : InSection c v log freed from time) (room : length log < freed + c.slots) (at_is : at ≡ length log) where
   abbrev l : Noted
   l = inside.logs.noted
@@ -82,7 +83,7 @@ module _ (c : Config) (k : Checked c) (v : View) (log : List Version) (freed fro
 
   -- the notes stand for the view with one word more in the slot that is built, which is there
   module _ (field x : ℕ) (six : length (built_too (build_at c v at) field x).words ≡ 6) where
-    abbrev w : View
+    abbrev w : Knowledge
     w = built_stored c v at field x (build_at c v at)
 
     on : BuildsOn c v (built_stored c v at field x (build_at c v at)) at (built_too (build_at c v at) field x)
@@ -103,7 +104,7 @@ module _ (c : Config) (k : Checked c) (v : View) (log : List Version) (freed fro
         }
 
   -- the slot that was built whole
-  pub built_there : (version : Version) (field : ℕ) → HasFields (build_at c v at) version at field → 0 < field
+  pub built_there : (version : NotedVersion) (field : ℕ) → HasFields (build_at c v at) version at field → 0 < field
       → slot_at v.ring (index_of c at) ≡ slots.Built (build_at c v at)
   built_there version field has some = go (slot_at v.ring (index_of c at)) refl
     where

@@ -4,10 +4,10 @@ use Rattle.std.proofs.Common.{if◌then◌else◌, ◌-◌}
 use Rattle.std.specs.Prelude.{slice_get}
 use Rattle.mv_layout.specs.Words.{clock_of, clock_time_of}
 use Rattle.mv_core.proofs.Terms.{Config}
-use Rattle.mv_core.specs.declared.view.View.{View}
+use Rattle.mv_core.specs.declared.view.Knowledge.{Knowledge}
 use Rattle.seat_log.specs.Notes.{held_from}
 use Rattle.commit_abort.proofs.FinishParts as parts
-use Rattle.replay_rules.specs.declared.seats.Version.{Version}
+use Rattle.replay_rules.specs.declared.seats.NotedVersion.{NotedVersion}
 use Rattle.replay_rules.specs.SeatNotes.{version_at}
 use Rattle.replay_rules.specs.Tasks.{slot_at as slot_for, commit_clock}
 use Rattle.replay_rules.proofs.runs.Notes.{note_of}
@@ -24,7 +24,8 @@ next_word_is c word n at slot room seat low is =
     ∙ ap (λ b. if b then clock_of (clock_time_of word + 1) n slot else 0) (le-leb slot 8191 low)
 
 -- nothing is below some more of the versions, so these count as told
-pub told_on : (c : Config) (v : View) (log : List Version) (freed from time told more : ℕ) → Finishes c v log freed from time told → from + told + more
+pub told_on : (c : Config) (v : Knowledge) (log : List NotedVersion) (freed from time told more : ℕ) → Finishes c v log freed from time told
+    → from + told + more
     ≤ length log
     → ((j : ℕ) → from + told ≤ j → j < from + told + more → (version_at log j).previous ≡ 0) → Finishes c v log freed from time (told + more)
 told_on c v log freed from time told zero fin within none = subst (Finishes c v log freed from time) (omega arith) fin

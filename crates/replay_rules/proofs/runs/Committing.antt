@@ -6,8 +6,8 @@ use Rattle.std.proofs.lemmas.List.Elements.{Contains-append_left, Contains-appen
 use Rattle.mv_layout.proofs.Unpacking.{time_back, seat_back, slot_back}
 use Rattle.mv_layout.specs.Words.{clock_of, clock_time_of, clock_seat_of, clock_slot_of, link_position_of, unset_of}
 use Rattle.mv_core.proofs.Terms.{dite, ℕ_discrete, Config, Checked, Clock, Mark, Stamp}
-use Rattle.mv_core.specs.declared.view.View.{View}
-use Rattle.mv_core.specs.declared.view.Section.{Section}
+use Rattle.mv_core.specs.declared.view.Knowledge.{Knowledge}
+use Rattle.mv_core.specs.declared.view.OwnSection.{OwnSection}
 use Rattle.mv_core.specs.declared.view.Naming.{Naming}
 use Rattle.mv_core.specs.declared.view.Phase.TheVariants.{Inside}
 use Rattle.mv_core.specs.declared.view.Mode.TheVariants.{Named}
@@ -26,7 +26,7 @@ use Rattle.commit_abort.proofs.FinishParts as parts
 use Rattle.replay_rules.specs.declared.plan.Call.{Call}
 use Rattle.replay_rules.specs.declared.plan.Call.TheVariants.{Commit}
 use Rattle.replay_rules.specs.declared.plan.CallOf.{CallOf}
-use Rattle.replay_rules.specs.declared.seats.Version.{Version}
+use Rattle.replay_rules.specs.declared.seats.NotedVersion.{NotedVersion}
 use Rattle.replay_rules.specs.declared.seats.Edit.TheVariants.{CommittedFrom}
 use Rattle.replay_rules.specs.declared.seats.Test.TheVariants.{IsLinked}
 use Rattle.replay_rules.specs.declared.seats.Sweep.{Sweep}
@@ -35,9 +35,9 @@ use Rattle.replay_rules.specs.declared.seats.Helping.TheVariants.{LoadNamed}
 use Rattle.replay_rules.specs.declared.seats.Ending.{Ending}
 use Rattle.replay_rules.specs.declared.seats.Ending.TheVariants.{LoadNow, Name, StampOwn, StoreSuper, Leave}
 use Rattle.replay_rules.specs.declared.seats.Leaving.TheVariants.{WithCommit}
-use Rattle.replay_rules.specs.declared.seats.Task.{Task}
-use Rattle.replay_rules.specs.declared.seats.Task.TheVariants.{Helps, EndsSection}
-use Rattle.replay_rules.specs.declared.seats.Answer.TheVariants.{Committed}
+use Rattle.replay_rules.specs.declared.seats.NextStep.{NextStep}
+use Rattle.replay_rules.specs.declared.seats.NextStep.TheVariants.{Helps, EndsSection}
+use Rattle.replay_rules.specs.declared.seats.CallAnswer.TheVariants.{Committed}
 use Rattle.replay_rules.specs.declared.seats.Then.TheVariants.{Goes, Ends}
 use Rattle.replay_rules.specs.FitPlans.{IsFitCallOf}
 use Rattle.replay_rules.specs.SeatNotes.{edited_from, version_at, first_from}
@@ -59,12 +59,12 @@ use Rattle.replay_rules.proofs.runs.Helping.{rests_in, named_so, section_kept}
 use Rattle.replay_rules.proofs.runs.CommitFacts.{next_word_is, told_on}
 
 module _ (c : Config) (k : Checked c) (n : ℕ) (lt : n < c.seats) (made : List Made) (t : TapeOf) (b : IsTapeBehind c t made)
-    (log : List Version) (freed from : ℕ) (time : Option ℕ) (call : Call) (sweep : Sweep) (own : Option Task) (left : List CallOf)
+    (log : List NotedVersion) (freed from : ℕ) (time : Option ℕ) (call : Call) (sweep : Sweep) (own : Option NextStep) (left : List CallOf)
     (no_scan : ((state_of c made).seats n).scan ≡ None) (before : All (IsFitCallOf c) left) where
   abbrev s : Moment
   s = state_of c made
 
-  abbrev v : View
+  abbrev v : Knowledge
   v = s.seats n
 
   abbrev Made_so : Ending → Type 0
@@ -82,7 +82,7 @@ module _ (c : Config) (k : Checked c) (n : ℕ) (lt : n < c.seats) (made : List 
       (low, omega (arith, low, few))
 
   -- behind the last version below which SUPER is stored the section ends
-  super_so : (w : View) (told at t2 : ℕ) → Finishes c w log freed from t2 told → at ≡ from + told → at ≤ length log
+  super_so : (w : Knowledge) (told at t2 : ℕ) → Finishes c w log freed from t2 told → at ≡ from + told → at ≤ length log
       → GoesSo c n w log freed from time call sweep (then_super log (first_from log at IsLinked) t2)
   super_so w told at t2 fin at_is within =
       let next = first_from log at IsLinked in
@@ -197,8 +197,8 @@ module _ (c : Config) (k : Checked c) (n : ℕ) (lt : n < c.seats) (made : List 
         in_time = omega (arith, room);
       } in
       next_is c k n lt made t b kind task of (seat_with n log freed from time call sweep own left) refl log freed from time call sweep own left refl
-      (subst (λ (u : View). u.scan ≡ None) (sym view) no_scan) before
-      (subst (λ (u : View). GoesSo c n u log freed from time call sweep (after_name
+      (subst (λ (u : Knowledge). u.scan ≡ None) (sym view) no_scan) before
+      (subst (λ (u : Knowledge). GoesSo c n u log freed from time call sweep (after_name
       (record { seat = n; time = time; from = from; freed = freed; call = call; sweep = sweep })
       word found)) (sym view)
       (by_step (EndsSection (StampOwn from (clock_time_of word + 1)))
@@ -212,8 +212,8 @@ module _ (c : Config) (k : Checked c) (n : ℕ) (lt : n < c.seats) (made : List 
       let still = section_kept c v B log freed from time (λ i e o. e) refl (λ x has. Contains-append_left v.clocks.helped (if_none found) x has)
       (logs_left c v B log freed from refl refl refl refl _ refl (refl, refl)) inside in
       next_is c k n lt made t b kind task of (seat_with n log freed from time call sweep own left) refl log freed from time call sweep own left refl
-      (subst (λ (u : View). u.scan ≡ None) (sym view) no_scan) before
-      (subst (λ (u : View). GoesSo c n u log freed from time call sweep (after_name
+      (subst (λ (u : Knowledge). u.scan ≡ None) (sym view) no_scan) before
+      (subst (λ (u : Knowledge). GoesSo c n u log freed from time call sweep (after_name
       (record { seat = n; time = time; from = from; freed = freed; call = call; sweep = sweep })
       word found)) (sym view)
       (by_end (Committed (ends.Again rival))
@@ -240,7 +240,7 @@ module _ (c : Config) (k : Checked c) (n : ℕ) (lt : n < c.seats) (made : List 
       let word = clock_of t2 v.number (index_of c from) in
       let unset = unset_of from in
       let naming : Naming = record { time = clock_time_of won.word + 1; first = set_first won.before.ring; stamped = false } in
-      let here : Section = record won.inside { mode = Named naming } in
+      let here : OwnSection = record won.inside { mode = Named naming } in
       let phase : v.phase ≡ Inside here = has_named c v l won named.named in
       let small : from < 2 ^ 57 = (let top = (knows c k n made b.each).named here naming phase refl in omega (arith, top, first)) in
       let seat_low : v.number < 64 = omega (arith, own_seat, seats) in
@@ -270,7 +270,7 @@ module _ (c : Config) (k : Checked c) (n : ℕ) (lt : n < c.seats) (made : List 
       let own_is : is_own c v.number naming word unset ≡ true =
       ap (λ x. x && (unset == unset_of naming.first)) (eq-eqb word (clock_of naming.time v.number (index_of c naming.first)) may.4)
       ∙ eq-eqb unset (unset_of naming.first) may.5 in
-      let now : Section = record won.inside { mode = Named (record { time = t2; first = from; stamped = true }) } in
+      let now : OwnSection = record won.inside { mode = Named (record { time = t2; first = from; stamped = true }) } in
       let after_phase : stamped_phase c v.number v.phase word unset ≡ Inside now =
       ap (λ p. stamped_phase c v.number p word unset) phase
       ∙ ap (λ x. Inside (record won.inside { mode = Named (record naming { stamped = x }) })) own_is
@@ -294,7 +294,7 @@ module _ (c : Config) (k : Checked c) (n : ℕ) (lt : n < c.seats) (made : List 
       } in
       (no_scan, super_so w 0 from t2 begins (omega arith) (omega (arith, short))) in
       let found = s.memory (Stamp (clock_seat_of word) (clock_slot_of word)) in
-      let both = if_so (λ (u : View). (u.scan ≡ None) × GoesSo c n u log freed from time call sweep (then_super log (first_from log from IsLinked) t2))
+      let both = if_so (λ (u : Knowledge). (u.scan ≡ None) × GoesSo c n u log freed from time call sweep (then_super log (first_from log from IsLinked) t2))
       (found == unset)
       (stamp_swapped c v word unset unset) (stamp_swapped c v word unset found) (λ e. so unset) (λ e. so found) in
       next_is c k n lt made t b kind task of (seat_with n log freed from time call sweep own left) refl log freed from time call sweep own left refl

@@ -4,8 +4,8 @@ use Rattle.std.proofs.Common.{if◌then◌else◌}
 use Rattle.std.proofs.lemmas.List.Elements.{Contains-push}
 use Rattle.mv_layout.specs.Words.{clock_time_of, clock_slot_of}
 use Rattle.mv_core.proofs.Terms.{Config, Checked, Clock, Mark}
-use Rattle.mv_core.specs.declared.view.View.{View}
-use Rattle.mv_core.specs.declared.view.Section.{Section}
+use Rattle.mv_core.specs.declared.view.Knowledge.{Knowledge}
+use Rattle.mv_core.specs.declared.view.OwnSection.{OwnSection}
 use Rattle.mv_core.specs.declared.view.Phase.TheVariants.{Outside, Lowered, Marked}
 use Rattle.mv_core.specs.declared.view.Mode.TheVariants.{Open}
 use Rattle.mv_core.specs.Views.{low_of}
@@ -13,13 +13,13 @@ use Rattle.mv_core.specs.Moves.{Moment, load_low, store_mark, load_time}
 use Rattle.replay_rules.specs.declared.plan.Call.{Call}
 use Rattle.replay_rules.specs.declared.plan.Call.TheVariants.{Enter, Read, Lock, Write, Commit, Abort, Leave, Tidy}
 use Rattle.replay_rules.specs.declared.plan.CallOf.{CallOf}
-use Rattle.replay_rules.specs.declared.seats.Version.{Version}
+use Rattle.replay_rules.specs.declared.seats.NotedVersion.{NotedVersion}
 use Rattle.replay_rules.specs.declared.seats.Sweep.{Sweep}
 use Rattle.replay_rules.specs.declared.seats.Entering.{Entering}
 use Rattle.replay_rules.specs.declared.seats.Entering.TheVariants.{LoadLow, StoreMark, LoadTime}
 use Rattle.replay_rules.specs.declared.seats.Helping.TheVariants.{LoadNamed}
-use Rattle.replay_rules.specs.declared.seats.Task.{Task}
-use Rattle.replay_rules.specs.declared.seats.Task.TheVariants.{Enters, Helps}
+use Rattle.replay_rules.specs.declared.seats.NextStep.{NextStep}
+use Rattle.replay_rules.specs.declared.seats.NextStep.TheVariants.{Enters, Helps}
 use Rattle.replay_rules.specs.declared.seats.Then.TheVariants.{Goes}
 use Rattle.replay_rules.specs.FitPlans.{IsFitCallOf}
 use Rattle.replay_rules.specs.States.{Made, state_of}
@@ -33,7 +33,7 @@ use Rattle.replay_rules.proofs.runs.Stepping.{IsOfKind, view_by, next_is}
 use Rattle.replay_rules.proofs.runs.Known.{if_so, eqb_ne, facts, number_is, knows, logs_left}
 
 -- a help behind an entering
-enters_help : (c : Config) (v : View) (log : List Version) (freed from : ℕ) (time : Option ℕ) (sweep : Sweep) (word : ℕ) (call : Call)
+enters_help : (c : Config) (v : Knowledge) (log : List NotedVersion) (freed from : ℕ) (time : Option ℕ) (sweep : Sweep) (word : ℕ) (call : Call)
     → EntersFor v.grace log freed from sweep call → BeforeHelp c v log freed from time word → HelpsFor c v log freed from time (later sweep word) word call
 enters_help c v log freed from time sweep word Enter for h = h
 enters_help c v log freed from time sweep word Tidy for h = inl (h, for)
@@ -45,14 +45,14 @@ enters_help c v log freed from time sweep word Abort for h = absurd for
 enters_help c v log freed from time sweep word Leave for h = absurd for
 
 module _ (c : Config) (k : Checked c) (n : ℕ) (lt : n < c.seats) (made : List Made) (t : TapeOf) (b : IsTapeBehind c t made)
-    (log : List Version) (freed from : ℕ) (call : Call) (sweep : Sweep) (own : Option Task) (left : List CallOf)
+    (log : List NotedVersion) (freed from : ℕ) (call : Call) (sweep : Sweep) (own : Option NextStep) (left : List CallOf)
     (no_scan : ((state_of c made).seats n).scan ≡ None) (before : All (IsFitCallOf c) left)
     (for : EntersFor ((state_of c made).seats n).grace log freed from sweep call) (none : from ≡ length log)
     (logs : Logs c ((state_of c made).seats n) log freed from) where
   abbrev s : Moment
   s = state_of c made
 
-  abbrev v : View
+  abbrev v : Knowledge
   v = s.seats n
 
   abbrev Made_so : Entering → Type 0
@@ -94,7 +94,7 @@ module _ (c : Config) (k : Checked c) (n : ℕ) (lt : n < c.seats) (made : List 
       let w = view_by c s n load_time in
       let word = s.memory Clock in
       let held = logs_left c v w log freed from refl refl refl refl _ refl (refl, refl) logs in
-      let section : Section = record { low = low_of v.phase; word = word; mode = Open } in
+      let section : OwnSection = record { low = low_of v.phase; word = word; mode = Open } in
       let at = Some (clock_time_of word) in
       let helps : HelpsFor c w log freed from at (later sweep word) word call =
       enters_help c w log freed from at sweep word call for

@@ -6,7 +6,7 @@ use Rattle.mv_layout.specs.Words.{unset_of}
 use Rattle.mv_core.proofs.Terms.{dite, ℕ_discrete, Config, IsPlace}
 use Rattle.mv_core.specs.declared.ring.Build.{Build}
 use Rattle.mv_core.specs.LockSteps.{FitsField, field_place, built_too}
-use Rattle.replay_rules.specs.declared.seats.Version.{Version}
+use Rattle.replay_rules.specs.declared.seats.NotedVersion.{NotedVersion}
 use Rattle.replay_rules.specs.Tasks.{field_word, stamp_from}
 use Rattle.replay_rules.proofs.runs.Standing.{HasFields}
 use Rattle.replay_rules.proofs.runs.Known.{same_list, if_so, ltb_lt}
@@ -23,7 +23,7 @@ field_range c n slot (suc (suc zero)) seat in_log lt = (seat, in_log)
 field_range c n slot (suc (suc (suc zero))) seat in_log lt = (seat, in_log)
 field_range c n slot (suc (suc (suc (suc w)))) seat in_log lt = (seat, in_log, omega (arith, lt))
 
-module _ (version : Version) (at : ℕ) where
+module _ (version : NotedVersion) (at : ℕ) where
   -- and what is stored there is one of 64 bits
   pub field_small : (field : ℕ) → version.first < 2 ^ 64 → version.previous < 2 ^ 64 → ((i : ℕ) → slice_index version.words i < 2 ^ 64)
       → field_word version at field < 2 ^ 64
@@ -104,7 +104,7 @@ module _ (version : Version) (at : ℕ) where
   }
 
 -- all words of a whole build
-pub whole_words : (b : Build) (version : Version) (at : ℕ) → length version.words ≡ 6 → HasFields b version at 10 → b.words ≡ map Some version.words
+pub whole_words : (b : Build) (version : NotedVersion) (at : ℕ) → length version.words ≡ 6 → HasFields b version at 10 → b.words ≡ map Some version.words
 whole_words b version at wide has =
     same_list None b.words (map Some version.words) (has.wide ∙ sym wide ∙ sym (length-map version.words Some))
     (λ i lt.
@@ -113,7 +113,7 @@ whole_words b version at wide has =
     ∙ sym (get_or-map Some version.words i 0 None (omega (arith, in_words, wide))))
 
 -- with another link below
-pub has_link : (b : Build) (version : Version) (at previous other : ℕ) → HasFields b (record version { previous = previous }) at 10
+pub has_link : (b : Build) (version : NotedVersion) (at previous other : ℕ) → HasFields b (record version { previous = previous }) at 10
     → HasFields (record b { previous = Some other }) (record version { previous = other }) at 10
 has_link b version at previous other has = record {
   wide = has.wide;

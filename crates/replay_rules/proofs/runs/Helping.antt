@@ -4,8 +4,8 @@ use Rattle.std.proofs.Common.{refl, sym, ap, ◌∙◌, subst, arith, eqb-true, 
 use Rattle.std.proofs.lemmas.List.Elements.{Contains-append_left, Contains-append_right, Contains-push}
 use Rattle.mv_layout.specs.Words.{clock_time_of, clock_slot_of}
 use Rattle.mv_core.proofs.Terms.{Config, Checked, Clock}
-use Rattle.mv_core.specs.declared.view.View.{View}
-use Rattle.mv_core.specs.declared.view.Section.{Section}
+use Rattle.mv_core.specs.declared.view.Knowledge.{Knowledge}
+use Rattle.mv_core.specs.declared.view.OwnSection.{OwnSection}
 use Rattle.mv_core.specs.declared.view.Phase.TheVariants.{Outside, Inside}
 use Rattle.mv_core.specs.declared.view.Mode.{Mode}
 use Rattle.mv_core.specs.declared.view.Mode.TheVariants.{Open}
@@ -17,15 +17,15 @@ use Rattle.commit_abort.specs.declared.committing.Ended.TheVariants as ends
 use Rattle.replay_rules.specs.declared.plan.Call.{Call}
 use Rattle.replay_rules.specs.declared.plan.Call.TheVariants.{Enter, Read, Lock, Write, Commit, Abort, Leave, Tidy}
 use Rattle.replay_rules.specs.declared.plan.CallOf.{CallOf}
-use Rattle.replay_rules.specs.declared.seats.Version.{Version}
+use Rattle.replay_rules.specs.declared.seats.NotedVersion.{NotedVersion}
 use Rattle.replay_rules.specs.declared.seats.Sweep.{Sweep}
 use Rattle.replay_rules.specs.declared.seats.State.{State}
 use Rattle.replay_rules.specs.declared.seats.Helping.{Helping}
 use Rattle.replay_rules.specs.declared.seats.Helping.TheVariants.{LoadNamed, LoadCheck, SwapStamp}
 use Rattle.replay_rules.specs.declared.seats.Ending.TheVariants.{Name}
-use Rattle.replay_rules.specs.declared.seats.Task.{Task}
-use Rattle.replay_rules.specs.declared.seats.Task.TheVariants.{Helps, EndsSection, Tidies}
-use Rattle.replay_rules.specs.declared.seats.Answer.TheVariants.{AtTime, Committed}
+use Rattle.replay_rules.specs.declared.seats.NextStep.{NextStep}
+use Rattle.replay_rules.specs.declared.seats.NextStep.TheVariants.{Helps, EndsSection, Tidies}
+use Rattle.replay_rules.specs.declared.seats.CallAnswer.TheVariants.{AtTime, Committed}
 use Rattle.replay_rules.specs.declared.seats.Then.TheVariants.{Goes, Ends}
 use Rattle.replay_rules.specs.FitPlans.{IsFitCallOf}
 use Rattle.replay_rules.specs.Tasks.{commit_clock, next_clock, named_place}
@@ -43,13 +43,14 @@ use Rattle.replay_rules.proofs.runs.Stepping.{IsOfKind, view_by, next_is}
 use Rattle.replay_rules.proofs.runs.Known.{if_so, eqb_ne, facts, logs_left}
 
 -- a seat that is in a section and in no call
-pub rests_in : (c : Config) (v : View) (log : List Version) (freed from : ℕ) (time : Option ℕ) → InSection c v log freed from time → RestsAt c v log
+pub rests_in : (c : Config) (v : Knowledge) (log : List NotedVersion) (freed from : ℕ) (time : Option ℕ) → InSection c v log freed from time → RestsAt c v log
     freed from time
 rests_in c v log freed from time i =
     subst (RestsAt c v log freed from) (sym i.time_is) (record { section = i.section; walking = i.walking; time_is = refl; logs = i.logs })
 
 -- a commit whose word is helped tries its exchange of CLOCK, or no time is left
-pub named_so : (c : Config) (n : ℕ) (v : View) (log : List Version) (freed from : ℕ) (time : Option ℕ) (sweep : Sweep) (word : ℕ) → clock_time_of word ≤
+pub named_so : (c : Config) (n : ℕ) (v : Knowledge) (log : List NotedVersion) (freed from : ℕ) (time : Option ℕ) (sweep : Sweep) (word : ℕ)
+    → clock_time_of word ≤
     35184372088831
     → InSection c v log freed from time → from < length log → Contains v.clocks.loaded word → Contains v.clocks.helped word
     → GoesSo c n v log freed from time Commit sweep
@@ -62,7 +63,7 @@ named_so c n v log freed from time sweep word bound inside some loaded helped =
     (inside, some, loaded, helped, (let ne = eqb_ne (clock_time_of word) 35184372088831 more in omega (arith, ne, bound)), refl))
 
 -- a help is done
-pub helped_so : (c : Config) (n : ℕ) (v : View) (log : List Version) (freed from : ℕ) (time : Option ℕ) (call : Call) (sweep : Sweep) (word : ℕ)
+pub helped_so : (c : Config) (n : ℕ) (v : Knowledge) (log : List NotedVersion) (freed from : ℕ) (time : Option ℕ) (call : Call) (sweep : Sweep) (word : ℕ)
     → clock_time_of word ≤ 35184372088831 → HelpsFor c v log freed from time sweep word call → Contains v.clocks.loaded word → Contains v.clocks.helped word
     → GoesSo c n v log freed from time call sweep
     (helped_in call c log (record { seat = n; time = time; from = from; freed = freed; call = call; sweep = sweep }) word)
@@ -119,7 +120,7 @@ helped_so c n v log freed from time Tidy sweep word bound (inr h) loaded helped 
     ((h.0, refl, loaded, helped, (let ne = eqb_ne (clock_time_of word) 35184372088831 more in omega (arith, ne, bound)), refl), refl)))
 
 -- a tidy keeps in mind the greatest time that it found in CLOCK
-helps_later : (c : Config) (v : View) (log : List Version) (freed from : ℕ) (time : Option ℕ) (sweep : Sweep) (word found : ℕ) (call : Call)
+helps_later : (c : Config) (v : Knowledge) (log : List NotedVersion) (freed from : ℕ) (time : Option ℕ) (sweep : Sweep) (word found : ℕ) (call : Call)
     → HelpsFor c v log freed from time sweep word call → HelpsFor c v log freed from time (later sweep found) word call
 helps_later c v log freed from time sweep word found Enter h = h
 helps_later c v log freed from time sweep word found Commit h = h
@@ -132,7 +133,7 @@ helps_later c v log freed from time sweep word found Abort h = absurd h
 helps_later c v log freed from time sweep word found Leave h = absurd h
 
 -- a help is of an open section, or outside
-helps_check : (c : Config) (v : View) (log : List Version) (freed from : ℕ) (time : Option ℕ) (sweep : Sweep) (word : ℕ) (call : Call)
+helps_check : (c : Config) (v : Knowledge) (log : List NotedVersion) (freed from : ℕ) (time : Option ℕ) (sweep : Sweep) (word : ℕ) (call : Call)
     → HelpsFor c v log freed from time sweep word call → MayLoadCheck v.phase
 helps_check c v log freed from time sweep word Enter h = subst MayLoadCheck (sym h.phase) tt
 helps_check c v log freed from time sweep word Commit h = subst MayLoadCheck (sym h.0.walking.phase) tt
@@ -145,8 +146,8 @@ helps_check c v log freed from time sweep word Abort h = absurd h
 helps_check c v log freed from time sweep word Leave h = absurd h
 
 -- a section in which more clock words are helped
-pub section_kept : (c : Config) (v w : View) (log : List Version) (freed from : ℕ) (time : Option ℕ)
-    → ((i : Section) → v.phase ≡ Inside i → i.mode ≡ Open → w.phase ≡ Inside i)
+pub section_kept : (c : Config) (v w : Knowledge) (log : List NotedVersion) (freed from : ℕ) (time : Option ℕ)
+    → ((i : OwnSection) → v.phase ≡ Inside i → i.mode ≡ Open → w.phase ≡ Inside i)
     → w.back ≡ v.back → ((x : ℕ) → Contains v.clocks.helped x → Contains w.clocks.helped x) → (Logs c v log freed from → Logs c w log freed from)
     → InSection c v log freed from time → InSection c w log freed from time
 section_kept c v w log freed from time phase back helped logs i = record {
@@ -161,9 +162,9 @@ section_kept c v w log freed from time phase back helped logs i = record {
   logs = logs i.logs;
 }
 
-module _ (c : Config) (v w : View) (log : List Version) (freed from : ℕ) (time : Option ℕ) (sweep : Sweep) (word : ℕ)
+module _ (c : Config) (v w : Knowledge) (log : List NotedVersion) (freed from : ℕ) (time : Option ℕ) (sweep : Sweep) (word : ℕ)
     (outside : v.phase ≡ Outside → w.phase ≡ Outside)
-    (phase : (i : Section) → v.phase ≡ Inside i → i.mode ≡ Open → w.phase ≡ Inside i)
+    (phase : (i : OwnSection) → v.phase ≡ Inside i → i.mode ≡ Open → w.phase ≡ Inside i)
     (back : w.back ≡ v.back) (grace : w.grace ≡ v.grace) (helped : (x : ℕ) → Contains v.clocks.helped x → Contains w.clocks.helped x)
     (logs : Logs c v log freed from → Logs c w log freed from) where
   before_kept : BeforeHelp c v log freed from time word → BeforeHelp c w log freed from time word
@@ -189,11 +190,11 @@ module _ (c : Config) (v w : View) (log : List Version) (freed from : ℕ) (time
   helps_kept Leave h = absurd h
 
 -- outside the phase stays
-swapped_outside : (c : Config) (v : View) (word unset : ℕ) → v.phase ≡ Outside → stamped_phase c v.number v.phase word unset ≡ Outside
+swapped_outside : (c : Config) (v : Knowledge) (word unset : ℕ) → v.phase ≡ Outside → stamped_phase c v.number v.phase word unset ≡ Outside
 swapped_outside c v word unset phase = ap (λ p. stamped_phase c v.number p word unset) phase
 
 -- the phase of an open section stays behind the exchange of a stamp
-pub swapped_phase : (c : Config) (v : View) (word unset : ℕ) (i : Section) → v.phase ≡ Inside i → i.mode ≡ Open
+pub swapped_phase : (c : Config) (v : Knowledge) (word unset : ℕ) (i : OwnSection) → v.phase ≡ Inside i → i.mode ≡ Open
     → stamped_phase c v.number v.phase word unset ≡ Inside i
 swapped_phase c v word unset i phase open_is =
     ap (λ p. stamped_phase c v.number p word unset) phase
@@ -201,12 +202,12 @@ swapped_phase c v word unset i phase open_is =
     ∙ ap (λ (m : Mode). Inside (record i { mode = m })) (sym open_is)
 
 module _ (c : Config) (k : Checked c) (n : ℕ) (lt : n < c.seats) (made : List Made) (t : TapeOf) (b : IsTapeBehind c t made)
-    (log : List Version) (freed from : ℕ) (time : Option ℕ) (call : Call) (sweep : Sweep) (own : Option Task) (left : List CallOf)
+    (log : List NotedVersion) (freed from : ℕ) (time : Option ℕ) (call : Call) (sweep : Sweep) (own : Option NextStep) (left : List CallOf)
     (no_scan : ((state_of c made).seats n).scan ≡ None) (before : All (IsFitCallOf c) left) where
   abbrev s : Moment
   s = state_of c made
 
-  abbrev v : View
+  abbrev v : Knowledge
   v = s.seats n
 
   abbrev Made_so : Helping → Type 0
@@ -323,7 +324,7 @@ module _ (c : Config) (k : Checked c) (n : ℕ) (lt : n < c.seats) (made : List 
             (logs_left c v w log freed from refl refl refl refl _ refl (refl, refl)) call helps)
             loaded (Contains-push v.clocks.helped word),
       ) in
-      let both = if_so (λ (u : View). (u.scan ≡ None) × GoesSo c n u log freed from time call sweep (helped_in call c log state word)) (found == unset)
+      let both = if_so (λ (u : Knowledge). (u.scan ≡ None) × GoesSo c n u log freed from time call sweep (helped_in call c log state word)) (found == unset)
       (stamp_swapped c v word unset unset) (stamp_swapped c v word unset found) (λ e. so unset) (λ e. so found) in
       next_is c k n lt made t b (stamp word unset) (Helps (SwapStamp word unset)) of (seat_with n log freed from time call sweep own left) refl log
       freed from time call

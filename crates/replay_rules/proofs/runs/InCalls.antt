@@ -1,14 +1,14 @@
 -- The call that a seat is in: how far it has come, and what a step of the seat makes of it.
 use Rattle.std.proofs.Common.{◌≡◌, ◌∙◌, ℕ, ◌<◌, List, [], Option, Some, None, refl, sym, subst}
 use Rattle.mv_core.proofs.Terms.{Config, Checked}
-use Rattle.mv_core.specs.declared.view.View.{View}
-use Rattle.mv_core.specs.Moves.{Moment, Kind}
+use Rattle.mv_core.specs.declared.view.Knowledge.{Knowledge}
+use Rattle.mv_core.specs.Moves.{Moment, MoveKind}
 use Rattle.replay_rules.specs.declared.plan.Call.{Call}
 use Rattle.replay_rules.specs.declared.plan.CallOf.{CallOf}
-use Rattle.replay_rules.specs.declared.seats.Version.{Version}
+use Rattle.replay_rules.specs.declared.seats.NotedVersion.{NotedVersion}
 use Rattle.replay_rules.specs.declared.seats.Sweep.{Sweep}
 use Rattle.replay_rules.specs.declared.seats.State.{State}
-use Rattle.replay_rules.specs.declared.seats.Task.{Task}
+use Rattle.replay_rules.specs.declared.seats.NextStep.{NextStep}
 use Rattle.replay_rules.specs.declared.seats.Then.{Then}
 use Rattle.replay_rules.specs.declared.seats.Then.TheVariants.{Goes, Ends}
 use Rattle.replay_rules.specs.States.{Made, state_of}
@@ -33,25 +33,25 @@ use Rattle.replay_rules.proofs.answers.Progress.{Comes, StandsThen, state_with}
 use Rattle.replay_rules.proofs.answers.Far.{FarIn, call_goes}
 
 -- a seat is in no call, and has no next step; or it is in one that has come so far
-abbrev pub InCall : Config → ℕ → View → List Version → State → Option Task → Option Running → Type 0
+abbrev pub InCall : Config → ℕ → Knowledge → List NotedVersion → State → Option NextStep → Option Running → Type 0
 InCall c n v log state None None = Unit {0}
 InCall c n v log state None (Some run) = ⊥
 InCall c n v log state (Some task) None = ⊥
 InCall c n v log state (Some task) (Some run) = (run.call ≡ state.call) × FarIn run.call c n (view_behind c run.before n) v log state task
 
 -- where a seat is in its plan
-abbrev pub IsIn : Config → ℕ → View → SeatOf → InPlan → Type 0
+abbrev pub IsIn : Config → ℕ → Knowledge → SeatOf → InPlan → Type 0
 IsIn c n v s here = InCall c n v s.log s.state s.task here.now × (calls_of s.left n ≡ here.left)
 
 -- what a seat is at, by all that is kept of it
-abbrev StandsOf : Config → ℕ → View → SeatOf → Type 0
+abbrev StandsOf : Config → ℕ → Knowledge → SeatOf → Type 0
 StandsOf c n v s = StandsFor c n v s.log s.state.freed s.state.from s.state.time s.state.call s.state.sweep s.task
 
-stands_of : (c : Config) (n : ℕ) (v : View) (s : SeatOf) → IsSeat c n s v → StandsOf c n v s
+stands_of : (c : Config) (n : ℕ) (v : Knowledge) (s : SeatOf) → IsSeat c n s v → StandsOf c n v s
 stands_of c n v s is = subst (StandsOf c n v) (sym is.is) is.stands
 
 -- What a step of a seat makes of its call, from this tape: the call goes on, and has come farther, or it has ended with its line.
-pub record CallSteps (c : Config) (n : ℕ) (t : TapeOf) (task : Task) (run : Running) (left : List Call) (w : View) (y : Scene) : Type 0 where
+pub record CallSteps (c : Config) (n : ℕ) (t : TapeOf) (task : NextStep) (run : Running) (left : List Call) (w : Knowledge) (y : Scene) : Type 0 where
   pub now : Option Running
   pub lines : List ℕ
   pub goes : GoesOrEnds c n run w now lines
@@ -59,15 +59,15 @@ pub record CallSteps (c : Config) (n : ℕ) (t : TapeOf) (task : Task) (run : Ru
   pub is_in : IsIn c n w y.seat (record { now = now; left = left })
 
 module _ (c : Config) (k : Checked c) (n : ℕ) (lt : n < c.seats) (made : List Made) (t : TapeOf) (b : IsTapeBehind c t made)
-    (log : List Version) (freed from : ℕ) (time : Option ℕ) (run : Running) (sweep : Sweep) (own : Option Task) (left : List CallOf)
-    (task : Task) (kind : Kind) (next : IsStepOf c made (step_of n kind) n task) where
+    (log : List NotedVersion) (freed from : ℕ) (time : Option ℕ) (run : Running) (sweep : Sweep) (own : Option NextStep) (left : List CallOf)
+    (task : NextStep) (kind : MoveKind) (next : IsStepOf c made (step_of n kind) n task) where
   abbrev m : Moment
   m = state_of c made
 
-  abbrev v0 : View
+  abbrev v0 : Knowledge
   v0 = view_behind c run.before n
 
-  abbrev w : View
+  abbrev w : Knowledge
   w = view_by c m n kind
 
   abbrev seat : SeatOf
@@ -79,7 +79,7 @@ module _ (c : Config) (k : Checked c) (n : ℕ) (lt : n < c.seats) (made : List 
   abbrev s : State
   s = state_after task log (state_with n time from freed run.call sweep) found
 
-  abbrev notes : List Version
+  abbrev notes : List NotedVersion
   notes = applied (edit_of task (state_with n time from freed run.call sweep) found) log
 
   -- what the call goes on to, or ends with, and the seat and the tape then

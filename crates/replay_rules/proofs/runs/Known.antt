@@ -4,15 +4,15 @@ use Rattle.std.proofs.Common.{arith, inl, inr, if◌then◌else◌, eq-eqb, lt-l
 use Rattle.std.proofs.lemmas.Bool.{cases_lt, lt-leb}
 use Rattle.std.proofs.lemmas.List.Elements.{All-nil, All-cons}
 use Rattle.mv_history.specs.declared.Step.{Step}
-use Rattle.mv_core.proofs.Terms.{Config, Checked, parts_of, Place}
-use Rattle.mv_core.specs.declared.view.View.{View}
+use Rattle.mv_core.proofs.Terms.{Config, Checked, parts_of, SharedWord}
+use Rattle.mv_core.specs.declared.view.Knowledge.{Knowledge}
 use Rattle.mv_core.specs.Rule.{Facts, IsSeated}
 use Rattle.mv_core.proofs.moves.Notes.{seat_is}
 use Rattle.mv_core.proofs.logs.Links.{next_small}
 use Rattle.mv_core.specs.Known.{Known}
 use Rattle.mv_core.proofs.frames.Turning.{known_of}
 use Rattle.seat_log.proofs.PlainSteps.{LeavesLog, IsPlain, one_plain, stands_plain}
-use Rattle.replay_rules.specs.declared.seats.Version.{Version}
+use Rattle.replay_rules.specs.declared.seats.NotedVersion.{NotedVersion}
 use Rattle.replay_rules.specs.States.{any_commit, any_start, zeros, Made, state_of, AreMade}
 use Rattle.replay_rules.proofs.Replays.{made_behind, holds_behind}
 use Rattle.replay_rules.proofs.runs.Sections.{Logs}
@@ -54,7 +54,7 @@ leb_gt a b e = go (cases_lt b a)
     go (inr le) = let f = le-leb a b le in absurd (cc)
 
 module _ (c : Config) (k : Checked c) (n : ℕ) (made : List Made) (each : AreMade c made) where
-  abbrev v : View
+  abbrev v : Knowledge
   v = (state_of c made).seats n
 
   -- all facts hold
@@ -92,11 +92,11 @@ module _ (c : Config) (k : Checked c) (n : ℕ) (made : List Made) (each : AreMa
       let f = (holds_behind c k made each).facts in
       next_small c (state_of c made).history (λ t. ((state_of c made).seats t).ring) f.checked f.history.in_time f.positions n
 
-  pub word_small : (p : Place) → (state_of c made).memory p < 2 ^ 64
+  pub word_small : (p : SharedWord) → (state_of c made).memory p < 2 ^ 64
   word_small p = (holds_behind c k made each).words p
 
 -- the notes stand for the view after a plain step
-pub logs_plain : (c : Config) (v w : View) (log : List Version) (freed from : ℕ) → w.number ≡ v.number → w.ring ≡ v.ring → w.past.mine ≡ v.past.mine
+pub logs_plain : (c : Config) (v w : Knowledge) (log : List NotedVersion) (freed from : ℕ) → w.number ≡ v.number → w.ring ≡ v.ring → w.past.mine ≡ v.past.mine
     → w.past.rests ≡ v.past.rests → (s : Step) → w.trail ≡ v.trail ++ s ∷ [] → IsPlain s → Logs c v log freed from → Logs c w log freed from
 logs_plain c v w log freed from number ring mine rests s trail plain k = record {
   noted = k.noted;
@@ -105,7 +105,7 @@ logs_plain c v w log freed from number ring mine rests s trail plain k = record 
 }
 
 -- and after one of a kind that leaves the log alone
-pub logs_left : (c : Config) (v w : View) (log : List Version) (freed from : ℕ) → w.number ≡ v.number → w.ring ≡ v.ring → w.past.mine ≡ v.past.mine
+pub logs_left : (c : Config) (v w : Knowledge) (log : List NotedVersion) (freed from : ℕ) → w.number ≡ v.number → w.ring ≡ v.ring → w.past.mine ≡ v.past.mine
     → w.past.rests ≡ v.past.rests → (s : Step) → w.trail ≡ v.trail ++ s ∷ [] → LeavesLog s.kind → Logs c v log freed from → Logs c w log freed from
 logs_left c v w log freed from number ring mine rests s trail leaves k =
     logs_plain c v w log freed from number ring mine rests s trail (one_plain s leaves) k

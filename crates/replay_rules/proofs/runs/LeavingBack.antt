@@ -2,7 +2,7 @@
 use Rattle.std.proofs.Common.{◌≡◌, ℕ, ◌+◌, ◌-◌, ◌<◌, List, length, true, Option, Some, None, All, refl, sym, ap, ◌∙◌, subst, arith}
 use Rattle.mv_layout.specs.Words.{clock_time_of}
 use Rattle.mv_core.proofs.Terms.{Config, Checked, Clock, Mark, IsPlace}
-use Rattle.mv_core.specs.declared.view.View.{View}
+use Rattle.mv_core.specs.declared.view.Knowledge.{Knowledge}
 use Rattle.mv_core.specs.EnterSteps.{MayClearMark, IsFinished, mark_cleared}
 use Rattle.mv_core.specs.LockSteps.{MayLoadDeath, death_loaded}
 use Rattle.mv_core.specs.ReclaimSteps.{head_cut}
@@ -12,14 +12,14 @@ use Rattle.seat_log.specs.Stands.{version_of, Stands}
 use Rattle.seat_log.proofs.CutLogs.{waits_for_death, stands_cut}
 use Rattle.replay_rules.specs.declared.plan.Call.TheVariants.{Tidy}
 use Rattle.replay_rules.specs.declared.plan.CallOf.{CallOf}
-use Rattle.replay_rules.specs.declared.seats.Version.{Version}
+use Rattle.replay_rules.specs.declared.seats.NotedVersion.{NotedVersion}
 use Rattle.replay_rules.specs.declared.seats.Edit.TheVariants.{Retired, AboveNoted}
 use Rattle.replay_rules.specs.declared.seats.Sweep.{Sweep}
-use Rattle.replay_rules.specs.declared.seats.Back.TheVariants.{WasCut, WasGone, WasAbove}
+use Rattle.replay_rules.specs.declared.seats.WriteBackEnd.TheVariants.{WasCut, WasGone, WasAbove}
 use Rattle.replay_rules.specs.declared.seats.Sweeping.{Sweeping}
 use Rattle.replay_rules.specs.declared.seats.Sweeping.TheVariants.{LoadCutDeath, LeaveBack, LoadSuperAgain}
-use Rattle.replay_rules.specs.declared.seats.Task.{Task}
-use Rattle.replay_rules.specs.declared.seats.Task.TheVariants.{Tidies}
+use Rattle.replay_rules.specs.declared.seats.NextStep.{NextStep}
+use Rattle.replay_rules.specs.declared.seats.NextStep.TheVariants.{Tidies}
 use Rattle.replay_rules.specs.FitPlans.{IsFitCallOf}
 use Rattle.replay_rules.specs.SeatNotes.{version_at, edited_from}
 use Rattle.replay_rules.specs.Tasks.{place_in_task, access_in_task, written_by}
@@ -38,12 +38,12 @@ use Rattle.replay_rules.proofs.runs.Rounds.{is_note}
 use Rattle.replay_rules.proofs.runs.Settling.{noted_retired, noted_above, behind_so}
 
 module _ (c : Config) (k : Checked c) (n : ℕ) (lt : n < c.seats) (made : List Made) (t : TapeOf) (b : IsTapeBehind c t made)
-    (log : List Version) (freed from : ℕ) (time : Option ℕ) (sweep : Sweep) (own : Option Task) (left : List CallOf)
+    (log : List NotedVersion) (freed from : ℕ) (time : Option ℕ) (sweep : Sweep) (own : Option NextStep) (left : List CallOf)
     (no_scan : ((state_of c made).seats n).scan ≡ None) (before : All (IsFitCallOf c) left) where
   abbrev s : Moment
   s = state_of c made
 
-  abbrev v : View
+  abbrev v : Knowledge
   v = s.seats n
 
   abbrev seat_so : SeatOf
@@ -77,7 +77,7 @@ module _ (c : Config) (k : Checked c) (n : ℕ) (lt : n < c.seats) (made : List 
           swept = f.swept;
           note = f.note;
           lives = f.lives;
-          view_is = (word, s.history, ap (λ (u : View). death_loaded c u word s.history) f.view_is, refl);
+          view_is = (word, s.history, ap (λ (u : Knowledge). death_loaded c u word s.history) f.view_is, refl);
         },
         refl,
       ))
@@ -93,11 +93,12 @@ module _ (c : Config) (k : Checked c) (n : ℕ) (lt : n < c.seats) (made : List 
       let V = death_loaded c (head_cut c f.before (version_at log at).object at (version_of m2) f.note) word h in
       let note = is_note c f.before log freed from f.logs f.nothing at f.back.unfreed f.back.live f.back.no_death in
       let fs = facts c k n made b.each in
-      let back_is : v.back ≡ Some (record { object = (version_at log at).object; position = at; stored = 6; tried = true }) = ap (λ (u : View). u.back) cut.2 in
+      let back_is : v.back ≡ Some (record { object = (version_at log at).object; position = at; stored = 6; tried = true }) = ap
+      (λ (u : Knowledge). u.back) cut.2 in
       let written = fs.write_back n (record { object = (version_at log at).object; position = at; stored = 6; tried = true }) back_is in
       let may : MayClearMark v = record {
         inside = f.section;
-        phase = ap (λ (u : View). u.phase) cut.2 ∙ f.phase;
+        phase = ap (λ (u : Knowledge). u.phase) cut.2 ∙ f.phase;
         nothing = written.2.nothing;
         finished = subst (IsFinished v) (sym f.open_is) tt;
       } in
@@ -116,13 +117,13 @@ module _ (c : Config) (k : Checked c) (n : ℕ) (lt : n < c.seats) (made : List 
       let is = noted_retired c f.logs.noted log freed from at dead f.logs.is f.back.unfreed in
       let logs2 : Logs c w log2 freed from = record {
         noted = back_noted (retired f.logs.noted at dead);
-        stands = subst (λ (u : View). Stands c (mark_cleared c u) (back_noted (retired f.logs.noted at dead))) (sym cut.2)
+        stands = subst (λ (u : Knowledge). Stands c (mark_cleared c u) (back_noted (retired f.logs.noted at dead))) (sym cut.2)
             (subst (λ d. Stands c (mark_cleared c V) (back_noted (retired f.logs.noted at d))) (sym cut.3) so);
         is = record { live = is.live; gone = is.gone; within = is.within; unbuilt = is.unbuilt; held = is.held; few = is.few };
       } in
       let none = f.nothing in
       let nothing2 : from ≡ length log2 = omega (arith, none, long) in
-      let swept2 : IsSwept v.grace sweep = subst (λ (u : View). IsSwept u.grace sweep) (sym cut.2) f.swept in
+      let swept2 : IsSwept v.grace sweep = subst (λ (u : Knowledge). IsSwept u.grace sweep) (sym cut.2) f.swept in
       let live = f.back.live in
       next_is c k n lt made t b clear_mark task of seat_so refl log2 freed from None Tidy sweep own left refl no_scan before
       (behind_so c k n lt made t b log freed from sweep own left no_scan before w log2 sweep at no_scan (refl, nothing2, logs2) swept2 f.back.unfreed
@@ -130,7 +131,7 @@ module _ (c : Config) (k : Checked c) (n : ℕ) (lt : n < c.seats) (made : List 
 
   -- a section that has cut nothing ends
   module _ (at : ℕ) (f : IsUncut c v log freed from sweep at) where
-    of_leave : (task : Task) → place_in_task c n task ≡ Mark n → ((x : ℕ) → Some 0 ≡ written_by (access_in_task n task) x)
+    of_leave : (task : NextStep) → place_in_task c n task ≡ Mark n → ((x : ℕ) → Some 0 ≡ written_by (access_in_task n task) x)
         → IsKindOf task clear_mark → IsOfKind c s n clear_mark task
     of_leave task there writes is = record {
       is = is;
@@ -146,7 +147,7 @@ module _ (c : Config) (k : Checked c) (n : ℕ) (lt : n < c.seats) (made : List 
       fits = λ x _. subst IsStorable (writes x) (omega arith);
     }
 
-    abbrev w : View
+    abbrev w : Knowledge
     w = view_by c s n clear_mark
 
     logs2 : Logs c w log freed from

@@ -3,18 +3,18 @@ use Rattle.std.proofs.Common.{◌≡◌, ℕ, ◌<◌, List, true, Option, Some,
 use Rattle.mv_core.specs.WalkSteps.{slot_named}
 use Rattle.mv_layout.specs.Words.{link_seat_of}
 use Rattle.mv_core.proofs.Terms.{Config, Checked, First, Stamp}
-use Rattle.mv_core.specs.declared.view.View.{View}
-use Rattle.mv_core.specs.declared.view.Section.{Section}
+use Rattle.mv_core.specs.declared.view.Knowledge.{Knowledge}
+use Rattle.mv_core.specs.declared.view.OwnSection.{OwnSection}
 use Rattle.mv_core.specs.Rings.{index_of}
 use Rattle.mv_core.specs.Moves.{Moment, load_first, load_stamp}
 use Rattle.replay_rules.specs.declared.plan.Call.{Call}
 use Rattle.replay_rules.specs.declared.plan.CallOf.{CallOf}
-use Rattle.replay_rules.specs.declared.seats.Version.{Version}
+use Rattle.replay_rules.specs.declared.seats.NotedVersion.{NotedVersion}
 use Rattle.replay_rules.specs.declared.seats.Sweep.{Sweep}
 use Rattle.replay_rules.specs.declared.seats.Locking.{Locking}
 use Rattle.replay_rules.specs.declared.seats.Locking.TheVariants.{FoundFirst, FoundStamp}
-use Rattle.replay_rules.specs.declared.seats.Task.{Task}
-use Rattle.replay_rules.specs.declared.seats.Task.TheVariants.{Locks}
+use Rattle.replay_rules.specs.declared.seats.NextStep.{NextStep}
+use Rattle.replay_rules.specs.declared.seats.NextStep.TheVariants.{Locks}
 use Rattle.replay_rules.specs.FitPlans.{IsFitCallOf}
 use Rattle.replay_rules.specs.GoesOn.{is_lock}
 use Rattle.replay_rules.specs.States.{Made, state_of}
@@ -30,26 +30,26 @@ use Rattle.replay_rules.proofs.runs.Walking.{stands_in}
 use Rattle.replay_rules.proofs.runs.Building.{builds_stay}
 
 module _ (c : Config) (k : Checked c) (n : ℕ) (lt : n < c.seats) (made : List Made) (t : TapeOf) (b : IsTapeBehind c t made)
-    (log : List Version) (freed from : ℕ) (time : Option ℕ) (call : Call) (sweep : Sweep) (own : Option Task) (left : List CallOf)
+    (log : List NotedVersion) (freed from : ℕ) (time : Option ℕ) (call : Call) (sweep : Sweep) (own : Option NextStep) (left : List CallOf)
     (no_scan : ((state_of c made).seats n).scan ≡ None) (before : All (IsFitCallOf c) left)
     (lock : is_lock call ≡ true) (inside : InSection c ((state_of c made).seats n) log freed from time) (o : ℕ) (range : o < c.objects)
     (may : MayHold c log freed from o) where
   abbrev s : Moment
   s = state_of c made
 
-  abbrev v : View
+  abbrev v : Knowledge
   v = s.seats n
 
-  abbrev i : Section
+  abbrev i : OwnSection
   i = inside.section
 
   abbrev seat : SeatOf
   seat = seat_with n log freed from time call sweep own left
 
-  abbrev Made_so : Version → ℕ → Locking → Type 0
+  abbrev Made_so : NotedVersion → ℕ → Locking → Type 0
   Made_so version at step = StepsSo c n made t (Locks version at step) seat
 
-  module _ (version : Version) (at : ℕ) (builds : Builds c v i log from o version at) where
+  module _ (version : NotedVersion) (at : ℕ) (builds : Builds c v i log from o version at) where
     -- the write set of the version that was met
     pub first_made : (link : ℕ) → StandsAt v o link → Made_so version at (FoundFirst link)
     first_made link stands =

@@ -5,10 +5,10 @@ use Rattle.mv_layout.specs.Words.{link_of}
 use Rattle.mv_core.proofs.Terms.{dite, ℕ_discrete, Config, Checked, Head}
 use Rattle.mv_core.specs.declared.ring.Build as core
 use Rattle.mv_core.specs.declared.ring.Slot.TheVariants as slots
-use Rattle.mv_core.specs.declared.view.View.{View}
-use Rattle.mv_core.specs.declared.view.Section.{Section}
+use Rattle.mv_core.specs.declared.view.Knowledge.{Knowledge}
+use Rattle.mv_core.specs.declared.view.OwnSection.{OwnSection}
 use Rattle.mv_core.specs.declared.view.Passed.TheVariants.{Nothing}
-use Rattle.mv_core.specs.declared.view.Walk.TheVariants as walk
+use Rattle.mv_core.specs.declared.view.WalkStage.TheVariants as walk
 use Rattle.mv_core.specs.Rings.{slot_at, index_of, set_first}
 use Rattle.mv_core.specs.EnterSteps.{stored_if}
 use Rattle.mv_core.specs.LockSteps.{StandsToLock, field_place, MayLock, head_locked, lock_lost}
@@ -22,14 +22,14 @@ use Rattle.seat_log.proofs.MayBuild.{may_store}
 use Rattle.seat_log.proofs.Stays.{stands_locked}
 use Rattle.replay_rules.specs.declared.plan.Call.{Call}
 use Rattle.replay_rules.specs.declared.plan.CallOf.{CallOf}
-use Rattle.replay_rules.specs.declared.seats.Version.{Version}
+use Rattle.replay_rules.specs.declared.seats.NotedVersion.{NotedVersion}
 use Rattle.replay_rules.specs.declared.seats.Edit.TheVariants.{Kept, Pushed}
 use Rattle.replay_rules.specs.declared.seats.Sweep.{Sweep}
 use Rattle.replay_rules.specs.declared.seats.Locking.{Locking}
 use Rattle.replay_rules.specs.declared.seats.Locking.TheVariants.{Build, LockHead, ClearPrevious, FoundFirst, FoundStamp}
-use Rattle.replay_rules.specs.declared.seats.Task.{Task}
-use Rattle.replay_rules.specs.declared.seats.Task.TheVariants.{Locks}
-use Rattle.replay_rules.specs.declared.seats.Answer.TheVariants.{Locked}
+use Rattle.replay_rules.specs.declared.seats.NextStep.{NextStep}
+use Rattle.replay_rules.specs.declared.seats.NextStep.TheVariants.{Locks}
+use Rattle.replay_rules.specs.declared.seats.CallAnswer.TheVariants.{Locked}
 use Rattle.replay_rules.specs.declared.seats.Then.TheVariants.{Goes, Ends}
 use Rattle.replay_rules.specs.FitPlans.{IsFitCallOf}
 use Rattle.replay_rules.specs.SeatNotes.{applied}
@@ -52,26 +52,26 @@ use Rattle.replay_rules.proofs.runs.Building.{other_first, own_first, link_is, b
 use Rattle.replay_rules.proofs.runs.LockMet.{first_made, stamp_made}
 
 module _ (c : Config) (k : Checked c) (n : ℕ) (lt : n < c.seats) (made : List Made) (t : TapeOf) (b : IsTapeBehind c t made)
-    (log : List Version) (freed from : ℕ) (time : Option ℕ) (call : Call) (sweep : Sweep) (own : Option Task) (left : List CallOf)
+    (log : List NotedVersion) (freed from : ℕ) (time : Option ℕ) (call : Call) (sweep : Sweep) (own : Option NextStep) (left : List CallOf)
     (no_scan : ((state_of c made).seats n).scan ≡ None) (before : All (IsFitCallOf c) left)
     (lock : is_lock call ≡ true) (inside : InSection c ((state_of c made).seats n) log freed from time) (o : ℕ) (range : o < c.objects)
     (may : MayHold c log freed from o) where
   abbrev s : Moment
   s = state_of c made
 
-  abbrev v : View
+  abbrev v : Knowledge
   v = s.seats n
 
-  abbrev i : Section
+  abbrev i : OwnSection
   i = inside.section
 
   abbrev seat : SeatOf
   seat = seat_with n log freed from time call sweep own left
 
-  abbrev Made_so : Version → ℕ → Locking → Type 0
+  abbrev Made_so : NotedVersion → ℕ → Locking → Type 0
   Made_so version at step = StepsSo c n made t (Locks version at step) seat
 
-  module _ (version : Version) (at : ℕ) (builds : Builds c v i log from o version at) where
+  module _ (version : NotedVersion) (at : ℕ) (builds : Builds c v i log from o version at) where
     -- once a word was stored there the position fits a link
     low_at : (field : ℕ) → HasFields (build_at c v at) version at field → 0 < field → at < 2 ^ 57
     low_at field has some =
@@ -275,8 +275,8 @@ module _ (c : Config) (k : Checked c) (n : ℕ) (lt : n < c.seats) (made : List 
           logs = won_logs has;
         } in
         next_is c k n lt made t b kind task of seat refl (log ++ version ∷ []) freed from time call sweep own left seat_is
-        (subst (λ (u : View). u.scan ≡ None) (sym view) no_scan) before
-        (subst (λ (u : View). GoesSo c n u (log ++ version ∷ []) freed from time call sweep
+        (subst (λ (u : Knowledge). u.scan ≡ None) (sym view) no_scan) before
+        (subst (λ (u : Knowledge). GoesSo c n u (log ++ version ∷ []) freed from time call sweep
         (after_lock_head version at (s.memory (Head version.object)))) (sym view)
         (by_end (Locked refusals.Held)
         (ap (λ x. if x then Ends (Locked refusals.Held)
@@ -335,8 +335,8 @@ module _ (c : Config) (k : Checked c) (n : ℕ) (lt : n < c.seats) (made : List 
           lock,
         )) in
         next_is c k n lt made t b kind task of seat refl log freed from time call sweep own left seat_is
-        (subst (λ (u : View). u.scan ≡ None) (sym view) no_scan) before
-        (subst (λ (u : View). GoesSo c n u log freed from time call sweep (after_lock_head version at (s.memory (Head version.object)))) (sym view)
+        (subst (λ (u : Knowledge). u.scan ≡ None) (sym view) no_scan) before
+        (subst (λ (u : Knowledge). GoesSo c n u log freed from time call sweep (after_lock_head version at (s.memory (Head version.object)))) (sym view)
         (subst (λ (x : ℕ). GoesSo c n B log freed from time call sweep (after_lock_head version at x)) (sym at_head)
         (subst (λ x. GoesSo c n B log freed from time call sweep (if x then Ends (Locked refusals.Held)
         else (if found == 0 then Goes (Locks (record version { previous = 0 }) at ClearPrevious) else Goes (Locks version at (FoundFirst found)))))

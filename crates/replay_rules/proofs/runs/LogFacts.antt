@@ -3,22 +3,22 @@ use Rattle.std.proofs.Common.{◌≡◌, ◌≢◌, ℕ, ◌+◌, ◌-◌, ◌<�
 use Rattle.std.specs.Prelude.{slice_get}
 use Rattle.mv_core.proofs.Terms.{Config, Checked}
 use Rattle.mv_core.specs.declared.ring.Version as core
-use Rattle.mv_core.specs.declared.ring.Status.TheVariants.{Held}
+use Rattle.mv_core.specs.declared.ring.WriteSetStatus.TheVariants.{Held}
 use Rattle.mv_core.specs.declared.ring.Slot.TheVariants.{Live}
-use Rattle.mv_core.specs.declared.view.View.{View}
+use Rattle.mv_core.specs.declared.view.Knowledge.{Knowledge}
 use Rattle.mv_core.specs.Rings.{slot_at, set_first, held_count}
 use Rattle.seat_log.specs.declared.version.Note.{Note}
 use Rattle.seat_log.specs.Notes.{Noted, IsNoteAt, held_from, IsNextOf}
 use Rattle.seat_log.specs.Stands.{Stands, HasBuilt}
 use Rattle.seat_log.proofs.NotedSlots.{noted_in, held_last}
 use Rattle.seat_log.proofs.Standing.{built_is_log}
-use Rattle.replay_rules.specs.declared.seats.Version.{Version}
+use Rattle.replay_rules.specs.declared.seats.NotedVersion.{NotedVersion}
 use Rattle.replay_rules.specs.SeatNotes.{version_at, no_version}
 use Rattle.replay_rules.proofs.runs.Notes.{note_of, notes_long, note_at, drop_at}
 use Rattle.replay_rules.proofs.runs.Sections.{IsNoted, Logs}
 
 -- as many versions are noted as weren't freed
-pub noted_long : (c : Config) (l : Noted) (log : List Version) (freed from : ℕ) → IsNoted c l log freed from → length l.live + freed ≡ length log
+pub noted_long : (c : Config) (l : Noted) (log : List NotedVersion) (freed from : ℕ) → IsNoted c l log freed from → length l.live + freed ≡ length log
 noted_long c l log freed from is =
     let long : length l.live ≡ length (drop freed log) = ap length is.live ∙ notes_long freed (drop freed log) in
     let dropped = length-drop freed log in
@@ -26,13 +26,13 @@ noted_long c l log freed from is =
     omega (arith, long, dropped, within)
 
 -- and the first one that is held is at this place among them
-pub noted_from : (c : Config) (l : Noted) (log : List Version) (freed from : ℕ) → IsNoted c l log freed from → l.held ≤ length l.live
+pub noted_from : (c : Config) (l : Noted) (log : List NotedVersion) (freed from : ℕ) → IsNoted c l log freed from → l.held ≤ length l.live
     → held_from l + freed ≡ from
 noted_from c l log freed from is few =
     let long = noted_long c l log freed from is in let held = is.held in omega (arith, long, held, few)
 
 -- the note at a place is of the version there
-pub noted_at : (c : Config) (l : Noted) (log : List Version) (freed from i : ℕ) → IsNoted c l log freed from → freed ≤ i → i < length log
+pub noted_at : (c : Config) (l : Noted) (log : List NotedVersion) (freed from i : ℕ) → IsNoted c l log freed from → freed ≤ i → i < length log
     → IsNoteAt l (i - freed) (note_of i (version_at log i))
 noted_at c l log freed from i is low lt =
     let dropped = length-drop freed log in
@@ -41,7 +41,7 @@ noted_at c l log freed from i is low lt =
     ∙ (λ j. Some (note_of (place j) (drop_at freed (i - freed) log no_version j)))
     ∙ ap (λ p. Some (note_of i (version_at log p))) place
 
-module _ (c : Config) (k : Checked c) (v : View) (log : List Version) (freed from : ℕ) (logs : Logs c v log freed from) where
+module _ (c : Config) (k : Checked c) (v : Knowledge) (log : List NotedVersion) (freed from : ℕ) (logs : Logs c v log freed from) where
   pub next_long : v.ring.next ≡ length log
   next_long =
       let long = noted_long c logs.noted log freed from logs.is in
@@ -85,7 +85,7 @@ module _ (c : Config) (k : Checked c) (v : View) (log : List Version) (freed fro
       (ap (λ (m : Note). m.object) (sym one) ∙ ap (λ (y : core.Version). y.object) (sym r.version_is) ∙ same)
 
 -- a version that is whole in its slot is noted as built
-pub stands_whole : (c : Config) (v : View) (l : Noted) (n : Note) → Stands c v l → HasBuilt c v.ring (Some n) → IsNextOf l n
+pub stands_whole : (c : Config) (v : Knowledge) (l : Noted) (n : Note) → Stands c v l → HasBuilt c v.ring (Some n) → IsNextOf l n
     → length l.live < l.slots → Stands c v (record l { built = Some n })
 stands_whole c v l n k has next room = record {
   seat = k.seat;

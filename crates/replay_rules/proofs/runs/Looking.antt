@@ -5,13 +5,13 @@ use Rattle.std.proofs.lemmas.Bool.{cases_lt}
 use Rattle.std.proofs.lemmas.List.{get_or_past}
 use Rattle.std.proofs.lemmas.List.Elements.{All-head, All-tail, All-get_or}
 use Rattle.mv_core.proofs.Terms.{Config, Checked}
-use Rattle.mv_core.specs.declared.view.View.{View}
+use Rattle.mv_core.specs.declared.view.Knowledge.{Knowledge}
 use Rattle.mv_history.specs.declared.answers.LockAnswer.TheVariants as refusals
 use Rattle.commit_abort.proofs.AbortParts.{abort_begins}
 use Rattle.replay_rules.specs.declared.plan.Call.{Call}
 use Rattle.replay_rules.specs.declared.plan.Call.TheVariants.{Enter, Read, Lock, Write, Commit, Abort, Leave, Tidy}
 use Rattle.replay_rules.specs.declared.plan.CallOf.{CallOf}
-use Rattle.replay_rules.specs.declared.seats.Version.{Version}
+use Rattle.replay_rules.specs.declared.seats.NotedVersion.{NotedVersion}
 use Rattle.replay_rules.specs.declared.seats.Sweep.{Sweep}
 use Rattle.replay_rules.specs.declared.seats.State.{State}
 use Rattle.replay_rules.specs.declared.seats.Entering.TheVariants as enter
@@ -19,9 +19,9 @@ use Rattle.replay_rules.specs.declared.seats.Walking.TheVariants as walk
 use Rattle.replay_rules.specs.declared.seats.Ending.TheVariants as finish
 use Rattle.replay_rules.specs.declared.seats.Leaving.TheVariants.{Plainly}
 use Rattle.replay_rules.specs.declared.seats.Sweeping.TheVariants as sweeping
-use Rattle.replay_rules.specs.declared.seats.Answer.TheVariants.{Locked}
-use Rattle.replay_rules.specs.declared.seats.Task.{Task}
-use Rattle.replay_rules.specs.declared.seats.Task.TheVariants.{Enters, Walks, EndsSection, Tidies}
+use Rattle.replay_rules.specs.declared.seats.CallAnswer.TheVariants.{Locked}
+use Rattle.replay_rules.specs.declared.seats.NextStep.{NextStep}
+use Rattle.replay_rules.specs.declared.seats.NextStep.TheVariants.{Enters, Walks, EndsSection, Tidies}
 use Rattle.replay_rules.specs.declared.seats.Then.{Then}
 use Rattle.replay_rules.specs.declared.seats.Then.TheVariants.{Goes, Ends}
 use Rattle.replay_rules.specs.declared.seats.Test.TheVariants.{IsOf}
@@ -48,18 +48,18 @@ use Rattle.replay_rules.proofs.answers.Far.{FarIn, call_begins}
 use Rattle.replay_rules.proofs.answers.Skips.{may_not}
 
 -- how far a call has come that begins here
-abbrev pub BeginsFar : Config → ℕ → View → List Version → State → Option Task → Type 0
+abbrev pub BeginsFar : Config → ℕ → Knowledge → List NotedVersion → State → Option NextStep → Type 0
 BeginsFar c n v log state None = Unit {0}
 BeginsFar c n v log state (Some task) = FarIn state.call c n v v log state task
 
 -- Which calls of a seat were looked at: all of them, and none is left; or those before one that begins.
-abbrev pub LooksAt : Option Task → Call → List Call → List Call → List Call → Type 0
+abbrev pub LooksAt : Option NextStep → Call → List Call → List Call → List Call → Type 0
 LooksAt None call all looked left = (all ≡ looked) × (left ≡ [])
 LooksAt (Some task) call all looked left = all ≡ looked ++ call ∷ left
 
 -- What a seat comes to that looks at its calls, from this tape: the tape is behind the same steps, with the lines of calls that need none, and the
 -- next call begins, if there is one.
-pub record IsLooked (c : Config) (n : ℕ) (made : List Made) (log : List Version) (freed from : ℕ) (time : Option ℕ) (t : TapeOf) (all : List Call)
+pub record IsLooked (c : Config) (n : ℕ) (made : List Made) (log : List NotedVersion) (freed from : ℕ) (time : Option ℕ) (t : TapeOf) (all : List Call)
     (l : Looked) : Type 0 where
   pub call : Call
   pub sweep : Sweep
@@ -84,7 +84,7 @@ words_small words fit i = go (cases_lt i (length words))
     go (inr ge) = let e = get_or_past words i 0 ge in omega (arith, e)
 
 -- the condition of a call reads neither the last call nor its tidy
-may_same : (log : List Version) (n : ℕ) (time : Option ℕ) (from freed : ℕ) (a b : Call) (x y : Sweep) (what : Call)
+may_same : (log : List NotedVersion) (n : ℕ) (time : Option ℕ) (from freed : ℕ) (a b : Call) (x y : Sweep) (what : Call)
     → may_begin log (state_with n time from freed a x) what ≡ may_begin log (state_with n time from freed b y) what
 may_same log n time from freed a b x y Enter = refl
 may_same log n time from freed a b x y (Read o) = refl
@@ -96,8 +96,8 @@ may_same log n time from freed a b x y Leave = refl
 may_same log n time from freed a b x y Tidy = refl
 
 module _ (c : Config) (k : Checked c) (n : ℕ) (lt : n < c.seats) (made : List Made) (each : AreMade c made)
-    (log : List Version) (freed from : ℕ) where
-  abbrev v : View
+    (log : List NotedVersion) (freed from : ℕ) where
+  abbrev v : Knowledge
   v = view_behind c made n
 
   abbrev state : Option ℕ → Call → State
@@ -143,7 +143,7 @@ module _ (c : Config) (k : Checked c) (n : ℕ) (lt : n < c.seats) (made : List 
         let s = state (Some t) Abort in
         let low = from_low in
         by_step (begin_abort log s) refl
-        (if_so (λ (task : Task). StandsFor c n v log freed from (Some t) Abort (new_sweep freed) (Some task)) (held log s == 0)
+        (if_so (λ (task : NextStep). StandsFor c n v log freed from (Some t) Abort (new_sweep freed) (Some task)) (held log s == 0)
         (EndsSection (finish.Leave Plainly)) (unlock log from)
         (λ none. (inside, (let z = eqb-true (held log s) 0 none in omega (arith, z, low))))
         (λ some. (
@@ -191,7 +191,7 @@ module _ (c : Config) (k : Checked c) (n : ℕ) (lt : n < c.seats) (made : List 
   Comes_so time what x = Comes (FarIn what c n v v log (state time what)) (AnswersSo c what v v) x
 
   -- a call that needs no step, and then the calls behind it
-  also_looked : (task : Option Task) (call what : Call) (all looked left : List Call) → LooksAt task call all looked left
+  also_looked : (task : Option NextStep) (call what : Call) (all looked left : List Call) → LooksAt task call all looked left
       → LooksAt task call (what ∷ all) (what ∷ looked) left
   also_looked None call what all looked left is = (ap (λ xs. what ∷ xs) is.0, is.1)
   also_looked (Some task) call what all looked left is = ap (λ xs. what ∷ xs) is

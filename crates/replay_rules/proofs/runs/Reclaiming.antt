@@ -6,12 +6,12 @@ use Rattle.std.proofs.lemmas.Bool.{cases_lt}
 use Rattle.std.proofs.lemmas.List.Elements.{Contains-append_left, Contains-append_right, Contains-push}
 use Rattle.mv_layout.specs.Words.{clock_of, clock_time_of, clock_slot_of}
 use Rattle.mv_core.proofs.Terms.{dite, ℕ_discrete, Config, Checked, Clock, Grace, Mark, Stamp}
-use Rattle.mv_core.specs.declared.view.View.{View}
+use Rattle.mv_core.specs.declared.view.Knowledge.{Knowledge}
 use Rattle.mv_core.specs.declared.view.Scan.{Scan}
 use Rattle.mv_core.specs.EnterSteps.{MayLoadCheck, stored_if, if_none, checked_helped}
 use Rattle.mv_core.specs.NameSteps.{rest_word, rest_named, rest_lost}
 use Rattle.mv_core.specs.ReclaimSteps.{other_from, scan_on as scan_goes, grace_on, least_with, free_stored, MayStoreFree}
-use Rattle.mv_core.specs.Moves.{Moment, Kind, load_check, name_rest, load_scan, load_mark, load_grace, raise_grace, store_free, IsStorable}
+use Rattle.mv_core.specs.Moves.{Moment, MoveKind, load_check, name_rest, load_scan, load_mark, load_grace, raise_grace, store_free, IsStorable}
 use Rattle.seat_log.specs.Notes.{rest_noted}
 use Rattle.seat_log.specs.Stands.{Stands}
 use Rattle.seat_log.specs.Frees.{slots_freed, freed_noted}
@@ -19,14 +19,14 @@ use Rattle.seat_log.proofs.FreedLogs.{stands_freed, each_may_free, few_freed, on
 use Rattle.seat_log.proofs.Rested.{rests_room, stands_rested, stands_unrested}
 use Rattle.replay_rules.specs.declared.plan.Call.TheVariants.{Tidy}
 use Rattle.replay_rules.specs.declared.plan.CallOf.{CallOf}
-use Rattle.replay_rules.specs.declared.seats.Version.{Version}
+use Rattle.replay_rules.specs.declared.seats.NotedVersion.{NotedVersion}
 use Rattle.replay_rules.specs.declared.seats.Sweep.{Sweep}
 use Rattle.replay_rules.specs.declared.seats.State.{State}
 use Rattle.replay_rules.specs.declared.seats.Helping.TheVariants.{LoadNamed}
 use Rattle.replay_rules.specs.declared.seats.Ending.TheVariants.{LoadNow}
 use Rattle.replay_rules.specs.declared.seats.Sweeping.TheVariants.{LoadGrace, Free, LoadScan, LoadMark, RaiseGrace, NameRest}
-use Rattle.replay_rules.specs.declared.seats.Task.{Task}
-use Rattle.replay_rules.specs.declared.seats.Task.TheVariants.{Helps, EndsSection, Tidies}
+use Rattle.replay_rules.specs.declared.seats.NextStep.{NextStep}
+use Rattle.replay_rules.specs.declared.seats.NextStep.TheVariants.{Helps, EndsSection, Tidies}
 use Rattle.replay_rules.specs.declared.seats.Then.{Then}
 use Rattle.replay_rules.specs.declared.seats.Then.TheVariants.{Goes}
 use Rattle.replay_rules.specs.FitPlans.{IsFitCallOf}
@@ -48,22 +48,22 @@ use Rattle.replay_rules.proofs.runs.Rounds.{free_so, settle_so}
 use Rattle.replay_rules.proofs.runs.ScanFacts.{next_is_word, lowered_low}
 
 module _ (c : Config) (k : Checked c) (n : ℕ) (lt : n < c.seats) (made : List Made) (t : TapeOf) (b : IsTapeBehind c t made)
-    (log : List Version) (freed from : ℕ) (sweep : Sweep) (own : Option Task) (left : List CallOf) (before : All (IsFitCallOf c) left) where
+    (log : List NotedVersion) (freed from : ℕ) (sweep : Sweep) (own : Option NextStep) (left : List CallOf) (before : All (IsFitCallOf c) left) where
   abbrev s : Moment
   s = state_of c made
 
-  abbrev v : View
+  abbrev v : Knowledge
   v = s.seats n
 
   abbrev seat_so : SeatOf
   seat_so = seat_with n log freed from None Tidy sweep own left
 
-  abbrev Made_so : Task → Type 0
+  abbrev Made_so : NextStep → Type 0
   Made_so task = StepsSo c n made t task seat_so
 
   module _ (rests : RestsAt c v log freed from None) where
     -- a step that leaves the log alone leaves the seat at rest
-    rests_on : (w : View) → w.phase ≡ v.phase → Logs c w log freed from → RestsAt c w log freed from None
+    rests_on : (w : Knowledge) → w.phase ≡ v.phase → Logs c w log freed from → RestsAt c w log freed from None
     rests_on w phase logs = (phase ∙ rests.0, rests.1, logs)
 
     grace_made : v.scan ≡ None → (again : Bool) → Made_so (Tidies (LoadGrace again))
@@ -79,7 +79,7 @@ module _ (c : Config) (k : Checked c) (n : ℕ) (lt : n < c.seats) (made : List 
         (free_so c n w log freed from (record sweep { again = again; swept = false; bound = found }) no_scan still bound)
 
     -- a scan goes on, or is finished and raises GRACE
-    module _ (kind : Kind) (task : Task) (of : IsOfKind c s n kind task) (sweep2 : Sweep) (seat clock least g : ℕ)
+    module _ (kind : MoveKind) (task : NextStep) (of : IsOfKind c s n kind task) (sweep2 : Sweep) (seat clock least g : ℕ)
         (is : learned task (s.memory (place_in_task c n task)) seat_so ≡ seat_with n log freed from None Tidy sweep2 own left)
         (then_is : then_after task c log (record { seat = n; time = None; from = from; freed = freed; call = Tidy; sweep = sweep2 })
         (s.memory (place_in_task c n task))
@@ -90,7 +90,7 @@ module _ (c : Config) (k : Checked c) (n : ℕ) (lt : n < c.seats) (made : List 
       abbrev state2 : State
       state2 = record { seat = n; time = None; from = from; freed = freed; call = Tidy; sweep = sweep2 }
 
-      abbrev w : View
+      abbrev w : Knowledge
       w = view_by c s n kind
 
       abbrev Then_is : Then → Type 0
@@ -278,7 +278,7 @@ module _ (c : Config) (k : Checked c) (n : ℕ) (lt : n < c.seats) (made : List 
           is = record { live = is.live; gone = is.gone; within = is.within; unbuilt = is.unbuilt; held = is.held; few = is.few };
         } in
         let lost : Logs c B log freed from = record { noted = l; stands = stands_unrested c v l found h rests.2.stands; is = is } in
-        let So : View → Type 0 = λ u. (u.scan ≡ None) × GoesSo c n u log freed from None Tidy sweep (Goes (Tidies (LoadGrace true))) in
+        let So : Knowledge → Type 0 = λ u. (u.scan ≡ None) × GoesSo c n u log freed from None Tidy sweep (Goes (Tidies (LoadGrace true))) in
         let both : So (if found == word then A else B) = if_so So (found == word) A B
         (λ e. (no_scan, by_step (Tidies (LoadGrace true)) refl (((rests.0, rests.1, won), refl), refl)))
         (λ e. (no_scan, by_step (Tidies (LoadGrace true)) refl (((rests.0, rests.1, lost), refl), refl))) in
@@ -303,7 +303,7 @@ module _ (c : Config) (k : Checked c) (n : ℕ) (lt : n < c.seats) (made : List 
       let same_view : slots_freed c f.before l.freed f.done ≡ v = ap (λ p. slots_freed c f.before p f.done) gone ∙ sym f.view_is in
       let may : MayStoreFree c v at =
       subst (MayStoreFree c v) place_is
-      (subst (λ (u : View). MayStoreFree c u (l.freed + f.done)) same_view
+      (subst (λ (u : Knowledge). MayStoreFree c u (l.freed + f.done)) same_view
       (each_may_free c f.before l sweep.bound f.all f.stands f.outside f.bounded frees f.done (omega (arith, left_is, some)))) in
       let slots = k.slots.0 in
       let of : IsOfKind c s n kind task = record {
@@ -332,7 +332,7 @@ module _ (c : Config) (k : Checked c) (n : ℕ) (lt : n < c.seats) (made : List 
       (λ i. slots_freed c f.before (gone i) (sym whole i)) ∙ sym more in
       let logs2 : Logs c w log (freed + 1) from = record {
         noted = freed_noted l f.all;
-        stands = subst (λ (u : View). Stands c u (freed_noted l f.all)) view_now (stands_freed c f.before l sweep.bound f.all f.stands frees);
+        stands = subst (λ (u : Knowledge). Stands c u (freed_noted l f.all)) view_now (stands_freed c f.before l sweep.bound f.all f.stands frees);
         is = record {
           live = ap (drop f.all) is.live ∙ notes_drop f.all f.first (drop f.first log)
               ∙ (λ i. notes_from (there i) (drop_on f.all f.first log i)) ∙ ap (λ p. notes_from (freed + 1) (drop p log)) there;

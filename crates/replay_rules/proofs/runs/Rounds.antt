@@ -6,9 +6,9 @@ use Rattle.std.specs.Prelude.{slice_get}
 use Rattle.mv_core.proofs.Terms.{Config}
 use Rattle.mv_core.specs.declared.ring.CommitNote.{CommitNote}
 use Rattle.mv_core.specs.declared.ring.Slot.TheVariants.{Live}
-use Rattle.mv_core.specs.declared.ring.Status.{Status}
-use Rattle.mv_core.specs.declared.ring.Status.TheVariants.{Held, Aborted, Committed}
-use Rattle.mv_core.specs.declared.view.View.{View}
+use Rattle.mv_core.specs.declared.ring.WriteSetStatus.{WriteSetStatus}
+use Rattle.mv_core.specs.declared.ring.WriteSetStatus.TheVariants.{Held, Aborted, Committed}
+use Rattle.mv_core.specs.declared.view.Knowledge.{Knowledge}
 use Rattle.mv_core.specs.Rings.{slot_at, index_of}
 use Rattle.seat_log.specs.declared.version.Note.{Note}
 use Rattle.seat_log.specs.Notes.{Noted, IsNoteAt, held_from}
@@ -17,12 +17,12 @@ use Rattle.seat_log.specs.Frees.{IsDeadNote, FreesSet}
 use Rattle.seat_log.proofs.FreedLogs.{none_freed}
 use Rattle.seat_log.proofs.Places.{get_within}
 use Rattle.replay_rules.specs.declared.plan.Call.TheVariants.{Tidy}
-use Rattle.replay_rules.specs.declared.seats.Version.{Version}
+use Rattle.replay_rules.specs.declared.seats.NotedVersion.{NotedVersion}
 use Rattle.replay_rules.specs.declared.seats.Sweep.{Sweep}
 use Rattle.replay_rules.specs.declared.seats.State.{State}
 use Rattle.replay_rules.specs.declared.seats.Ending.TheVariants as finish
 use Rattle.replay_rules.specs.declared.seats.Sweeping.TheVariants.{LoadGrace, Free, LoadScan, LoadSuper}
-use Rattle.replay_rules.specs.declared.seats.Task.TheVariants.{EndsSection, Tidies}
+use Rattle.replay_rules.specs.declared.seats.NextStep.TheVariants.{EndsSection, Tidies}
 use Rattle.replay_rules.specs.declared.seats.Then.{Then}
 use Rattle.replay_rules.specs.declared.seats.Then.TheVariants.{Goes}
 use Rattle.replay_rules.specs.declared.seats.Test.TheVariants.{IsUntimed, EndsSet}
@@ -36,7 +36,7 @@ use Rattle.replay_rules.proofs.runs.LogFacts.{noted_long, noted_at, noted_from}
 use Rattle.replay_rules.proofs.runs.Searches.{first_within, first_after, first_before, first_there}
 
 -- a note of the log is of the version at its place
-pub note_is : (c : Config) (l : Noted) (log : List Version) (freed from i : ℕ) (m : Note) → IsNoted c l log freed from → IsNoteAt l i m
+pub note_is : (c : Config) (l : Noted) (log : List NotedVersion) (freed from i : ℕ) (m : Note) → IsNoted c l log freed from → IsNoteAt l i m
     → (i + freed < length log) × (m ≡ note_of (i + freed) (version_at log (i + freed)))
 note_is c l log freed from i m is at =
     let long = noted_long c l log freed from is in
@@ -58,7 +58,7 @@ unended first dead oldest time e = go (first == oldest) refl (dead == 0) refl (l
     go true p false q true r e = absurd (cc)
     go true p false q false r e = (eqb-true first oldest p, (let ne = eqb_ne dead 0 q in omega (arith, ne)), ltb_ge time dead r)
 
-module _ (c : Config) (l : Noted) (v : View) (log : List Version) (freed from t : ℕ) (stands : Stands c v l) (is : IsNoted c l log freed from) where
+module _ (c : Config) (l : Noted) (v : Knowledge) (log : List NotedVersion) (freed from t : ℕ) (stands : Stands c v l) (is : IsNoted c l log freed from) where
   abbrev end : ℕ
   end = first_from log freed (EndsSet freed t)
 
@@ -101,7 +101,7 @@ module _ (c : Config) (l : Noted) (v : View) (log : List Version) (freed from t 
           go (inr ge) = absurd (behind i m at ge first)
 
 -- a version that has no time of death is committed, where nothing is held
-module _ (c : Config) (v : View) (log : List Version) (freed from : ℕ) (logs : Logs c v log freed from) (none : from ≡ length log) (at : ℕ)
+module _ (c : Config) (v : Knowledge) (log : List NotedVersion) (freed from : ℕ) (logs : Logs c v log freed from) (none : from ≡ length log) (at : ℕ)
     (low : freed ≤ at) (inside : at < length log) (alive : (version_at log at).dead ≡ 0) where
   abbrev m : Note
   m = note_of at (version_at log at)
@@ -121,7 +121,7 @@ module _ (c : Config) (v : View) (log : List Version) (freed from : ℕ) (logs :
       let lives : slot_at v.ring (index_of c at) ≡ Live (version_of m) h.status = ap (λ p. slot_at v.ring (index_of c p)) (sym place) ∙ h.lives in
       go h.status lives (subst (λ b. IsAsNoted b m h.status) later h.as_noted)
     where
-      go : (st : Status) → slot_at v.ring (index_of c at) ≡ Live (version_of (note_of at (version_at log at))) st
+      go : (st : WriteSetStatus) → slot_at v.ring (index_of c at) ≡ Live (version_of (note_of at (version_at log at))) st
           → IsAsNoted false (note_of at (version_at log at)) st
           → (note : CommitNote) × (slot_at v.ring (index_of c at) ≡ Live (version_of (note_of at (version_at log at))) (Committed note))
           × (note.time ≡ (version_at log at).time) × (note.dead ≡ None) × (note.cut ≡ false)
@@ -129,7 +129,8 @@ module _ (c : Config) (v : View) (log : List Version) (freed from : ℕ) (logs :
       go (Aborted dead) lives a = let some = a.2 in absurd (omega (arith, some, alive))
       go (Committed note) lives a = (note, lives, sym a.2, a.3 ∙ ap death_of alive, a.4 alive)
 
-module _ (c : Config) (n : ℕ) (v : View) (log : List Version) (freed from : ℕ) (sweep : Sweep) (scans : v.scan ≡ None) (rests : RestsAt c v log freed from None)
+module _ (c : Config) (n : ℕ) (v : Knowledge) (log : List NotedVersion) (freed from : ℕ) (sweep : Sweep) (scans : v.scan ≡ None)
+    (rests : RestsAt c v log freed from None)
   where
     abbrev state : State
     state = record { seat = n; time = None; from = from; freed = freed; call = Tidy; sweep = sweep }

@@ -4,25 +4,25 @@ use Rattle.std.proofs.Common.{Option, None, All, refl, sym, ap, ◌∙◌, subst
 use Rattle.mv_core.proofs.Terms.{dite, ℕ_discrete, Config, Checked, Super, IsPlace}
 use Rattle.mv_core.specs.declared.ring.CommitNote.{CommitNote}
 use Rattle.mv_core.specs.declared.ring.Slot.TheVariants.{Live}
-use Rattle.mv_core.specs.declared.ring.Status.TheVariants.{Committed}
-use Rattle.mv_core.specs.declared.view.View.{View}
+use Rattle.mv_core.specs.declared.ring.WriteSetStatus.TheVariants.{Committed}
+use Rattle.mv_core.specs.declared.view.Knowledge.{Knowledge}
 use Rattle.mv_core.specs.Rings.{slot_at, index_of}
 use Rattle.mv_core.specs.ReclaimSteps.{MayLoadSuper}
-use Rattle.mv_core.specs.Moves.{Moment, Kind, load_super, IsStorable}
+use Rattle.mv_core.specs.Moves.{Moment, MoveKind, load_super, IsStorable}
 use Rattle.seat_log.specs.declared.version.Note.{Note}
 use Rattle.seat_log.specs.Notes.{Noted, at_place, retired}
 use Rattle.seat_log.specs.Stands.{version_of, Stands}
 use Rattle.seat_log.proofs.Retired.{stands_found, stands_unfound}
 use Rattle.replay_rules.specs.declared.plan.Call.TheVariants.{Tidy}
 use Rattle.replay_rules.specs.declared.plan.CallOf.{CallOf}
-use Rattle.replay_rules.specs.declared.seats.Version.{Version}
+use Rattle.replay_rules.specs.declared.seats.NotedVersion.{NotedVersion}
 use Rattle.replay_rules.specs.declared.seats.Edit.TheVariants.{Kept, Retired, AboveNoted}
 use Rattle.replay_rules.specs.declared.seats.Sweep.{Sweep}
 use Rattle.replay_rules.specs.declared.seats.State.{State}
 use Rattle.replay_rules.specs.declared.seats.Entering.TheVariants.{LoadLow}
 use Rattle.replay_rules.specs.declared.seats.Sweeping.TheVariants.{LoadSuper, LoadSuperAgain}
-use Rattle.replay_rules.specs.declared.seats.Task.{Task}
-use Rattle.replay_rules.specs.declared.seats.Task.TheVariants.{Enters, Tidies}
+use Rattle.replay_rules.specs.declared.seats.NextStep.{NextStep}
+use Rattle.replay_rules.specs.declared.seats.NextStep.TheVariants.{Enters, Tidies}
 use Rattle.replay_rules.specs.declared.seats.Then.TheVariants.{Goes}
 use Rattle.replay_rules.specs.FitPlans.{IsFitCallOf}
 use Rattle.replay_rules.specs.SeatNotes.{version_at, no_version, edited_from, applied}
@@ -41,7 +41,7 @@ use Rattle.replay_rules.proofs.runs.Known.{if_so, ltb_ge, number_is}
 use Rattle.replay_rules.proofs.runs.Rounds.{is_note, untimed, settle_so}
 
 -- the notes with the version at a place dead from a time on
-pub noted_retired : (c : Config) (l : Noted) (log : List Version) (freed from at dead : ℕ) → IsNoted c l log freed from → freed ≤ at
+pub noted_retired : (c : Config) (l : Noted) (log : List NotedVersion) (freed from at dead : ℕ) → IsNoted c l log freed from → freed ≤ at
     → IsNoted c (retired l at dead) (edited_from (Retired at dead) 0 log) freed from
 noted_retired c l log freed from at dead is low =
     let gone = is.gone in
@@ -62,7 +62,7 @@ noted_retired c l log freed from at dead is low =
     }
 
 -- and with another seat noted above it
-pub noted_above : (c : Config) (l : Noted) (log : List Version) (freed from at : ℕ) (seat : Option ℕ) → IsNoted c l log freed from
+pub noted_above : (c : Config) (l : Noted) (log : List NotedVersion) (freed from at : ℕ) (seat : Option ℕ) → IsNoted c l log freed from
     → IsNoted c l (edited_from (AboveNoted at seat) 0 log) freed from
 noted_above c l log freed from at seat is =
     let long = edited_long (AboveNoted at seat) 0 log in
@@ -78,30 +78,31 @@ noted_above c l log freed from at seat is =
     }
 
 -- a version that is noted so has the same time, and no time of death as before
-above_kept : (log : List Version) (at : ℕ) (seat : Option ℕ) → at < length log
+above_kept : (log : List NotedVersion) (at : ℕ) (seat : Option ℕ) → at < length log
     → ((version_at (edited_from (AboveNoted at seat) 0 log) at).time ≡ (version_at log at).time)
     × ((version_at (edited_from (AboveNoted at seat) 0 log) at).dead ≡ (version_at log at).dead)
 above_kept log at seat lt =
     let is = edited_at (AboveNoted at seat) 0 at log no_version lt in
     let same = either (at == 0 + at) (version_at log at) in
-    (ap (λ (v : Version). v.time) is ∙ same.0, ap (λ (v : Version). v.dead) is ∙ same.1)
+    (ap (λ (v : NotedVersion). v.time) is ∙ same.0, ap (λ (v : NotedVersion). v.dead) is ∙ same.1)
   where
-    either : (b : Bool) (v : Version) → ((if b then record v { above = seat } else v).time ≡ v.time) ×
+    either : (b : Bool) (v : NotedVersion) → ((if b then record v { above = seat } else v).time ≡ v.time) ×
         ((if b then record v { above = seat } else v).dead ≡ v.dead)
     either true v = (refl, refl)
     either false v = (refl, refl)
 
 module _ (c : Config) (k : Checked c) (n : ℕ) (lt : n < c.seats) (made : List Made) (t : TapeOf) (b : IsTapeBehind c t made)
-    (log : List Version) (freed from : ℕ) (sweep : Sweep) (own : Option Task) (left : List CallOf)
+    (log : List NotedVersion) (freed from : ℕ) (sweep : Sweep) (own : Option NextStep) (left : List CallOf)
     (no_scan : ((state_of c made).seats n).scan ≡ None) (before : All (IsFitCallOf c) left) where
   abbrev s : Moment
   s = state_of c made
 
-  abbrev v : View
+  abbrev v : Knowledge
   v = s.seats n
 
   -- behind a version the next one is looked at
-  pub behind_so : (w : View) (log2 : List Version) (sweep2 : Sweep) (at : ℕ) → w.scan ≡ None → RestsAt c w log2 freed from None → IsSwept w.grace sweep2
+  pub behind_so : (w : Knowledge) (log2 : List NotedVersion) (sweep2 : Sweep) (at : ℕ) → w.scan ≡ None → RestsAt c w log2 freed from None
+      → IsSwept w.grace sweep2
       → freed ≤ at
       → at < length log2
       → GoesSo c n w log2 freed from None Tidy sweep2
@@ -118,10 +119,10 @@ module _ (c : Config) (k : Checked c) (n : ℕ) (lt : n < c.seats) (made : List 
         × (note.time ≡ (version_at log at).time) × (note.dead ≡ None) × (note.cut ≡ false)
     noted_as = untimed c v log freed from rests.2 rests.1 at low inside alive
 
-    abbrev kind : Kind
+    abbrev kind : MoveKind
     kind = load_super at (version_of (note_of at (version_at log at))) noted_as.0
 
-    abbrev w : View
+    abbrev w : Knowledge
     w = view_by c s n (load_super at (version_of (note_of at (version_at log at))) noted_as.0)
 
     abbrev found : ℕ
@@ -153,10 +154,10 @@ module _ (c : Config) (k : Checked c) (n : ℕ) (lt : n < c.seats) (made : List 
     unfound_stands none =
         stands_unfound c v rests.2.noted (at - freed) m noted_as.0 (s.memory (Super v.number (index_of c at))) _ rests.2.stands noted_as.1 (found_there ∙ none)
 
-    rests_so : (log2 : List Version) → length log2 ≡ length log → Logs c w log2 freed from → RestsAt c w log2 freed from None
+    rests_so : (log2 : List NotedVersion) → length log2 ≡ length log → Logs c w log2 freed from → RestsAt c w log2 freed from None
     rests_so log2 long logs = (rests.0, (let none = rests.1 in omega (arith, none, long)), logs)
 
-    of_super : (task : Task) → place_in_task c n task ≡ Super n (slot_for c at)
+    of_super : (task : NextStep) → place_in_task c n task ≡ Super n (slot_for c at)
         → ((x : ℕ) → None ≡ written_by (access_in_task n task) x) → IsKindOf task kind → IsOfKind c s n kind task
     of_super task there writes is = record {
       is = is;

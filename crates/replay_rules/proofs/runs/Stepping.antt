@@ -1,12 +1,12 @@
 -- A step of a seat that is one of the core's: what is found, the tape behind it, and how the call goes on.
 use Rattle.std.proofs.Common.{◌≡◌, ℕ, ◌<◌, ◌^◌, arith, ◌&&◌, ltb, List, ◌∷◌, Bool, true, All, Option, Some, None, refl, sym, ap, ◌∙◌, subst, inl, inr}
 use Rattle.std.proofs.Common.{lt-ltb, if◌then◌else◌}
-use Rattle.mv_core.proofs.Terms.{Config, Checked, Place, Clock, Grace, Mark, Head, Master, First, Stamp, Prev, Super, Data, IsPlace}
-use Rattle.mv_core.specs.declared.view.View.{View}
-use Rattle.mv_core.specs.Moves.{Moment, Kind, act, IsStorable}
+use Rattle.mv_core.proofs.Terms.{Config, Checked, SharedWord, Clock, Grace, Mark, Head, Master, First, Stamp, Prev, Super, Data, IsPlace}
+use Rattle.mv_core.specs.declared.view.Knowledge.{Knowledge}
+use Rattle.mv_core.specs.Moves.{Moment, MoveKind, act, IsStorable}
 use Rattle.mv_core.proofs.frames.FrameLaw.{set_at_here}
-use Rattle.replay_rules.specs.declared.seats.Task.{Task}
-use Rattle.replay_rules.specs.declared.seats.Task.TheVariants.{Tidies}
+use Rattle.replay_rules.specs.declared.seats.NextStep.{NextStep}
+use Rattle.replay_rules.specs.declared.seats.NextStep.TheVariants.{Tidies}
 use Rattle.replay_rules.specs.declared.seats.Sweeping.TheVariants.{LoadMark}
 use Rattle.replay_rules.specs.declared.seats.Then.TheVariants.{Goes}
 use Rattle.replay_rules.specs.declared.seats.Then.{Then}
@@ -22,7 +22,7 @@ use Rattle.replay_rules.proofs.Machines.{made_next}
 use Rattle.replay_rules.proofs.NextSteps.{lined, step_behind}
 use Rattle.replay_rules.specs.declared.plan.Call.{Call}
 use Rattle.replay_rules.specs.declared.plan.CallOf.{CallOf}
-use Rattle.replay_rules.specs.declared.seats.Version.{Version}
+use Rattle.replay_rules.specs.declared.seats.NotedVersion.{NotedVersion}
 use Rattle.replay_rules.specs.declared.seats.Sweep.{Sweep}
 use Rattle.replay_rules.specs.FitPlans.{IsFitCallOf}
 use Rattle.replay_rules.proofs.runs.Known.{word_small}
@@ -33,7 +33,7 @@ both_true : (a b : Bool) → a ≡ true → b ≡ true → (a && b) ≡ true
 both_true a b p q = ap (λ x. x && b) p ∙ q
 
 -- a word of the domain is found to be one
-place_true : (c : Config) (p : Place) → IsPlace c p → is_place c p ≡ true
+place_true : (c : Config) (p : SharedWord) → IsPlace c p → is_place c p ≡ true
 place_true c Clock r = refl
 place_true c Grace r = refl
 place_true c (Mark s) r = lt-ltb s c.seats r
@@ -48,11 +48,11 @@ place_true c (Data s k w) r =
     (both_true (ltb k c.slots) (ltb w 6) (lt-ltb k c.slots r.1) (lt-ltb w 6 r.2))
 
 -- what a step of the core of this kind makes of a seat's view
-abbrev pub view_by : Config → Moment → ℕ → Kind → View
+abbrev pub view_by : Config → Moment → ℕ → MoveKind → Knowledge
 view_by c s n kind = (act any_commit c (s.seats n) kind).view (s.memory (act any_commit c (s.seats n) kind).place) s.history
 
 -- the next step of a seat is the core's step of this kind
-pub record IsOfKind (c : Config) (s : Moment) (n : ℕ) (kind : Kind) (task : Task) : Type 0 where
+pub record IsOfKind (c : Config) (s : Moment) (n : ℕ) (kind : MoveKind) (task : NextStep) : Type 0 where
   pub is : IsKindOf task kind
   pub may : may_in c s (step_of n kind)
   pub range : IsPlace c (place_in_task c n task)
@@ -65,8 +65,8 @@ module _ (c : Config) (k : Checked c) (n : ℕ) (lt : n < c.seats) (made : List 
   s = state_of c made
 
   -- a step at a task whose word is one of the domain
-  module _ (task : Task) (range : IsPlace c (place_in_task c n task)) where
-    abbrev place : Place
+  module _ (task : NextStep) (range : IsPlace c (place_in_task c n task)) where
+    abbrev place : SharedWord
     place = place_in_task c n task
 
     word : word_at c t.words place ≡ s.memory place
@@ -93,8 +93,8 @@ module _ (c : Config) (k : Checked c) (n : ℕ) (lt : n < c.seats) (made : List 
           (λ i. stepped_with (found_in c (number i) task t) (tape_after c (number i) task t))
           ∙ ap (λ f. stepped_with f (tape_after c n task t)) found_is
 
-  module _ (kind : Kind) (task : Task) (of : IsOfKind c s n kind task) where
-    abbrev at : Place
+  module _ (kind : MoveKind) (task : NextStep) (of : IsOfKind c s n kind task) where
+    abbrev at : SharedWord
     at = place_in_task c n task
 
     abbrev o : Option ℕ
@@ -125,7 +125,7 @@ module _ (c : Config) (k : Checked c) (n : ℕ) (lt : n < c.seats) (made : List 
       seat_there x is = subst (IsSeat c n x) (sym (set_at_here s.seats n (view_by c s n kind))) is
 
       -- the seat goes on with its call, or has ended it
-      pub next_is : (log : List Version) (freed from : ℕ) (time : Option ℕ) (call : Call) (sweep : Sweep) (own : Option Task) (left : List CallOf)
+      pub next_is : (log : List NotedVersion) (freed from : ℕ) (time : Option ℕ) (call : Call) (sweep : Sweep) (own : Option NextStep) (left : List CallOf)
           → learned task (s.memory at) seat ≡ seat_with n log freed from time call sweep own left → (view_by c s n kind).scan ≡ None
           → All (IsFitCallOf c) left
           → GoesSo c n (view_by c s n kind) log freed from time call sweep
@@ -165,7 +165,7 @@ module _ (c : Config) (k : Checked c) (n : ℕ) (lt : n < c.seats) (made : List 
               })
 
       -- the seat goes on with a scan
-      pub scan_on : (log : List Version) (freed from : ℕ) (time : Option ℕ) (call : Call) (sweep : Sweep) (own : Option Task) (left : List CallOf)
+      pub scan_on : (log : List NotedVersion) (freed from : ℕ) (time : Option ℕ) (call : Call) (sweep : Sweep) (own : Option NextStep) (left : List CallOf)
           → learned task (s.memory at) seat ≡ seat_with n log freed from time call sweep own left → All (IsFitCallOf c) left → (mark : ℕ)
           → then_after task c log (record { seat = n; time = time; from = from; freed = freed; call = call; sweep = sweep }) (s.memory at)
           ≡ Goes (Tidies (LoadMark mark))

@@ -1,12 +1,12 @@
 -- Each step that a seat stands at.
 use Rattle.std.proofs.Common.{◌≡◌, ℕ, ◌<◌, List, Option, Some, None, All, sym, subst, inl, inr}
 use Rattle.mv_core.proofs.Terms.{Config, Checked}
-use Rattle.mv_core.specs.declared.view.View.{View}
+use Rattle.mv_core.specs.declared.view.Knowledge.{Knowledge}
 use Rattle.replay_rules.specs.declared.plan.Call.{Call}
 use Rattle.replay_rules.specs.declared.plan.Call.TheVariants.{Tidy}
-use Rattle.replay_rules.specs.declared.seats.Back.TheVariants.{WasCut, WasGone, WasAbove}
+use Rattle.replay_rules.specs.declared.seats.WriteBackEnd.TheVariants.{WasCut, WasGone, WasAbove}
 use Rattle.replay_rules.specs.declared.plan.CallOf.{CallOf}
-use Rattle.replay_rules.specs.declared.seats.Version.{Version}
+use Rattle.replay_rules.specs.declared.seats.NotedVersion.{NotedVersion}
 use Rattle.replay_rules.specs.declared.seats.Sweep.{Sweep}
 use Rattle.replay_rules.specs.declared.seats.Ending.{Ending}
 use Rattle.replay_rules.specs.declared.seats.Ending.TheVariants.{LoadNow, Name, StampOwn, StoreSuper, Unlock, LoadDeath, Leave}
@@ -14,8 +14,8 @@ use Rattle.replay_rules.specs.declared.seats.Leaving.TheVariants.{Plainly, WithC
 use Rattle.replay_rules.specs.declared.seats.Sweeping.{Sweeping}
 use Rattle.replay_rules.specs.declared.seats.Sweeping.TheVariants.{LoadGrace, Free, LoadScan, LoadMark, RaiseGrace, LoadSuper, LoadTop, StoreMaster}
 use Rattle.replay_rules.specs.declared.seats.Sweeping.TheVariants.{CutHead, LoadCutDeath, LeaveBack, LoadSuperAgain, NameRest}
-use Rattle.replay_rules.specs.declared.seats.Task.{Task}
-use Rattle.replay_rules.specs.declared.seats.Task.TheVariants.{Enters, Helps, Walks, Locks, Writes, EndsSection, Tidies}
+use Rattle.replay_rules.specs.declared.seats.NextStep.{NextStep}
+use Rattle.replay_rules.specs.declared.seats.NextStep.TheVariants.{Enters, Helps, Walks, Locks, Writes, EndsSection, Tidies}
 use Rattle.replay_rules.specs.FitPlans.{IsFitCallOf}
 use Rattle.replay_rules.specs.States.{Made, state_of}
 use Rattle.replay_rules.specs.Runs.{TapeOf}
@@ -35,12 +35,12 @@ use Rattle.replay_rules.proofs.runs.LeavingBack.{death_is, cut_leaves, gone_leav
 use Rattle.replay_rules.proofs.runs.BackingUp.{top_is, store_is, cut_is}
 
 module _ (c : Config) (k : Checked c) (n : ℕ) (lt : n < c.seats) (made : List Made) (t : TapeOf) (b : IsTapeBehind c t made)
-    (log : List Version) (freed from : ℕ) (time : Option ℕ) (call : Call) (sweep : Sweep) (own : Option Task) (left : List CallOf)
+    (log : List NotedVersion) (freed from : ℕ) (time : Option ℕ) (call : Call) (sweep : Sweep) (own : Option NextStep) (left : List CallOf)
     (before : All (IsFitCallOf c) left) where
-  abbrev view : View
+  abbrev view : Knowledge
   view = (state_of c made).seats n
 
-  abbrev Step_made : Task → Type 0
+  abbrev Step_made : NextStep → Type 0
   Step_made task = StepsSo c n made t task (seat_with n log freed from time call sweep own left)
 
   module _ (no_scan : ((state_of c made).seats n).scan ≡ None) where
@@ -119,7 +119,7 @@ module _ (c : Config) (k : Checked c) (n : ℕ) (lt : n < c.seats) (made : List 
           (rest_is c k n lt made t b log freed from sweep own left before at.0 no_scan word new at.2 at.3 at.4 at.5)
 
   -- each step that a seat stands at, where no scan runs
-  quiet_is : view.scan ≡ None → (task : Task) → StandsFor c n view log freed from time call sweep (Some task) → Step_made task
+  quiet_is : view.scan ≡ None → (task : NextStep) → StandsFor c n view log freed from time call sweep (Some task) → Step_made task
   quiet_is no_scan (Enters step) at =
       let P = λ (x : Option ℕ). StepsSo c n made t (Enters step) (seat_with n log freed from x call sweep own left) in
       subst P (sym at.2) (entering_made c k n lt made t b log freed from call sweep own left no_scan before at.1 at.3 at.4 step at.0)
@@ -134,10 +134,10 @@ module _ (c : Config) (k : Checked c) (n : ℕ) (lt : n < c.seats) (made : List 
   quiet_is no_scan (Tidies step) at = tidies_made at.1 no_scan step at.0
 
   -- and each at all
-  pub step_is : (task : Task) → ScanAt view (Some task) → StandsFor c n view log freed from time call sweep (Some task) → Step_made task
+  pub step_is : (task : NextStep) → ScanAt view (Some task) → StandsFor c n view log freed from time call sweep (Some task) → Step_made task
   step_is task (inl no_scan) at = quiet_is no_scan task at
   step_is task (inr scan) at =
       let one : Some task ≡ Some (Tidies (LoadMark scan.0)) = scan.1 in
       let same : task ≡ Tidies (LoadMark scan.0) = cc in
-      let stands = subst (λ (x : Task). StandsFor c n view log freed from time call sweep (Some x)) same at in
+      let stands = subst (λ (x : NextStep). StandsFor c n view log freed from time call sweep (Some x)) same at in
       subst Step_made (sym same) (marks_made stands.1 scan.0 stands.0)

@@ -4,7 +4,7 @@ use Rattle.std.proofs.Common.{subst, arith, length-set, inl, inr, count_by, if�
 use Rattle.std.proofs.lemmas.List.{get_or-set_same, get_or-set_other}
 use Rattle.std.proofs.lemmas.List.Elements.{All-head, All-tail}
 use Rattle.mv_core.proofs.Terms.{dite, ℕ_discrete, Config, Checked, set_at, empty_ring}
-use Rattle.mv_core.specs.declared.view.View.{View}
+use Rattle.mv_core.specs.declared.view.Knowledge.{Knowledge}
 use Rattle.mv_core.specs.declared.view.Phase.TheVariants.{Outside}
 use Rattle.mv_core.specs.SeatSteps.{made_one, newly_made}
 use Rattle.mv_core.specs.Start.{starting_view}
@@ -19,10 +19,10 @@ use Rattle.seat_log.proofs.Beginning.{stands_new}
 use Rattle.seat_log.proofs.Stays.{stands_same}
 use Rattle.replay_rules.specs.declared.plan.Call.TheVariants.{Enter}
 use Rattle.replay_rules.specs.declared.plan.CallOf.{CallOf}
-use Rattle.replay_rules.specs.declared.seats.Version.{Version}
+use Rattle.replay_rules.specs.declared.seats.NotedVersion.{NotedVersion}
 use Rattle.replay_rules.specs.declared.seats.Sweep.{Sweep}
-use Rattle.replay_rules.specs.declared.seats.Task.{Task}
-use Rattle.replay_rules.specs.declared.seats.Task.TheVariants.{Tidies}
+use Rattle.replay_rules.specs.declared.seats.NextStep.{NextStep}
+use Rattle.replay_rules.specs.declared.seats.NextStep.TheVariants.{Tidies}
 use Rattle.replay_rules.specs.declared.seats.Sweeping.TheVariants.{LoadMark}
 use Rattle.replay_rules.specs.Plans.{PlanOf}
 use Rattle.replay_rules.specs.FitPlans.{IsFitCallOf}
@@ -55,7 +55,7 @@ use Rattle.replay_rules.proofs.answers.Far.{FarIn}
 use Rattle.replay_rules.proofs.answers.TasksOf.{task_of}
 
 -- a seat, and where it is in its plan
-abbrev IsSeatIn : Config → ℕ → SeatOf → View → InPlan → Type 0
+abbrev IsSeatIn : Config → ℕ → SeatOf → Knowledge → InPlan → Type 0
 IsSeatIn c n s v here = IsSeat c n s v × IsIn c n v s here
 
 -- What a turn of a seat leads to, from a tape and where the seats are: the steps behind it, where they are then, and the seat; the others stay.
@@ -75,7 +75,7 @@ others_there : (calls : Calls) (n : ℕ) (here : InPlan) (m : ℕ) → m ≢ n �
 others_there calls n here m other = ap (λ e. if e then here else calls m) (ne_eqb m n other)
 
 module _ (c : Config) (k : Checked c) (n : ℕ) (lt : n < c.seats) (made : List Made) (old : TapeOf) (calls : Calls) where
-  abbrev v : View
+  abbrev v : Knowledge
   v = view_behind c made n
 
   abbrev So : Scene → Type 0
@@ -83,9 +83,9 @@ module _ (c : Config) (k : Checked c) (n : ℕ) (lt : n < c.seats) (made : List 
 
   -- a step is made of the call that the seat is in, or that it begins
   by_step : (t : TapeOf) (lines : List ℕ) → t ≡ with_line old lines → IsTapeBehind c t made
-      → (run : Running) (log : List Version) (freed from : ℕ) (time : Option ℕ) (sweep : Sweep) (own : Option Task) (left : List CallOf)
+      → (run : Running) (log : List NotedVersion) (freed from : ℕ) (time : Option ℕ) (sweep : Sweep) (own : Option NextStep) (left : List CallOf)
       → All (IsFitCallOf c) left → IsCallOf c n made (calls n).now (calls n).left run (calls_of left n) lines
-      → (task : Task) → ScanAt v (Some task) → StandsFor c n v log freed from time run.call sweep (Some task)
+      → (task : NextStep) → ScanAt v (Some task) → StandsFor c n v log freed from time run.call sweep (Some task)
       → FarIn run.call c n (view_behind c run.before n) v log (state_with n time from freed run.call sweep) task
       → So (step_made c task (record { seat = seat_with n log freed from time run.call sweep own left; tape = t }))
   by_step t lines printed b run log freed from time sweep own left before called task scans stands far =
@@ -114,11 +114,11 @@ module _ (c : Config) (k : Checked c) (n : ℕ) (lt : n < c.seats) (made : List 
 
   module _ (no_scan : ((state_of c made).seats n).scan ≡ None) (outside : (calls n).now ≡ None) where
     -- the first step of a call that begins is made, or the seat is idle
-    looked_is : (l : Looked) (log : List Version) (freed from : ℕ) (time : Option ℕ) → IsLooked c n made log freed from time old (calls n).left l
+    looked_is : (l : Looked) (log : List NotedVersion) (freed from : ℕ) (time : Option ℕ) → IsLooked c n made log freed from time old (calls n).left l
         → So (turn_begun c l.task l.scene)
     looked_is l log freed from time is = go l.task l.scene.seat l.scene.tape is.is is.printed is.behind is.stands is.calls_are is.far
       where
-        go : (task : Option Task) (seat : SeatOf) (t : TapeOf) → seat ≡ seat_with n log freed from time is.call is.sweep None is.left
+        go : (task : Option NextStep) (seat : SeatOf) (t : TapeOf) → seat ≡ seat_with n log freed from time is.call is.sweep None is.left
             → t ≡ with_line old is.lines → IsTapeBehind c t made → StandsFor c n v log freed from time is.call is.sweep task
             → LooksAt task is.call (calls n).left is.looked (calls_of is.left n)
             → BeginsFar c n v log (state_with n time from freed is.call is.sweep) task → So (turn_begun c task (record { seat = seat; tape = t }))
@@ -150,7 +150,7 @@ module _ (c : Config) (k : Checked c) (n : ℕ) (lt : n < c.seats) (made : List 
       subst (λ x. IsIn c n v x (calls n) → So (turned c (record { seat = x; tape = old }))) (sym s.is)
       (λ there. go s.task s.scans s.stands (calls n).now refl there.0 there.1) is_in
     where
-      go : (task : Option Task) → ScanAt v task → StandsFor c n v s.log s.freed s.from s.time s.call s.sweep task
+      go : (task : Option NextStep) → ScanAt v task → StandsFor c n v s.log s.freed s.from s.time s.call s.sweep task
           → (run : Option Running) → (calls n).now ≡ run → InCall c n v s.log (state_with n s.time s.from s.freed s.call s.sweep) task run
           → calls_of s.left n ≡ (calls n).left
           → So (turned c (record { seat = seat_with n s.log s.freed s.from s.time s.call s.sweep task s.left; tape = old }))
@@ -245,7 +245,7 @@ new_seat_in calls first (suc count) zero lt = ap (new_seat calls) (omega arith)
 new_seat_in calls first (suc count) (suc n) lt = new_seat_in calls (first + 1) count n (omega (arith, lt)) ∙ ap (new_seat calls) (omega arith)
 
 -- a seat that has made no step but those that make other seats
-record IsNew (c : Config) (n : ℕ) (v : View) : Type 0 where
+record IsNew (c : Config) (n : ℕ) (v : Knowledge) : Type 0 where
   number : v.number ≡ n
   phase : v.phase ≡ Outside
   scan : v.scan ≡ None
@@ -278,7 +278,7 @@ new_made c (suc count) n =
     (λ t _. set_at_all (IsNew c) s.seats 0 (made_one c (s.seats 0)) maker (λ u _. new_made c count u) t) n
 
 -- the notes of a seat of a new domain stand for its view
-new_logs : (c : Config) → Checked c → (n : ℕ) → n < c.seats → (v : View) → IsNew c n v → Logs c v [] 0 0
+new_logs : (c : Config) → Checked c → (n : ℕ) → n < c.seats → (v : Knowledge) → IsNew c n v → Logs c v [] 0 0
 new_logs c k n lt v new =
     let old = stands_new c (zeros c) n k lt in record {
       noted = nothing_noted n c.slots;

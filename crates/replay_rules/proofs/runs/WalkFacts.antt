@@ -6,8 +6,8 @@ use Rattle.std.proofs.lemmas.List.{length-set, get_or-set_same, get_or-set_other
 use Rattle.std.proofs.lemmas.Bool.{cases_lt}
 use Rattle.mv_layout.specs.Words.{link_seat_of}
 use Rattle.mv_core.proofs.Terms.{dite, ℕ_discrete, Config}
-use Rattle.mv_core.specs.declared.view.View.{View}
-use Rattle.mv_core.specs.declared.view.Section.{Section}
+use Rattle.mv_core.specs.declared.view.Knowledge.{Knowledge}
+use Rattle.mv_core.specs.declared.view.OwnSection.{OwnSection}
 use Rattle.mv_core.specs.declared.view.Passed.{Passed}
 use Rattle.mv_core.specs.WalkSteps.{stand_at, word_read}
 use Rattle.mv_core.specs.declared.ring.Build.{Build}
@@ -19,11 +19,11 @@ use Rattle.seat_log.proofs.Standing.{next_spare}
 use Rattle.seat_log.specs.Builds.{build_at}
 use Rattle.replay_rules.specs.declared.plan.Call.{Call}
 use Rattle.replay_rules.specs.declared.plan.Call.TheVariants.{Enter, Read, Lock, Write, Commit, Abort, Leave, Tidy}
-use Rattle.replay_rules.specs.declared.seats.Version.{Version}
+use Rattle.replay_rules.specs.declared.seats.NotedVersion.{NotedVersion}
 use Rattle.replay_rules.specs.declared.seats.Sweep.{Sweep}
 use Rattle.replay_rules.specs.declared.seats.Walking.TheVariants.{LoadFirst, LoadWord}
-use Rattle.replay_rules.specs.declared.seats.Task.TheVariants.{Walks}
-use Rattle.replay_rules.specs.declared.seats.Answer.TheVariants.{Locked}
+use Rattle.replay_rules.specs.declared.seats.NextStep.TheVariants.{Walks}
+use Rattle.replay_rules.specs.declared.seats.CallAnswer.TheVariants.{Locked}
 use Rattle.replay_rules.specs.declared.seats.Then.TheVariants.{Goes, Ends}
 use Rattle.replay_rules.specs.GoesOn.{is_lock, is_unset, stand, refusal}
 use Rattle.replay_rules.proofs.runs.Sections.{Logs, InSection, MayHold, WalksFor, WordsSoFar}
@@ -33,7 +33,7 @@ use Rattle.replay_rules.proofs.runs.Helping.{rests_in}
 use Rattle.replay_rules.proofs.runs.LogFacts.{noted_long}
 
 -- no word was read yet
-pub no_words : (c : Config) (v : View) (s : Section) (o : ℕ) → WordsSoFar c v s o (replicate 6 0) 0
+pub no_words : (c : Config) (v : Knowledge) (s : OwnSection) (o : ℕ) → WordsSoFar c v s o (replicate 6 0) 0
 no_words c v s o = record { wide = refl; small = λ i. zero_small i (cases_lt i 6); are = λ i lt. absurd (omega (arith, lt)) }
   where
     zero_small : (i : ℕ) → (i < 6) ⊎ (6 ≤ i) → get_or (replicate {A = ℕ} 6 0) i 0 < 2 ^ 64
@@ -41,7 +41,7 @@ no_words c v s o = record { wide = refl; small = λ i. zero_small i (cases_lt i 
     zero_small i (inr ge) = let e = get_or_past (replicate {A = ℕ} 6 0) i 0 ge in omega (arith, e)
 
 -- one word more
-pub one_word : (c : Config) (v : View) (s : Section) (o : ℕ) (words : List ℕ) (w found : ℕ) → w < 6 → found < 2 ^ 64 → found ≡ word_read c v s o w
+pub one_word : (c : Config) (v : Knowledge) (s : OwnSection) (o : ℕ) (words : List ℕ) (w found : ℕ) → w < 6 → found < 2 ^ 64 → found ≡ word_read c v s o w
     → WordsSoFar c v s o words w → WordsSoFar c v s o (slice_set words w found) (w + 1)
 one_word c v s o words w found lt small is so = record {
   wide = length-set words w found ∙ so.wide;
@@ -58,7 +58,7 @@ one_word c v s o words w found lt small is so = record {
 }
 
 -- a refusal ends a lock
-pub refused : (c : Config) (n : ℕ) (v : View) (log : List Version) (freed from : ℕ) (time : Option ℕ) (call : Call) (sweep : Sweep) (link stamp : ℕ) →
+pub refused : (c : Config) (n : ℕ) (v : Knowledge) (log : List NotedVersion) (freed from : ℕ) (time : Option ℕ) (call : Call) (sweep : Sweep) (link stamp : ℕ) →
     InSection c v log freed from time
     → GoesSo c n v log freed from time call sweep (refusal link stamp)
 refused c n v log freed from time call sweep link stamp i =
@@ -68,7 +68,7 @@ refused c n v log freed from time call sweep link stamp i =
     (λ e. by_end (Locked (refusals.Stale stamp)) refl (rests_in c v log freed from time i))
 
 -- a section behind a step that leaves its phase, its clock words and the log
-abbrev pub section_stays : (c : Config) (v w : View) (log : List Version) (freed from : ℕ) (time : Option ℕ) (i : InSection c v log freed from time) →
+abbrev pub section_stays : (c : Config) (v w : Knowledge) (log : List NotedVersion) (freed from : ℕ) (time : Option ℕ) (i : InSection c v log freed from time) →
     w.phase ≡ v.phase
     → w.clocks ≡ v.clocks → w.back ≡ v.back → Logs c w log freed from → InSection c w log freed from time
 section_stays c v w log freed from time i phase clocks back logs = record {
@@ -84,7 +84,7 @@ section_stays c v w log freed from time i phase clocks back logs = record {
 }
 
 -- where a walk goes on at a link that was found
-pub stand_so : (c : Config) (n : ℕ) (w : View) (log : List Version) (freed from : ℕ) (time : Option ℕ) (call : Call) (sweep : Sweep)
+pub stand_so : (c : Config) (n : ℕ) (w : Knowledge) (log : List NotedVersion) (freed from : ℕ) (time : Option ℕ) (call : Call) (sweep : Sweep)
     (o link : ℕ) (passed : Passed) → w.walk ≡ stand_at o link passed false → link < 2 ^ 64 → InSection c w log freed from time
     → o < c.objects → WalksFor c log freed from o call
     → GoesSo c n w log freed from time call sweep (stand o link)
@@ -106,7 +106,8 @@ stand_so c n w log freed from time call sweep o link passed at small i range for
     ))
 
 -- the call of a walk that is a lock may hold its object
-pub lock_holds : (c : Config) (log : List Version) (freed from o : ℕ) (call : Call) → is_lock call ≡ true → WalksFor c log freed from o call → MayHold c log
+pub lock_holds : (c : Config) (log : List NotedVersion) (freed from o : ℕ) (call : Call) → is_lock call ≡ true → WalksFor c log freed from o call
+    → MayHold c log
     freed from o
 lock_holds c log freed from o (Lock p) e for = for.1
 lock_holds c log freed from o (Read p) e for = absurd (cc)
@@ -118,7 +119,7 @@ lock_holds c log freed from o Leave e for = absurd for
 lock_holds c log freed from o Tidy e for = absurd for
 
 -- the slot of the next position has a build of six words, where there is room
-pub built_wide : (c : Config) (v : View) (log : List Version) (freed from : ℕ) → Logs c v log freed from → length log < freed + c.slots
+pub built_wide : (c : Config) (v : Knowledge) (log : List NotedVersion) (freed from : ℕ) → Logs c v log freed from → length log < freed + c.slots
     → length (build_at c v (length log)).words ≡ 6
 built_wide c v log freed from logs room =
     let l = logs.noted in

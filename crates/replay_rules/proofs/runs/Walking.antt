@@ -4,11 +4,11 @@ use Rattle.std.proofs.Common.{replicate, refl, sym, ap, ◌∙◌, subst, arith,
 use Rattle.std.specs.Prelude.{unwrap_or}
 use Rattle.mv_layout.specs.Words.{link_seat_of, IsUnset}
 use Rattle.mv_core.proofs.Terms.{Config, Checked, Head, Master, First, Stamp, Prev, Data, IsPlace}
-use Rattle.mv_core.specs.declared.view.View.{View}
-use Rattle.mv_core.specs.declared.view.Section.{Section}
+use Rattle.mv_core.specs.declared.view.Knowledge.{Knowledge}
+use Rattle.mv_core.specs.declared.view.OwnSection.{OwnSection}
 use Rattle.mv_core.specs.declared.view.Stand.{Stand}
 use Rattle.mv_core.specs.declared.view.Passed.TheVariants.{Nothing}
-use Rattle.mv_core.specs.declared.view.Walk.TheVariants as walk
+use Rattle.mv_core.specs.declared.view.WalkStage.TheVariants as walk
 use Rattle.mv_core.specs.Views.{time_in}
 use Rattle.mv_core.specs.WalkSteps.{slot_named, stand_at, passed_too, word_read, words_read, MayLoadMaster, MayLoadData}
 use Rattle.mv_core.specs.Rings.{index_of}
@@ -20,15 +20,15 @@ use Rattle.mv_core.proofs.kinds.walking.LoadData.{data_loads}
 use Rattle.mv_core.proofs.kinds.walking.LoadMaster.{master_loads}
 use Rattle.replay_rules.specs.declared.plan.Call.{Call}
 use Rattle.replay_rules.specs.declared.plan.CallOf.{CallOf}
-use Rattle.replay_rules.specs.declared.seats.Version.{Version}
+use Rattle.replay_rules.specs.declared.seats.NotedVersion.{NotedVersion}
 use Rattle.replay_rules.specs.declared.seats.Sweep.{Sweep}
 use Rattle.replay_rules.specs.declared.seats.State.{State}
 use Rattle.replay_rules.specs.declared.seats.Walking.{Walking}
 use Rattle.replay_rules.specs.declared.seats.Walking.TheVariants.{LoadHead, LoadFirst, LoadStamp, LoadPrev, LoadWord}
 use Rattle.replay_rules.specs.declared.seats.Locking.TheVariants as locking
-use Rattle.replay_rules.specs.declared.seats.Task.{Task}
-use Rattle.replay_rules.specs.declared.seats.Task.TheVariants.{Walks, Locks}
-use Rattle.replay_rules.specs.declared.seats.Answer.TheVariants.{SixWords}
+use Rattle.replay_rules.specs.declared.seats.NextStep.{NextStep}
+use Rattle.replay_rules.specs.declared.seats.NextStep.TheVariants.{Walks, Locks}
+use Rattle.replay_rules.specs.declared.seats.CallAnswer.TheVariants.{SixWords}
 use Rattle.replay_rules.specs.declared.seats.Then.TheVariants.{Goes, Ends}
 use Rattle.replay_rules.specs.FitPlans.{IsFitCallOf}
 use Rattle.replay_rules.specs.GoesOn.{is_lock, is_unset, refusal, new_version, after_words}
@@ -45,12 +45,12 @@ use Rattle.replay_rules.proofs.runs.Helping.{rests_in}
 use Rattle.replay_rules.proofs.runs.WalkFacts.{no_words, one_word, refused, section_stays, stand_so, lock_holds, built_wide}
 
 module _ (c : Config) (k : Checked c) (n : ℕ) (lt : n < c.seats) (made : List Made) (t : TapeOf) (b : IsTapeBehind c t made)
-    (log : List Version) (freed from : ℕ) (time : Option ℕ) (call : Call) (sweep : Sweep) (own : Option Task) (left : List CallOf)
+    (log : List NotedVersion) (freed from : ℕ) (time : Option ℕ) (call : Call) (sweep : Sweep) (own : Option NextStep) (left : List CallOf)
     (no_scan : ((state_of c made).seats n).scan ≡ None) (before : All (IsFitCallOf c) left) where
   abbrev s : Moment
   s = state_of c made
 
-  abbrev v : View
+  abbrev v : Knowledge
   v = s.seats n
 
   -- the version that the walk stands at is in a slot of the domain, and the link isn't 0
@@ -71,7 +71,7 @@ module _ (c : Config) (k : Checked c) (n : ℕ) (lt : n < c.seats) (made : List 
       (within.0, within.1, some, omega (arith, high))
 
   module _ (inside : InSection c v log freed from time) (o : ℕ) (range : o < c.objects) (for : WalksFor c log freed from o call) where
-    abbrev i : Section
+    abbrev i : OwnSection
     i = inside.section
 
     abbrev Made_so : Walking → Type 0
@@ -192,7 +192,8 @@ module _ (c : Config) (k : Checked c) (n : ℕ) (lt : n < c.seats) (made : List 
         (word_small c k n made b.each (Prev (link_seat_of link) (slot_named c link))) still range for)
 
     -- all words are read: a read answers them, and a lock builds its version
-    words_so : (v2 : View) (link : ℕ) (words : List ℕ) → (still : InSection c v2 log freed from time) → link < 2 ^ 64 → StandsToLock v2 still.section o link
+    words_so : (v2 : Knowledge) (link : ℕ) (words : List ℕ) → (still : InSection c v2 log freed from time) → link < 2 ^ 64
+        → StandsToLock v2 still.section o link
         → WordsSoFar c v2 still.section o words 6 → length (words_read c v2 still.section o) ≡ 6
         → GoesSo c n v2 log freed from time call sweep
         (after_words log (record { seat = n; time = time; from = from; freed = freed; call = call; sweep = sweep }) o link words)
@@ -239,7 +240,7 @@ module _ (c : Config) (k : Checked c) (n : ℕ) (lt : n < c.seats) (made : List 
         (λ read. by_end (SixWords words) refl (rests_in c v2 log freed from time still))
 
     -- one word more is read
-    word_so : (v2 : View) (link : ℕ) (words : List ℕ) (w found : ℕ) → (still : InSection c v2 log freed from time) → link < 2 ^ 64
+    word_so : (v2 : Knowledge) (link : ℕ) (words : List ℕ) (w found : ℕ) → (still : InSection c v2 log freed from time) → link < 2 ^ 64
         → StandsToLock v2 still.section o link
         → w < 6 → found < 2 ^ 64 → found ≡ word_read c v2 still.section o w → WordsSoFar c v2 still.section o words w
         → length (words_read c v2 still.section o) ≡ 6

@@ -1,19 +1,19 @@
 -- The stores of a write.
 use Rattle.std.proofs.Common.{◌≡◌, ℕ, ◌+◌, ◌-◌, ◌<◌, ltb, List, Option, None, All, refl, sym, ap, ◌∙◌, arith, slice_index, mod-lt, drop}
 use Rattle.mv_core.proofs.Terms.{Config, Checked, Data}
-use Rattle.mv_core.specs.declared.view.View.{View}
+use Rattle.mv_core.specs.declared.view.Knowledge.{Knowledge}
 use Rattle.mv_core.specs.Moves.{Moment, store_data}
 use Rattle.seat_log.specs.Notes.{IsHeld, at_place, with_word, word_noted}
 use Rattle.seat_log.specs.Builds.{version_at as version_in_view}
 use Rattle.seat_log.proofs.HeldWords.{may_word, stands_word}
 use Rattle.replay_rules.specs.declared.plan.Call.{Call}
 use Rattle.replay_rules.specs.declared.plan.CallOf.{CallOf}
-use Rattle.replay_rules.specs.declared.seats.Version.{Version}
+use Rattle.replay_rules.specs.declared.seats.NotedVersion.{NotedVersion}
 use Rattle.replay_rules.specs.declared.seats.Edit.TheVariants.{WordPut}
 use Rattle.replay_rules.specs.declared.seats.Sweep.{Sweep}
-use Rattle.replay_rules.specs.declared.seats.Task.{Task}
-use Rattle.replay_rules.specs.declared.seats.Task.TheVariants.{Writes}
-use Rattle.replay_rules.specs.declared.seats.Answer.TheVariants.{Silent}
+use Rattle.replay_rules.specs.declared.seats.NextStep.{NextStep}
+use Rattle.replay_rules.specs.declared.seats.NextStep.TheVariants.{Writes}
+use Rattle.replay_rules.specs.declared.seats.CallAnswer.TheVariants.{Silent}
 use Rattle.replay_rules.specs.declared.seats.Then.TheVariants.{Goes, Ends}
 use Rattle.replay_rules.specs.FitPlans.{IsFitCallOf}
 use Rattle.replay_rules.specs.SeatNotes.{edited_from}
@@ -30,12 +30,12 @@ use Rattle.replay_rules.proofs.runs.LogFacts.{noted_long, from_there}
 use Rattle.replay_rules.proofs.runs.Helping.{rests_in}
 
 module _ (c : Config) (k : Checked c) (n : ℕ) (lt : n < c.seats) (made : List Made) (t : TapeOf) (b : IsTapeBehind c t made)
-    (log : List Version) (freed from : ℕ) (time : Option ℕ) (call : Call) (sweep : Sweep) (own : Option Task) (left : List CallOf)
+    (log : List NotedVersion) (freed from : ℕ) (time : Option ℕ) (call : Call) (sweep : Sweep) (own : Option NextStep) (left : List CallOf)
     (no_scan : ((state_of c made).seats n).scan ≡ None) (before : All (IsFitCallOf c) left) where
   abbrev s : Moment
   s = state_of c made
 
-  abbrev v : View
+  abbrev v : Knowledge
   v = s.seats n
 
   pub writing_made : (at : ℕ) (words : List ℕ) (word : ℕ) → IsWriting c v log freed from time at words word

@@ -1,5 +1,5 @@
 use Rattle.std.proofs.Common.{refl, sym, ap, ◌∙◌, arith, ℕ, ◌+◌, ◌<◌, None}
-use Rattle.seat_log.specs.mv_core.declared.ring.Status.TheVariants.{Aborted}
+use Rattle.seat_log.specs.mv_core.declared.ring.WriteSetStatus.TheVariants.{Aborted}
 use Rattle.seat_log.specs.mv_core.Rings.{index_of}
 use Rattle.seat_log.specs.mv_core.Passes.{config_of}
 use Rattle.seat_log.specs.Notes.{held_from}

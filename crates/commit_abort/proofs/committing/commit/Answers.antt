@@ -1,5 +1,5 @@
 use Rattle.std.proofs.Common.{◌<◌, refl, sym, ap, ◌∙◌, arith}
-use Rattle.seat_log.specs.mv_core.declared.view.View.{View}
+use Rattle.seat_log.specs.mv_core.declared.view.Knowledge.{Knowledge}
 use Rattle.mv_layout.specs.Words.{clock_time_of}
 use Rattle.seat_log.specs.mv_core.Passes.{view, config_of}
 use Rattle.seat_log.proofs.OwnSlots.{same_on, of_still}
@@ -96,7 +96,7 @@ help-requires-clause-of g c = of_still c.args.shared.now c.args.pass.now c.now-w
 
 pub help-requires-clause-may : goal.help-requires-clause-may
 help-requires-clause-may g c =
-    may_load (view c.now-word.new.pass) g.inside (ap (λ (u : View). u.phase) c.now-word.ensures.view.2 ∙ c.requires.1.1.1.0.phase)
+    may_load (view c.now-word.new.pass) g.inside (ap (λ (u : Knowledge). u.phase) c.now-word.ensures.view.2 ∙ c.requires.1.1.1.0.phase)
 
 pub help-requires-clause-loaded : goal.help-requires-clause-loaded
 help-requires-clause-loaded g c = c.now-word.ensures.loaded

@@ -3,7 +3,7 @@ use Rattle.mv_history.specs.State.{State}
 use Rattle.mv_history.specs.Meaning.{Seat}
 use Rattle.mv_history.specs.Calls.{Leaves}
 use Rattle.mv_history.proofs.Steps.{Continues-Continues}
-use Rattle.directory.specs.declared.layout.Node.{Node}
+use Rattle.directory.specs.declared.layout.DirectoryNode.{DirectoryNode}
 use Rattle.directory.specs.Ring.{node_at}
 use Rattle.directory.proofs.Planned.{directory_read}
 use Rattle.directory.proofs.Seeing.{readable, seen_by}
@@ -28,7 +28,7 @@ returns-clause-seen g c =
     (g.met.S.Open.Section.others_stay _ _ before)
     (subst (λ (s : Seat). Leaves (g.S.Open.Section.section c.read_record-node.new.view) s) (g.met.S.Store.same_seat _) c.leave.ensures.leaves)
     c.at-time.ensures c.shelf_of-shelf.ensures.on
-    (ap (λ (n : Node). n.id) c.read_record-node.ensures.record ∙ ap (λ (u : State). (node_at u c.args.user).id) same)
+    (ap (λ (n : DirectoryNode). n.id) c.read_record-node.ensures.record ∙ ap (λ (u : State). (node_at u c.args.user).id) same)
 
 pub returns-clause-continues : goal.returns-clause-continues
 returns-clause-continues g c =

@@ -1,7 +1,7 @@
 use Rattle.std.proofs.Common.{◌≡◌, sym, subst, false, Option, None}
 use Rattle.mv_history.specs.declared.answers.Holder.{Holder}
 use Rattle.seat_log.specs.mv_core.Passes.{view, config_of}
-use Rattle.log_reclaim.specs.declared.rounds.Scanned.{Scanned}
+use Rattle.log_reclaim.specs.declared.rounds.RoundScan.{RoundScan}
 use Rattle.log_reclaim.specs.Sweeps.{SweepsSo}
 use Rattle.log_reclaim.specs.Rounds.{FreesFirst, IsHolder}
 use Rattle.log_reclaim.proofs.FirstFrees.{freed_first}
@@ -11,11 +11,11 @@ use Rattle.log_reclaim.proofs.rounds.round.Goals.{in-Some, in-None}
 use Rattle.log_reclaim.proofs.rounds.round.Goals as goal
 
 -- what the round left, whatever it scanned
-left : (g : _) (c : goal.After-live g) (scanned : Option Scanned) → c.sweep-freed.result.1 ≡ scanned
+left : (g : _) (c : goal.After-live g) (scanned : Option RoundScan) → c.sweep-freed.result.1 ≡ scanned
     → SweepsSo (config_of c.args.shared.now) (view c.args.pass.now) (view c.sweep-freed.new.pass) c.args.log.now c.sweep-freed.new.log
     c.sweep-freed.ensures.sweeps.0 c.args.back c.sweep-freed.new.found c.sweep-freed.result.0 scanned
 left g c scanned is =
-    subst (λ (o : Option Scanned). SweepsSo (config_of c.args.shared.now) (view c.args.pass.now) (view c.sweep-freed.new.pass) c.args.log.now
+    subst (λ (o : Option RoundScan). SweepsSo (config_of c.args.shared.now) (view c.args.pass.now) (view c.sweep-freed.new.pass) c.args.log.now
     c.sweep-freed.new.log c.sweep-freed.ensures.sweeps.0 c.args.back c.sweep-freed.new.found c.sweep-freed.result.0 o) is c.sweep-freed.ensures.sweeps.1
 
 -- and what it freed first

@@ -4,7 +4,7 @@ use Rattle.log_reclaim.proofs.Idle.{still_of}
 use Rattle.log_reclaim.specs.Parts.{grace_load}
 use Rattle.log_reclaim.proofs.ScanParts.{grace_makes, grace_stands, grace_may}
 use Rattle.log_reclaim.proofs.FirstFrees.{frees_only, frees_then, grace_plain, sweeps_all, sweeps_then, frees_shrinks}
-use Rattle.seat_log.specs.mv_core.declared.view.View.{View}
+use Rattle.seat_log.specs.mv_core.declared.view.Knowledge.{Knowledge}
 use Rattle.seat_log.proofs.OwnSlots.{same_on, of_still}
 use Rattle.log_reclaim.proofs.Reclaiming.{reclaims_may}
 use Rattle.log_reclaim.proofs.Lengths.{one_longer, freed_longer, emptied_bound, swept_bound}
@@ -67,7 +67,7 @@ pub returns-then-live-eq0-clause-trail : goal.returns-then-live-eq0-clause-trail
 returns-then-live-eq0-clause-trail g c =
     let k = c.known-mark in
     let f = c.free_all-first in
-    emptied_bound _ (length (view k.new.pass).trail) _ _ _ f.result (one_longer _ _ _ (ap (λ (u : View). u.trail) k.ensures.view))
+    emptied_bound _ (length (view k.new.pass).trail) _ _ _ f.result (one_longer _ _ _ (ap (λ (u : Knowledge). u.trail) k.ensures.view))
     (freed_longer (view k.new.pass) (view f.new.pass) c.args.log.now f.new.log f.ensures.frees.0 _ f.result f.ensures.frees.1)
     f.ensures.frees.1.few
 
@@ -100,6 +100,6 @@ returns-clause-trail g c =
     let f = c.free_all-first in
     let s = c.scan_and_free-second in
     swept_bound _ (length (view k.new.pass).trail) (length (view f.new.pass).trail) _ _ _ (length f.new.log.live) (length s.new.log.live) f.result s.result.0
-    (one_longer _ _ _ (ap (λ (u : View). u.trail) k.ensures.view))
+    (one_longer _ _ _ (ap (λ (u : Knowledge). u.trail) k.ensures.view))
     (freed_longer (view k.new.pass) (view f.new.pass) c.args.log.now f.new.log f.ensures.frees.0 _ f.result f.ensures.frees.1)
     s.ensures.trail (frees_shrinks _ _ _ _ _ _ _ f.ensures.frees.1).few s.ensures.sweeps.1.shrinks.few

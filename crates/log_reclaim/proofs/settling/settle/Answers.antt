@@ -1,9 +1,9 @@
 use Rattle.std.proofs.Common.{◌≡◌, false, List, [], refl, sym, subst, ⊎_elim, arith, length}
 use Rattle.mv_history.specs.declared.Step.{Step}
-use Rattle.seat_log.specs.mv_core.declared.view.View.{View}
+use Rattle.seat_log.specs.mv_core.declared.view.Knowledge.{Knowledge}
 use Rattle.seat_log.specs.mv_core.Passes.{view, config_of}
 use Rattle.seat_log.specs.Notes.{Noted}
-use Rattle.log_reclaim.specs.declared.settling.Found.{Found}
+use Rattle.log_reclaim.specs.declared.settling.HeadHolders.{HeadHolders}
 use Rattle.log_reclaim.specs.Tries.{LoadsSuper}
 use Rattle.log_reclaim.specs.Sweeps.{found_set, SettlesOne}
 use Rattle.seat_log.proofs.commit_clock_lemmas.Hearing.{hears_none, hears_on}
@@ -48,7 +48,7 @@ pub returns-then-load_super-clause-settles : goal.returns-then-load_super-clause
 returns-then-load_super-clause-settles g c clock may =
     let r = c.requires in
     let none : c.note-version.result.dead ≡ 0 = omega arith in
-    let u : View = view c.load_super.new.pass in
+    let u : Knowledge = view c.load_super.new.pass in
     let m : Noted = c.load_super.new.log in
     let loads = loads_is (config_of c.args.shared.now) (view c.args.pass.now) c.args.log.now r.stands c.args.index c.note-version.result
     c.note-version.ensures u m c.load_super.result c.load_super.ensures.loads in
@@ -114,7 +114,7 @@ returns-clause-settles g c clock may =
     let one = settles_tried _ _ (config_of c.args.shared.now) (view c.args.pass.now) c.args.log.now c.args.mark.now clock c.args.pass.now.known r.of.2
     r.stands may c.args.index c.note-version.result c.note-version.ensures (view c.load_super.new.pass) zero none (view c.write_back-tried.new.pass)
     c.write_back-tried.new.log c.write_back-tried.result t c.args.found.now r.table in
-    subst (λ (f : Found). (made : List Step) × SettlesOne (config_of c.args.shared.now) (view c.args.pass.now) (view c.write_back-tried.new.pass)
+    subst (λ (f : HeadHolders). (made : List Step) × SettlesOne (config_of c.args.shared.now) (view c.args.pass.now) (view c.write_back-tried.new.pass)
     c.args.log.now c.write_back-tried.new.log made c.args.mark.now clock c.args.back c.args.found.now f c.args.index c.write_back-tried.result.clock)
     (sym c.note.ensures)
     (subst (λ b. (made : List Step) × SettlesOne (config_of c.args.shared.now) (view c.args.pass.now) (view c.write_back-tried.new.pass) c.args.log.now

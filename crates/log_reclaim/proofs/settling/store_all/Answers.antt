@@ -1,6 +1,6 @@
 use Rattle.std.proofs.Common.{rules, ◌≡◌, ◌+◌, length, ap, ◌∙◌, arith}
 use Rattle.std.proofs.lemmas.List.{length-append}
-use Rattle.seat_log.specs.mv_core.declared.view.View.{View}
+use Rattle.seat_log.specs.mv_core.declared.view.Knowledge.{Knowledge}
 use Rattle.seat_log.specs.mv_core.Passes.{view, config_of}
 use Rattle.seat_log.proofs.commit_clock_lemmas.Hearing.{hears_on}
 use Rattle.log_reclaim.proofs.rests.Heard.{heard_stored}
@@ -12,7 +12,7 @@ loop-preserved g c =
     let a = c.loop.invariant.same in
     let b = c.back_word.ensures.same in
     let one : length (view c.back_word.new.pass).trail ≡ length (view c.loop.pass).trail + 1 =
-    ap (λ (x : View). length x.trail) c.back_word.ensures.stores.view ∙ length-append (view c.loop.pass).trail _ in
+    ap (λ (x : Knowledge). length x.trail) c.back_word.ensures.stores.view ∙ length-append (view c.loop.pass).trail _ in
     let before = c.loop.invariant.trail in
     record {
       of = search rules;

@@ -1,7 +1,7 @@
 use Rattle.std.proofs.Common.{◌≡◌, ◌≢◌, refl, sym, ap, ◌∙◌, subst, arith, Result, Ok, Err, None, ℕ, length}
 use Rattle.seat_log.specs.mv_core.Passes.{view, config_of}
-use Rattle.log_reclaim.specs.declared.settling.Tried.{Tried}
-use Rattle.log_reclaim.specs.declared.writing_back.Back.{Back}
+use Rattle.log_reclaim.specs.declared.settling.WriteBackSeen.{WriteBackSeen}
+use Rattle.log_reclaim.specs.declared.writing_back.StartedWriteBack.{StartedWriteBack}
 use Rattle.log_reclaim.specs.declared.writing_back.NoBack.{NoBack}
 use Rattle.log_reclaim.specs.declared.writing_back.NoBack.TheVariants.{Young, Gone, Above}
 use Rattle.log_reclaim.specs.Backs.{StartsSo}
@@ -10,7 +10,7 @@ use Rattle.seat_log.proofs.commit_clock_lemmas.Hearing.{hears_on, hears_more}
 use Rattle.log_reclaim.proofs.rests.Heard.{heard_super}
 use Rattle.log_reclaim.proofs.looks.Visits.{looked_stands, left_stands}
 use Rattle.log_reclaim.proofs.looks.Trying.{tries_young, gone_may, gone_number, gone_empty, tries_gone, tries_own, tries_above, tries_cut, tries_lost}
-use Rattle.seat_log.specs.mv_core.declared.view.View.{View}
+use Rattle.seat_log.specs.mv_core.declared.view.Knowledge.{Knowledge}
 use Rattle.seat_log.specs.Stands.{Stands}
 use Rattle.seat_log.proofs.OwnSlots.{same_on, of_still}
 use Rattle.log_reclaim.proofs.Lengths.{one_longer, two_bounds, more_bound, gone_bound}
@@ -18,10 +18,10 @@ use Rattle.log_reclaim.proofs.settling.write_back.Goals as goal
 use Rattle.log_reclaim.proofs.settling.write_back.Goals.{in-Cut, in-Above}
 
 -- the answer isn't that the version is young
-not_young : (r : Result Back NoBack) (b : NoBack) → r ≡ Err b → b ≢ Young → r ≢ Err Young
+not_young : (r : Result StartedWriteBack NoBack) (b : NoBack) → r ≡ Err b → b ≢ Young → r ≢ Err Young
 not_young r b is other e = let f : Err b ≡ Err Young = sym is ∙ e in other (cc)
 
-is_ok : (r : Result Back NoBack) (b : Back) → r ≡ Ok b → r ≢ Err Young
+is_ok : (r : Result StartedWriteBack NoBack) (b : StartedWriteBack) → r ≡ Ok b → r ≢ Err Young
 is_ok r b is e = let f : Ok b ≡ Err Young = sym is ∙ e in absurd (cc)
 
 gone_old : Gone ≢ Young
@@ -45,19 +45,19 @@ returns-in-Ok-clause-tries g c =
     let last = c.start_clock-start.ensures.clock (is_ok c.start_clock-start.result.0 c.in-Ok.back c.in-Ok.is) in
     elim c.match-end.branch [
       | in-Cut w ↦
-          subst (λ (t : Tried). TriesOne (config_of c.args.shared.now) (view c.args.pass.now) (view c.store_all-end.new.pass) c.args.log.now
+          subst (λ (t : WriteBackSeen). TriesOne (config_of c.args.shared.now) (view c.args.pass.now) (view c.store_all-end.new.pass) c.args.log.now
           c.store_all-end.new.log g.at c.args.mark.now t) (λ i. record { above = sym w.above-is i; clock = sym c.max.ensures i })
           (tries_cut _ _ (config_of c.args.shared.now) (view c.args.pass.now) c.args.log.now g.at c.args.mark.now c.args.pass.now.known c.requires.1.1.1.0
           c.requires.1.1.0.2 (view c.start_clock-start.new.pass) (view c.store_all-end.new.pass) c.store_all-end.new.log _ c.in-Ok.back
           c.store_all-end.result.0 c.store_all-end.result.1 c.start_clock-start.result.1 s.1 c.store_all-end.ensures.stores last w.in-Cut.is
-          (ap (λ (b : Back). b.position) s.3))
+          (ap (λ (b : StartedWriteBack). b.position) s.3))
       | in-Above w ↦
-          subst (λ (t : Tried). TriesOne (config_of c.args.shared.now) (view c.args.pass.now) (view c.store_all-end.new.pass) c.args.log.now
+          subst (λ (t : WriteBackSeen). TriesOne (config_of c.args.shared.now) (view c.args.pass.now) (view c.store_all-end.new.pass) c.args.log.now
           c.store_all-end.new.log g.at c.args.mark.now t) (λ i. record { above = sym w.above-is i; clock = sym c.max.ensures i })
           (tries_lost _ _ (config_of c.args.shared.now) (view c.args.pass.now) c.args.log.now g.at c.args.mark.now c.args.pass.now.known c.requires.1.1.1.0
           c.requires.1.1.0.2 (view c.start_clock-start.new.pass) (view c.store_all-end.new.pass) c.store_all-end.new.log _ c.in-Ok.back
           c.store_all-end.result.0 c.store_all-end.result.1 c.start_clock-start.result.1 s.1 c.store_all-end.ensures.stores last c.args.position
-          c.requires.1.1.1.1.0 c.requires.1.1.1.1.1.0 w.in-Above.seat w.in-Above.is (ap (λ (b : Back). b.object) s.3))
+          c.requires.1.1.1.1.0 c.requires.1.1.1.1.1.0 w.in-Above.seat w.in-Above.is (ap (λ (b : StartedWriteBack). b.object) s.3))
     ]
 
 pub load_super-requires : goal.load_super-requires
@@ -193,7 +193,7 @@ store_all-end-requires-clause-begun g c =
     let s = subst
     (StartsSo (config_of c.args.shared.now) (view c.args.pass.now) (view c.start_clock-start.new.pass) c.args.log.now g.at c.args.mark.now
     c.args.steps.now c.start_clock-start.new.steps) c.in-Ok.is c.start_clock-start.ensures.starts in
-    ap (λ (b : Back). b.stored) s.3
+    ap (λ (b : StartedWriteBack). b.stored) s.3
 
 pub returns-in-Ok-clause-same : goal.returns-in-Ok-clause-same
 returns-in-Ok-clause-same g c =
@@ -218,7 +218,7 @@ returns-in-Err-Young-clause-stands g c =
     let s = subst
     (StartsSo (config_of c.args.shared.now) (view c.args.pass.now) (view c.start_clock-start.new.pass) c.args.log.now g.at c.args.mark.now
     c.args.steps.now c.start_clock-start.new.steps) (c.in-Err-Young.is ∙ ap Err is) c.start_clock-start.ensures.starts in
-    subst (λ (w : View). Stands (config_of c.args.shared.now) w c.args.log.now) (sym s.1) c.requires.1.1.1.1.0
+    subst (λ (w : Knowledge). Stands (config_of c.args.shared.now) w c.args.log.now) (sym s.1) c.requires.1.1.1.1.0
 
 pub returns-in-Err-Young-clause-cost : goal.returns-in-Err-Young-clause-cost
 returns-in-Err-Young-clause-cost g c = more_bound _ _ 8 9 c.start_clock-start.ensures.cost

@@ -3,7 +3,7 @@ use Rattle.seat_log.specs.mv_core.Passes.{view, config_of}
 use Rattle.log_reclaim.specs.Tidies.{IsAnyAbove}
 use Rattle.log_reclaim.proofs.Idle.{still_of}
 use Rattle.log_reclaim.proofs.rests.Resting.{rests_none, stands_helped, rests_at_end, room, stands_done, stands_lost, rests_done, rests_lost}
-use Rattle.seat_log.specs.mv_core.declared.view.View.{View}
+use Rattle.seat_log.specs.mv_core.declared.view.Knowledge.{Knowledge}
 use Rattle.seat_log.proofs.OwnSlots.{same_none, same_on, of_still}
 use Rattle.log_reclaim.proofs.Lengths.{one_longer, helped_longer, none_more, helped_bound, rested_bound}
 use Rattle.log_reclaim.proofs.tidying.rest_if_due.Goals as goal
@@ -104,7 +104,7 @@ returns-then-clock_time-eq-LAST-clause-cost g c = helped_bound _ c.now-word.new.
 
 pub returns-then-clock_time-eq-LAST-clause-trail : goal.returns-then-clock_time-eq-LAST-clause-trail
 returns-then-clock_time-eq-LAST-clause-trail g c =
-    helped_bound _ (length (view c.now-word.new.pass).trail) _ (one_longer _ _ _ (ap (λ (u : View). u.trail) c.now-word.ensures.view.2))
+    helped_bound _ (length (view c.now-word.new.pass).trail) _ (one_longer _ _ _ (ap (λ (u : Knowledge). u.trail) c.now-word.ensures.view.2))
     (helped_longer (config_of c.args.shared.now) (view c.now-word.new.pass) (view c.help.new.pass) c.now-word.result c.help.ensures.helps)
 
 pub returns-in-Done-clause-same : goal.returns-in-Done-clause-same
@@ -118,9 +118,9 @@ returns-in-Done-clause-cost g c = rested_bound _ c.now-word.new.steps c.help.new
 pub returns-in-Done-clause-trail : goal.returns-in-Done-clause-trail
 returns-in-Done-clause-trail g c =
     rested_bound _ (length (view c.now-word.new.pass).trail) (length (view c.help.new.pass).trail) _
-    (one_longer _ _ _ (ap (λ (u : View). u.trail) c.now-word.ensures.view.2))
+    (one_longer _ _ _ (ap (λ (u : Knowledge). u.trail) c.now-word.ensures.view.2))
     (helped_longer (config_of c.args.shared.now) (view c.now-word.new.pass) (view c.help.new.pass) c.now-word.result c.help.ensures.helps)
-    (one_longer _ _ _ (ap (λ (u : View). u.trail) c.in-Done.ensures.names.1.2))
+    (one_longer _ _ _ (ap (λ (u : Knowledge). u.trail) c.in-Done.ensures.names.1.2))
 
 pub returns-in_default-clause-same : goal.returns-in_default-clause-same
 returns-in_default-clause-same g c =
@@ -133,6 +133,6 @@ returns-in_default-clause-cost g c = rested_bound _ c.now-word.new.steps c.help.
 pub returns-in_default-clause-trail : goal.returns-in_default-clause-trail
 returns-in_default-clause-trail g c =
     rested_bound _ (length (view c.now-word.new.pass).trail) (length (view c.help.new.pass).trail) _
-    (one_longer _ _ _ (ap (λ (u : View). u.trail) c.now-word.ensures.view.2))
+    (one_longer _ _ _ (ap (λ (u : Knowledge). u.trail) c.now-word.ensures.view.2))
     (helped_longer (config_of c.args.shared.now) (view c.now-word.new.pass) (view c.help.new.pass) c.now-word.result c.help.ensures.helps)
-    (one_longer _ _ _ (ap (λ (u : View). u.trail) c.in_default.ensures.names.3))
+    (one_longer _ _ _ (ap (λ (u : Knowledge). u.trail) c.in_default.ensures.names.3))

@@ -9,7 +9,7 @@ use Rattle.log_reclaim.proofs.FirstFrees.{frees_shrinks, frees_again, grace_plai
 use Rattle.log_reclaim.proofs.Tidied.{left_from, left_begins, left_rests, left_shrinks, left_reclaims, left_alone, emptied, no_notes, none_held}
 use Rattle.log_reclaim.proofs.causes.FreshTimes.{left_fresh}
 use Rattle.log_reclaim.proofs.tidying.tidy.Given.{Over}
-use Rattle.seat_log.specs.mv_core.declared.view.View.{View}
+use Rattle.seat_log.specs.mv_core.declared.view.Knowledge.{Knowledge}
 use Rattle.seat_log.proofs.OwnSlots.{same_on, of_still}
 use Rattle.log_reclaim.proofs.Lengths.{one_longer, freed_longer, live_few, whole_bound}
 use Rattle.log_reclaim.proofs.tidying.tidy.Goals as goal
@@ -147,7 +147,7 @@ returns-clause-trail g c =
     let k = c.known-mark in
     let f = c.free_all-freed in
     whole_bound _ (length (view k.new.pass).trail) (length (view f.new.pass).trail) _ _ _ (length f.new.log.live) _ f.result
-    (one_longer _ _ _ (ap (λ (u : View). u.trail) k.ensures.view))
+    (one_longer _ _ _ (ap (λ (u : Knowledge). u.trail) k.ensures.view))
     (freed_longer (view k.new.pass) (view f.new.pass) c.args.log.now f.new.log f.ensures.frees.0 _ f.result f.ensures.frees.1)
     c.tidy_left-left.ensures.trail (frees_shrinks _ _ _ _ _ _ _ f.ensures.frees.1).few
     (live_few (config_of c.args.shared.now) (view c.args.pass.now) c.args.log.now c.requires.stands)

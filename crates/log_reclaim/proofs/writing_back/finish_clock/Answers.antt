@@ -2,7 +2,7 @@ use Rattle.seat_log.specs.mv_core.Passes.{view, config_of}
 use Rattle.log_reclaim.proofs.rests.Heard.{heard_cut, heard_uncut}
 use Rattle.log_reclaim.proofs.looks.CutBacks.{stands_lost, ends_uncut}
 use Rattle.std.proofs.Common.{refl, ap, length}
-use Rattle.seat_log.specs.mv_core.declared.view.View.{View}
+use Rattle.seat_log.specs.mv_core.declared.view.Knowledge.{Knowledge}
 use Rattle.seat_log.proofs.OwnSlots.{same_on, of_still}
 use Rattle.log_reclaim.proofs.Lengths.{one_longer, uncut_bound, cut_bound}
 use Rattle.log_reclaim.proofs.writing_back.finish_clock.Goals as goal
@@ -74,9 +74,9 @@ returns-in-Cut-clause-cost g c =
 pub returns-in-Cut-clause-trail : goal.returns-in-Cut-clause-trail
 returns-in-Cut-clause-trail g c =
     cut_bound _ (length (view c.back_cut.new.pass).trail) (length (view c.back_death-time.new.pass).trail) _
-    (one_longer _ _ _ (ap (λ (u : View). u.trail) c.in-Cut.ensures.ends.view))
-    (one_longer _ _ _ (ap (λ (u : View). u.trail) c.back_death-time.ensures.death.view))
-    (one_longer _ _ _ (ap (λ (u : View). u.trail) c.back_end.ensures.view))
+    (one_longer _ _ _ (ap (λ (u : Knowledge). u.trail) c.in-Cut.ensures.ends.view))
+    (one_longer _ _ _ (ap (λ (u : Knowledge). u.trail) c.back_death-time.ensures.death.view))
+    (one_longer _ _ _ (ap (λ (u : Knowledge). u.trail) c.back_end.ensures.view))
 
 pub returns-in-Above-clause-same : goal.returns-in-Above-clause-same
 returns-in-Above-clause-same g c = same_on c.args.pass.now c.back_cut.new.pass c.leave.new.pass c.back_cut.ensures.same c.leave.ensures.same
@@ -91,5 +91,5 @@ returns-in-Above-clause-cost g c = uncut_bound _ c.back_cut.new.steps _ c.back_c
 
 pub returns-in-Above-clause-trail : goal.returns-in-Above-clause-trail
 returns-in-Above-clause-trail g c =
-    uncut_bound _ (length (view c.back_cut.new.pass).trail) _ (one_longer _ _ _ (ap (λ (u : View). u.trail) c.in-Above.ensures.ends.view))
-    (one_longer _ _ _ (ap (λ (u : View). u.trail) c.leave.ensures.view))
+    uncut_bound _ (length (view c.back_cut.new.pass).trail) _ (one_longer _ _ _ (ap (λ (u : Knowledge). u.trail) c.in-Above.ensures.ends.view))
+    (one_longer _ _ _ (ap (λ (u : Knowledge). u.trail) c.leave.ensures.view))

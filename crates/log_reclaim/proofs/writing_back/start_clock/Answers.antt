@@ -5,7 +5,7 @@ use Rattle.seat_log.specs.reader_marks.Sections.{section_in}
 use Rattle.log_reclaim.proofs.rests.Heard.{heard_looked, heard_left}
 use Rattle.log_reclaim.proofs.looks.Starting.{same_note, place_is, link_there, may_look, object_within, open_still, started, not_started, ok_young}
 use Rattle.log_reclaim.proofs.looks.Starting.{top_young, some_live, place_from, place_small, seat_small}
-use Rattle.seat_log.specs.mv_core.declared.view.View.{View}
+use Rattle.seat_log.specs.mv_core.declared.view.Knowledge.{Knowledge}
 use Rattle.seat_log.specs.declared.version.Note.{Note}
 use Rattle.seat_log.proofs.OwnSlots.{same_none, same_on, of_still}
 use Rattle.seat_log.proofs.commit_clock_lemmas.Hearing.{hears_none}
@@ -134,7 +134,7 @@ returns-then-link-link_word-clause-young g c = λ e. ok_young _ e
 
 pub returns-then-link-link_word-clause-clock : goal.returns-then-link-link_word-clause-clock
 returns-then-link-link_word-clause-clock g c =
-    λ ne. c.enter_clock-clock.ensures.last ∙ sym (ap (λ (u : View). (config_of c.args.shared.now).base + length u.past.seen) c.load_head-link.ensures.view)
+    λ ne. c.enter_clock-clock.ensures.last ∙ sym (ap (λ (u : Knowledge). (config_of c.args.shared.now).base + length u.past.seen) c.load_head-link.ensures.view)
 
 pub returns-then-link-link_word-clause-cost : goal.returns-then-link-link_word-clause-cost
 returns-then-link-link_word-clause-cost g c = looked_bound _ c.enter_clock-clock.new.steps _ c.enter_clock-clock.ensures.cost c.load_head-link.ensures.step
@@ -144,7 +144,7 @@ returns-then-link-link_word-clause-trail g c =
     looked_bound _ (length (view c.enter_clock-clock.new.pass).trail) _
     (entered_longer (config_of c.args.shared.now) (view c.args.pass.now) (view c.enter_clock-clock.new.pass) c.enter_clock-clock.result.0
     c.enter_clock-clock.ensures.begins)
-    (one_longer _ _ _ (ap (λ (u : View). u.trail) c.load_head-link.ensures.view))
+    (one_longer _ _ _ (ap (λ (u : Knowledge). u.trail) c.load_head-link.ensures.view))
 
 pub returns-clause-same : goal.returns-clause-same
 returns-clause-same g c =
@@ -157,8 +157,8 @@ returns-clause-young g c = λ e. top_young _ _ c.not_on_top.ensures.gone c.not_o
 
 pub returns-clause-clock : goal.returns-clause-clock
 returns-clause-clock g c =
-    λ ne. c.enter_clock-clock.ensures.last ∙ sym (ap (λ (u : View). (config_of c.args.shared.now).base + length u.past.seen) c.leave.ensures.view
-    ∙ ap (λ (u : View). (config_of c.args.shared.now).base + length u.past.seen) c.load_head-link.ensures.view)
+    λ ne. c.enter_clock-clock.ensures.last ∙ sym (ap (λ (u : Knowledge). (config_of c.args.shared.now).base + length u.past.seen) c.leave.ensures.view
+    ∙ ap (λ (u : Knowledge). (config_of c.args.shared.now).base + length u.past.seen) c.load_head-link.ensures.view)
 
 pub returns-clause-cost : goal.returns-clause-cost
 returns-clause-cost g c =
@@ -169,8 +169,8 @@ returns-clause-trail g c =
     left_bound _ (length (view c.enter_clock-clock.new.pass).trail) (length (view c.load_head-link.new.pass).trail) _
     (entered_longer (config_of c.args.shared.now) (view c.args.pass.now) (view c.enter_clock-clock.new.pass) c.enter_clock-clock.result.0
     c.enter_clock-clock.ensures.begins)
-    (one_longer _ _ _ (ap (λ (u : View). u.trail) c.load_head-link.ensures.view))
-    (one_longer _ _ _ (ap (λ (u : View). u.trail) c.leave.ensures.view))
+    (one_longer _ _ _ (ap (λ (u : Knowledge). u.trail) c.load_head-link.ensures.view))
+    (one_longer _ _ _ (ap (λ (u : Knowledge). u.trail) c.leave.ensures.view))
 
 pub note-requires : goal.note-requires
 note-requires g c = some_live c.args.log.now c.args.position g.at c.requires.1.1.1.1.1.0

@@ -4,7 +4,7 @@ use Rattle.std.proofs.Common.{ap, ◌∙◌, subst, inl, inr, ⊎_elim, arith, m
 use Rattle.std.proofs.lemmas.List.{get_or-replicate}
 use Rattle.std.proofs.Math.Nat.{mod_self, lt-mul-div-succ}
 use Rattle.mv_core.proofs.Terms.{dite, ℕ_discrete, Entry, State, Writes, Config, Clock, Grace, Mark, Head, Master, First, Stamp, Prev, Super, Data}
-use Rattle.mv_core.proofs.Terms.{Memory, clock_seat_of, clock_slot_of, unset_of, Ring, Slot, Free, Built, Live, Freeing, Build, Version, Status}
+use Rattle.mv_core.proofs.Terms.{Memory, clock_seat_of, clock_slot_of, unset_of, Ring, Slot, Free, Built, Live, Freeing, Build, Version, WriteSetStatus}
 use Rattle.mv_core.proofs.Terms.{Committed, slot_at, index_of, put_slot, Lives, ViewParts, set_at}
 use Rattle.mv_core.proofs.FactTerms.{IsStored, HoldsBuild, HoldsSlot, SlotWords, stamp_of, IsDone, HelpedWords, next_in, Facts}
 use Rattle.mv_core.specs.LockSteps.{nothing_built, build_in}
@@ -34,7 +34,7 @@ build_holds first prev data_word (Live x st) b e holds = let none : None ≡ Som
 build_holds first prev data_word (Freeing p f) b e holds = let none : None ≡ Some b = e in absurd (cc)
 
 -- no version is where something may be built
-pub unlived : (slot : Slot) (b : Build) → build_in slot ≡ Some b → (x : Version) (st : Status) → slot ≢ Live x st
+pub unlived : (slot : Slot) (b : Build) → build_in slot ≡ Some b → (x : Version) (st : WriteSetStatus) → slot ≢ Live x st
 unlived slot b e x st is = let none : None ≡ Some b = sym (ap build_in is) ∙ e in absurd (cc)
 
 -- and nothing is being freed there
@@ -103,7 +103,7 @@ module _ {starts : State → Type 0} {allows : List ℕ → State → Writes →
         let low : index_of c (f.ring n).next < c.slots = mod-lt (f.ring n).next (omega arith) in
         omega arith
 
-    not_live : (x : Version) (st : Status) → slot_at (f.ring n) slot ≢ Live x st
+    not_live : (x : Version) (st : WriteSetStatus) → slot_at (f.ring n) slot ≢ Live x st
     not_live = unlived (slot_at (f.ring n) slot) b was
 
     steady : Matches Steady f.ring rings
@@ -113,16 +113,16 @@ module _ {starts : State → Type 0} {allows : List ℕ → State → Writes →
     on = match_weaker Steady LivesOn f.ring rings (λ x st y su a. a.0.0.0.0) steady
 
     -- a live version is in another slot
-    other_slot : (s j : ℕ) (x : Version) (st : Status) → Lives f.ring s j x st → ¬ ((s ≡ n) × (j ≡ slot))
+    other_slot : (s j : ℕ) (x : Version) (st : WriteSetStatus) → Lives f.ring s j x st → ¬ ((s ≡ n) × (j ≡ slot))
     other_slot s j x st lives e = not_live x st (subst (λ (i : ℕ). slot_at (f.ring n) i ≡ Live x st) e.1
         (subst (λ (t : ℕ). slot_at (f.ring t) j ≡ Live x st) e.0 lives))
 
-    same_stamp : (s j : ℕ) (x : Version) (st : Status) → Lives f.ring s j x st → stamp_of c stamp s x ≡ m (Stamp s (index_of c x.first))
+    same_stamp : (s j : ℕ) (x : Version) (st : WriteSetStatus) → Lives f.ring s j x st → stamp_of c stamp s x ≡ m (Stamp s (index_of c x.first))
     same_stamp s j x st lives =
         let first = k.write_sets.first s j x st lives in
         is.stamps s (index_of c x.first) (other_slot s (index_of c x.first) first.version first.status first.lives)
 
-    same_super : (s j : ℕ) (x : Version) (st : Status) → Lives f.ring s j x st → super s j ≡ m (Super s j)
+    same_super : (s j : ℕ) (x : Version) (st : WriteSetStatus) → Lives f.ring s j x st → super s j ≡ m (Super s j)
     same_super s j x st lives = is.supers s j (other_slot s j x st lives)
 
     -- what holds of the built slot, and of each other, holds of all

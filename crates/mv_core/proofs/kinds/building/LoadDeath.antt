@@ -3,7 +3,7 @@
 use Rattle.std.proofs.Common.{◌≡◌, ◌≢◌, ◌⊎◌, ℕ, ◌+◌, ◌-◌, ◌/◌, ◌<◌, ◌≤◌, false, List, ◌++◌}
 use Rattle.std.proofs.Common.{length, map, length-append, refl, sym, ap, ◌∙◌, subst, inl, inr, ⊎_elim, arith, Option, Some}
 use Rattle.mv_core.proofs.Terms.{Entry, State, Writes, Config, Clock, First, Prev, Super, Data, Memory, clock_time_of, Ring, Slot, Free, Built, Live}
-use Rattle.mv_core.proofs.Terms.{Freeing, Version, Status, Held, Aborted, Committed, CommitNote, View, Past, slot_at, is_held, held_count, Lives}
+use Rattle.mv_core.proofs.Terms.{Freeing, Version, WriteSetStatus, Held, Aborted, Committed, CommitNote, Knowledge, Past, slot_at, is_held, held_count, Lives}
 use Rattle.mv_core.proofs.Terms.{Names, ViewParts, parts_of}
 use Rattle.mv_core.proofs.FactTerms.{HoldsSlot, SlotWords, IsWord, IsBeforeDeath, WalkerBeforeDeath, Deaths, DeathSeen, DeathsSeen, DeathAfterWrite}
 use Rattle.mv_core.proofs.FactTerms.{SuccessorFlag, RunsOn, Facts, Loads, IsKept}
@@ -60,7 +60,7 @@ module _ {starts : State → Type 0} {allows : List ℕ → State → Writes →
     commit_time s j x note lives = let t = (commit_within c h f.ring k.write_sets s j x note lives).1 in let now = now_is in omega arith
 
     -- nor is the time of the round that a position is of
-    round_time : (s j : ℕ) (x : Version) (st : Status) → Lives f.ring s j x st → c.base + x.position / c.slots < d
+    round_time : (s j : ℕ) (x : Version) (st : WriteSetStatus) → Lives f.ring s j x st → c.base + x.position / c.slots < d
     round_time s j x st lives = let low = k.positions_and_grace.live s j x st lives in let known = (k.grace.views s).0 in omega arith
 
     -- an aborted version had its death before, or has the new one
@@ -164,7 +164,7 @@ module _ {starts : State → Type 0} {allows : List ℕ → State → Writes →
           (record { seat = names.seat; slot = names.slot; lives = a.1; is = names.is }) g.2) g.3.1;
     }
       where
-        before_either : (t : ℕ) (st su : Status) → t < d → IsBeforeDeath t st → (su ≡ st) ⊎ (su ≡ timed_status d st) → IsBeforeDeath t su
+        before_either : (t : ℕ) (st su : WriteSetStatus) → t < d → IsBeforeDeath t st → (su ≡ st) ⊎ (su ≡ timed_status d st) → IsBeforeDeath t su
         before_either t st su lt a b = ⊎_elim (λ e. subst (IsBeforeDeath t) (sym e) a) (λ e. subst (IsBeforeDeath t) (sym e) (before_timed t d st lt a)) b
 
         aborted_any : (s j : ℕ) (x : Version) (e : Option ℕ) → Lives rings s j x (Aborted e) → (o : Option ℕ) × Lives f.ring s j x (Aborted o)
@@ -249,7 +249,7 @@ held_timed d (Live x Held) = refl
 held_timed d (Live x (Aborted e)) = refl
 held_timed d (Live x (Committed note)) = refl
 
-module _ (starts : State → Type 0) (allows : List ℕ → State → Writes → Type 0) (c : Config) (start : State) (v : View) where
+module _ (starts : State → Type 0) (allows : List ℕ → State → Writes → Type 0) (c : Config) (start : State) (v : Knowledge) where
   pub death_loads : Loads starts allows c start v Clock (λ n w. ((((h : List Entry) × IsWhole c v n h × (w ≡ death_loaded c v n h)) × IsWord c n) × RunsOn v w)
       × IsKept v w)
   death_loads m h seats k is own begins wide =
@@ -257,23 +257,23 @@ module _ (starts : State → Type 0) (allows : List ℕ → State → Writes →
       let d : ℕ = clock_time_of clock + 1 in
       let n = v.number in
       let f : ViewParts = parts_of seats in
-      let w : View = death_loaded c v clock h in
+      let w : Knowledge = death_loaded c v clock h in
       let p : Past = record (seats n).past { seen = h } in
       let r : Ring = record (seats n).ring { slots = map (timed d) (seats n).ring.slots } in
       let seen = whole_seen k n in
       let held : held_count w.ring ≡ held_count v.ring = held_mapped (timed d) (held_timed d) v.ring in
       let front : (rest : List Entry) × (h ≡ v.past.seen ++ rest) =
-      subst (λ (u : View). (rest : List Entry) × (h ≡ u.past.seen ++ rest)) is (k.history.seats n).seen in (
+      subst (λ (u : Knowledge). (rest : List Entry) × (h ≡ u.past.seen ++ rest)) is (k.history.seats n).seen in (
         w,
         settle starts allows c start m h seats n v w is (record unchanged { past = Some p; ring = Some r }) (
-          ap (λ (u : View). record u.past { seen = h }) (sym is),
+          ap (λ (u : Knowledge). record u.past { seen = h }) (sym is),
           refl,
           refl,
           refl,
           refl,
           refl,
           refl,
-          ap (λ (u : View). record u.ring { slots = map (timed d) u.ring.slots }) (sym is),
+          ap (λ (u : Knowledge). record u.ring { slots = map (timed d) u.ring.slots }) (sym is),
           refl,
           refl,
           refl,

@@ -4,7 +4,7 @@ use Rattle.std.proofs.Common.{arith, mod-lt, slice_index_or, Option, Some, None}
 use Rattle.std.specs.Prelude.{slice_set}
 use Rattle.std.proofs.lemmas.List.{get_or-set_same, get_or-set_other, length-set}
 use Rattle.mv_core.proofs.Terms.{dite, ℕ_discrete, Entry, State, Writes, Config, Clock, Grace, Mark, Head, Master, First, Stamp, Prev, Super, Data}
-use Rattle.mv_core.proofs.Terms.{Memory, put, unset_of, Ring, Slot, Free, Built, Live, Freeing, Build, View, slot_at, index_of, put_slot, is_held}
+use Rattle.mv_core.proofs.Terms.{Memory, put, unset_of, Ring, Slot, Free, Built, Live, Freeing, Build, Knowledge, slot_at, index_of, put_slot, is_held}
 use Rattle.mv_core.proofs.Terms.{held_count, set_first, ViewParts, parts_of}
 use Rattle.mv_core.proofs.FactTerms.{IsStored, HoldsBuild, RunsOn, Facts, Stores, IsKept}
 use Rattle.mv_core.specs.LockSteps.{nothing_built, field_place, built_too, build_in, FitsField, MayStoreBuilt, built_stored}
@@ -172,16 +172,16 @@ module _ {starts : State → Type 0} {allows : List ℕ → State → Writes →
   field_stored first position (suc (suc (suc zero))) x next fits = super_stored x
   field_stored first position (suc (suc (suc (suc w)))) x next fits = data_stored w x fits
 
-module _ (starts : State → Type 0) (allows : List ℕ → State → Writes → Type 0) (c : Config) (start : State) (v : View) where
+module _ (starts : State → Type 0) (allows : List ℕ → State → Writes → Type 0) (c : Config) (start : State) (v : Knowledge) where
   pub built_stores : (position field x : ℕ) (b : Build) → MayStoreBuilt c v position field x b
       → Stores starts allows c start v (field_place v.number (index_of c position) field) x
       (λ w. (((w ≡ built_stored c v position field x b) × (position < 2 ^ 57)) × RunsOn v w) × IsKept v w)
   built_stores position field x b may m h seats k is own begins =
-      let w : View = built_stored c v position field x b in
+      let w : Knowledge = built_stored c v position field x b in
       let n = v.number in
       let slot = index_of c position in
       let f : ViewParts = parts_of seats in
-      let ring : (seats n).ring ≡ v.ring = ap (λ (u : View). u.ring) is in
+      let ring : (seats n).ring ≡ v.ring = ap (λ (u : Knowledge). u.ring) is in
       let was : build_in (slot_at (seats n).ring slot) ≡ Some b = ap (λ (r : Ring). build_in (slot_at r slot)) ring ∙ may.build in
       let next : position ≡ (seats n).ring.next = may.next ∙ ap (λ (r : Ring). r.next) (sym ring) in
       let within : slot < length v.ring.slots =

@@ -3,7 +3,7 @@ use Rattle.std.proofs.Common.{◌≡◌, ℕ, ◌-◌, ◌<◌, List, length, re
 use Rattle.std.specs.Prelude.{slice_set}
 use Rattle.std.proofs.lemmas.List.{get_or-set_same, get_or-set_other, length-set}
 use Rattle.mv_core.proofs.Terms.{dite, ℕ_discrete, Entry, State, Writes, Config, First, Stamp, Prev, Super, Data, Memory, put, Ring, Slot, Live}
-use Rattle.mv_core.proofs.Terms.{Version, Held, View, slot_at, index_of, put_slot, is_held, held_count, Lives, ViewParts, parts_of, set_at}
+use Rattle.mv_core.proofs.Terms.{Version, Held, Knowledge, slot_at, index_of, put_slot, is_held, held_count, Lives, ViewParts, parts_of, set_at}
 use Rattle.mv_core.proofs.FactTerms.{HoldsVersion, HoldsSlot, SlotWords, RunsOn, Facts, Stores, IsKept}
 use Rattle.mv_core.specs.LockSteps.{MayStoreData, data_stored}
 use Rattle.mv_core.proofs.frames.FrameLaw.{unchanged, changed, settle}
@@ -72,15 +72,15 @@ module _ {starts : State → Type 0} {allows : List ℕ → State → Writes →
       (λ s j p used apart. apart) (λ s j y st l. refl) steady in
       assumption (slot_words_after, in_place, steady_kept, k)
 
-module _ (starts : State → Type 0) (allows : List ℕ → State → Writes → Type 0) (c : Config) (start : State) (v : View) where
+module _ (starts : State → Type 0) (allows : List ℕ → State → Writes → Type 0) (c : Config) (start : State) (v : Knowledge) where
   pub data_stores : (position w value : ℕ) (x : Version) → MayStoreData c v position w x
       → Stores starts allows c start v (Data v.number (index_of c position) w) value (λ u. ((u ≡ data_stored c v position w value x) × RunsOn v u) × IsKept v u)
   data_stores position w value x may m h seats k is own begins =
-      let u : View = data_stored c v position w value x in
+      let u : Knowledge = data_stored c v position w value x in
       let n = v.number in
       let slot = index_of c position in
       let f : ViewParts = parts_of seats in
-      let ring : (seats n).ring ≡ v.ring = ap (λ (y : View). y.ring) is in
+      let ring : (seats n).ring ≡ v.ring = ap (λ (y : Knowledge). y.ring) is in
       let lives : slot_at (seats n).ring slot ≡ Live x Held = ap (λ (r : Ring). slot_at r slot) ring ∙ may.held in
       let held : held_count u.ring ≡ held_count v.ring =
       held_same v.ring slot (Live (with_word x w value) Held) (live_within v.ring slot x Held may.held) (sym (ap is_held may.held)) in (

@@ -1,10 +1,10 @@
 -- store MARK 0: the section ends, and what it named is finished.
 use Rattle.std.proofs.Common.{◌≡◌, ◌<◌, ◌≢◌, ℕ, ◌+◌, ◌-◌, ◌≤◌, true, false, cond, List, length, refl, sym, ap, ◌∙◌, subst, arith, Option, Some, None}
 use Rattle.mv_core.proofs.Terms.{dite, ℕ_discrete, State, Writes, Config, Clock, Grace, Mark, Master, Stamp, Super, link_of, Memory, put, Entry, Ring}
-use Rattle.mv_core.proofs.Terms.{Live, Version, Committed, CommitNote, View, Outside, Inside, Section, Named, Naming, LoadedClocks, Scan, Walk}
+use Rattle.mv_core.proofs.Terms.{Live, Version, Committed, CommitNote, Knowledge, Outside, Inside, OwnSection, Named, Naming, LoadedClocks, Scan, WalkStage}
 use Rattle.mv_core.proofs.Terms.{WriteBack, slot_at, HoldsNothing, Lives, Names, IsVersion, latest_at, IsEntry, IsNextWrite, section_of, time_of}
 use Rattle.mv_core.proofs.Terms.{no_clocks, ViewParts, parts_of, set_at}
-use Rattle.mv_core.specs.declared.view.Walk.TheVariants.{Nowhere}
+use Rattle.mv_core.specs.declared.view.WalkStage.TheVariants.{Nowhere}
 use Rattle.mv_core.proofs.FactTerms.{IsNaming, RunsOn, Facts, Stores, IsKept}
 use Rattle.mv_core.specs.EnterSteps.{IsFinished, MayClearMark, mark_cleared}
 use Rattle.mv_core.proofs.frames.FrameLaw.{set_at_else, set_at_all, unchanged, settle}
@@ -52,20 +52,20 @@ module _ {starts : State → Type 0} {allows : List ℕ → State → Writes →
             absurd (omega arith),
       )
 
-module _ (starts : State → Type 0) (allows : List ℕ → State → Writes → Type 0) (c : Config) (start : State) (v : View) (may : MayClearMark v) where
-  module _ (m : Memory) (h : List Entry) (seats : ℕ → View) (k : Facts starts allows c start m h (parts_of seats)) (is : seats v.number ≡ v) where
+module _ (starts : State → Type 0) (allows : List ℕ → State → Writes → Type 0) (c : Config) (start : State) (v : Knowledge) (may : MayClearMark v) where
+  module _ (m : Memory) (h : List Entry) (seats : ℕ → Knowledge) (k : Facts starts allows c start m h (parts_of seats)) (is : seats v.number ≡ v) where
     n : ℕ
     n = v.number
 
     -- the section of this seat is the one that it leaves
     inside_is : section_of (seats v.number).phase ≡ Some may.inside
-    inside_is = ap (λ (u : View). section_of u.phase) is ∙ ap section_of may.phase
+    inside_is = ap (λ (u : Knowledge). section_of u.phase) is ∙ ap section_of may.phase
 
-    finished : (i : Section) (naming : Naming) → section_of (seats v.number).phase ≡ Some i → i.mode ≡ Named naming → IsFinished v (Named naming)
+    finished : (i : OwnSection) (naming : Naming) → section_of (seats v.number).phase ≡ Some i → i.mode ≡ Named naming → IsFinished v (Named naming)
     finished i naming e mode =
         let one : Some may.inside ≡ Some i = sym inside_is ∙ e in
         let same : may.inside ≡ i = cc in
-        subst (IsFinished v) (ap (λ (s : Section). s.mode) same ∙ mode) may.finished
+        subst (IsFinished v) (ap (λ (s : OwnSection). s.mode) same ∙ mode) may.finished
 
     still_naming : (next : ℕ) (s j : ℕ) (x : Version) (note : CommitNote) → Lives (λ r. (seats r).ring) s j x (Committed note) → note.cut ≡ false
         → m (Super s j) ≡ 0 → IsNextWrite c.base h x.object note.time next
@@ -78,7 +78,7 @@ module _ (starts : State → Type 0) (allows : List ℕ → State → Writes →
         let own : section_of (seats v.number).phase ≡ Some by.inside = ap (λ (s : ℕ). section_of (seats s).phase) (sym e) ∙ by.in_section in
         let done = finished by.inside by.naming own by.mode in
         let here : slot_at v.ring open_flag.0 ≡ Live open_flag.1 (Committed open_flag.2) =
-        ap (λ (u : View). slot_at u.ring open_flag.0) (sym is) ∙ ap (λ (s : ℕ). slot_at (seats s).ring open_flag.0) (sym e) ∙ open_flag.3 in
+        ap (λ (u : Knowledge). slot_at u.ring open_flag.0) (sym is) ∙ ap (λ (s : ℕ). slot_at (seats s).ring open_flag.0) (sym e) ∙ open_flag.3 in
         absurd (open_flag.5 (done.1 open_flag.0 open_flag.1 open_flag.2 here open_flag.4)))
         (λ ne. record {
           seat = by.seat;
@@ -94,17 +94,17 @@ module _ (starts : State → Type 0) (allows : List ℕ → State → Writes →
   mark_clears m h seats k is own begins =
       let w = mark_cleared c v in
       let n = v.number in
-      let section : ℕ → Option Section = λ s. section_of (seats s).phase in
+      let section : ℕ → Option OwnSection = λ s. section_of (seats s).phase in
       let time : ℕ → Option ℕ = λ s. time_of (seats s).phase in
       let clocks : ℕ → LoadedClocks = λ s. (seats s).clocks in
-      let walk : ℕ → Walk = λ s. (seats s).walk in
+      let walk : ℕ → WalkStage = λ s. (seats s).walk in
       let rings : ℕ → Ring = λ s. (seats s).ring in
       let stamp : ℕ → ℕ → ℕ = λ t j. m (Stamp t j) in
       let super : ℕ → ℕ → ℕ = λ t j. m (Super t j) in
       let master : ℕ → ℕ → ℕ = λ o j. m (Master o j) in
       let back : ℕ → Option WriteBack = λ s. (seats s).back in
       let sets = k.write_sets in
-      let nothing : HoldsNothing (rings n) = subst (λ (u : View). HoldsNothing u.ring) (sym is) may.nothing in
+      let nothing : HoldsNothing (rings n) = subst (λ (u : Knowledge). HoldsNothing u.ring) (sym is) may.nothing in
       let done = finished m h seats k is in
       let helped_words = helped_after c (m Clock) stamp clocks n no_clocks (λ word has. none_in word has) k.helped_words in
       let marks = marks_after m n 0 (λ s. (seats s).phase) Outside k.marks refl in

@@ -4,10 +4,11 @@ use Rattle.std.proofs.Common.{◌≡◌, ◌<◌, ◌≢◌, ℕ, suc, ◌+◌, 
 use Rattle.std.proofs.Common.{None, false}
 use Rattle.std.specs.Prelude.{Contains, slice_index_or}
 use Rattle.mv_core.proofs.Terms.{Entry, State, Writes, Config, Clock, Grace, Mark, Master, Stamp, Super, clock_time_of, clock_slot_of, Ring, Slot, Free, Built}
-use Rattle.mv_core.proofs.Terms.{Live, Freeing, Version, Held, Aborted, Committed, View, Past, Outside, Marked, Inside, Section, Open, LoadedClocks, Scan}
+use Rattle.mv_core.proofs.Terms.{Live, Freeing, Version, Held, Aborted, Committed, Knowledge, Past, Outside, Marked, Inside, OwnSection, Open, LoadedClocks}
+use Rattle.mv_core.proofs.Terms.{Scan}
 use Rattle.mv_core.proofs.Terms.{CommitNote, is_held, held_count, HoldsNothing, Lives, is_by, last_own, IsNextWrite, section_of, time_in, low_of, IsUnnamed}
 use Rattle.mv_core.proofs.Terms.{ViewParts, parts_of, set_at}
-use Rattle.mv_core.specs.declared.view.Walk.TheVariants.{Nowhere}
+use Rattle.mv_core.specs.declared.view.WalkStage.TheVariants.{Nowhere}
 use Rattle.mv_core.proofs.FactTerms.{BeginsWith, IsNaming, MarkedAs, IsWord, WasClock, IsDone, IsTimed, IsBegun, Loads, IsKept}
 use Rattle.mv_core.specs.EnterSteps.{IsWhole, if_none, MayLoadTime, time_loaded}
 use Rattle.mv_core.proofs.frames.FrameLaw.{set_at_else, set_at_all, unchanged, settle}
@@ -31,7 +32,7 @@ none_counted (Live x (Committed n) ∷ xs) none = none_counted xs (λ k. none (s
 pub holds_none : (r : Ring) → HoldsNothing r → held_count r ≡ 0
 holds_none r none = none_counted r.slots none
 
-module _ (starts : State → Type 0) (allows : List ℕ → State → Writes → Type 0) (c : Config) (start : State) (v : View) (may : MayLoadTime v) where
+module _ (starts : State → Type 0) (allows : List ℕ → State → Writes → Type 0) (c : Config) (start : State) (v : Knowledge) (may : MayLoadTime v) where
   pub time_loads : Loads starts allows c start v Clock (λ n w. (((h : List Entry) × IsWhole c v n h × (w ≡ time_loaded c v n h)) × IsWord c n
       × HoldsNothing w.ring) × IsKept v w)
   time_loads m h seats old is own begins small =
@@ -40,11 +41,11 @@ module _ (starts : State → Type 0) (allows : List ℕ → State → Writes →
       let f : ViewParts = parts_of seats in
       let p : Past = record (seats n).past { seen = h } in
       let k = whole_seen old n in
-      let w : View = time_loaded c v clock h in
+      let w : Knowledge = time_loaded c v clock h in
       let low = may.0 in
-      let marked : (seats n).phase ≡ Marked low = ap (λ (u : View). u.phase) is ∙ may.1 in
+      let marked : (seats n).phase ≡ Marked low = ap (λ (u : Knowledge). u.phase) is ∙ may.1 in
       let no_section : section_of (seats n).phase ≡ None = ap section_of marked in
-      let inside : Section = record { low = low_of v.phase; word = clock; mode = Open } in
+      let inside : OwnSection = record { low = low_of v.phase; word = clock; mode = Open } in
       let now = clock_time_of clock in
       let x : LoadedClocks = record { loaded = clock ∷ []; helped = if_none clock; found = None } in
       let stamp : ℕ → ℕ → ℕ = λ t j. m (Stamp t j) in
@@ -54,9 +55,9 @@ module _ (starts : State → Type 0) (allows : List ℕ → State → Writes →
       let late : c.base + length h ≤ now = (let l = k.history.long in omega arith) in
       let nothing : HoldsNothing (seats n).ring = λ j y lives. let r = k.open_section.held n j y lives in let e : None ≡ Some r.0 =
       sym no_section ∙ r.1 in absurd (cc) in
-      let not_inside : (i : Section) → section_of (seats n).phase ≡ Some i → ⊥ = λ i e. let g : None ≡ Some i = sym no_section ∙ e in cc in
-      let same_inside : (i : Section) → Some inside ≡ Some i → inside ≡ i = λ i e. cc in
-      let unnamed : (i : Section) → Some inside ≡ Some i → IsUnnamed i.mode = λ i e. subst (λ (s : Section). IsUnnamed s.mode) (same_inside i e) tt in
+      let not_inside : (i : OwnSection) → section_of (seats n).phase ≡ Some i → ⊥ = λ i e. let g : None ≡ Some i = sym no_section ∙ e in cc in
+      let same_inside : (i : OwnSection) → Some inside ≡ Some i → inside ≡ i = λ i e. cc in
+      let unnamed : (i : OwnSection) → Some inside ≡ Some i → IsUnnamed i.mode = λ i e. subst (λ (s : OwnSection). IsUnnamed s.mode) (same_inside i e) tt in
       let this = this_word c clock k.loaded_words.clock_is in
       let helped_done : (word : ℕ) → Contains (if_none clock) word → IsDone clock stamp word =
       if_none_all (IsDone clock stamp) clock (λ none. inr (inl none)) in
@@ -65,10 +66,10 @@ module _ (starts : State → Type 0) (allows : List ℕ → State → Writes →
       (if_none_all (WasClock c clock) clock (λ _. this))
       (one_more_word (λ word. clock_slot_of word ≡ 8191 → Contains (if_none clock) word) [] clock (λ u has. none_in u has) (in_if_none clock))
       (inside_after c clock stamp f.clocks n f.section (Some inside)
-      (λ i e. subst (λ (s : Section). WasClock c clock s.word) (same_inside i e) this) k.loaded_words)
+      (λ i e. subst (λ (s : OwnSection). WasClock c clock s.word) (same_inside i e) this) k.loaded_words)
       k.loaded_words in
       let helped_all = helped_after c clock stamp f.clocks n x helped_done k.helped_words in
-      let front : BeginsWith h v.past.seen = subst (λ (u : View). BeginsWith h u.past.seen) is (old.history.seats n).seen in
+      let front : BeginsWith h v.past.seen = subst (λ (u : Knowledge). BeginsWith h u.past.seen) is (old.history.seats n).seen in
       let marks = set_at_all (λ s q. MarkedAs clock (m (Mark s)) q) f.phase n (Inside inside)
       (let r = subst (MarkedAs clock (m (Mark n))) marked (k.marks n) in
       let lows : inside.low ≡ low = ap low_of may.1 in
@@ -86,7 +87,7 @@ module _ (starts : State → Type 0) (allows : List ℕ → State → Writes →
       let unfinished = more.unfinished_more c h f.ring f.section n (Some inside) unnamed stamp (λ i naming e mode unset. not_inside i e)
       k.unstamped_is_unfinished in
       let opened = more.open_more c h f.ring f.section n (Some inside) unnamed nothing
-      (λ i e. subst (λ (s : Section). last_own c.base h n ≤ time_in s) (same_inside i e) (let l = last_that-le (is_by n) h in omega arith)) k.open_section in
+      (λ i e. subst (λ (s : OwnSection). last_own c.base h n ≤ time_in s) (same_inside i e) (let l = last_that-le (is_by n) h in omega arith)) k.open_section in
       let backs = more.back_more c start h f.ring sets f.time n (Some now) late f.walk f.section f.clocks (Some inside) x master f.grace f.back k.write_back in
       let scanning = set_at_all (λ s q. (running : Scan) → f.scan s ≡ Some running → q ≡ Outside) f.phase n (Inside inside)
       (λ running e. let g : Marked low ≡ Outside = sym marked ∙ k.phases_and_scan.scanning n running e in absurd (cc))
@@ -105,7 +106,7 @@ module _ (starts : State → Type 0) (allows : List ℕ → State → Writes →
         w,
         settle starts allows c start m h seats n v w is
             (record begun { clocks = Some x; walk = Some Nowhere; back = Some None })
-            (ap (λ (u : View). record u.past { seen = h }) (sym is), refl, refl, refl, refl, refl, refl, refl, refl, refl, refl)
+            (ap (λ (u : Knowledge). record u.past { seen = h }) (sym is), refl, refl, refl, refl, refl, refl, refl, refl, refl, refl)
             (let grace_more = more.grace_more c start h f.ring sets f.time n (Some now) late clock (m Grace) f.grace f.scan k.history.long k.grace in
             let freshness_more = more.freshness_more c start h f.ring sets f.time n (Some now) late nothing k.lock_freshness in
             let master_more = more.master_more c start h f.ring sets f.time n (Some now) late master k.present_master in
@@ -122,17 +123,18 @@ module _ (starts : State → Type 0) (allows : List ℕ → State → Writes →
             let cut_more = more.cut_more c start h f.ring sets f.time n (Some now) late k.cut_is_old in
             assumption (k)),
         (
-          ((h, (front, k.history.long, k.history.makers), refl), k.loaded_words.clock_is, subst (λ (u : View). HoldsNothing u.ring) is nothing),
+          ((h, (front, k.history.long, k.history.makers), refl), k.loaded_words.clock_is, subst (λ (u : Knowledge). HoldsNothing u.ring) is nothing),
           (refl, refl, refl, refl, refl, refl),
         ),
       )
 
 -- what a pass has at run time in the section that begins
-pub time_runs : (c : Config) (v w : View) (word time first : ℕ) (h : List Entry) → w ≡ time_loaded c v word h → HoldsNothing w.ring → time ≡ clock_time_of word
+pub time_runs : (c : Config) (v w : Knowledge) (word time first : ℕ) (h : List Entry) → w ≡ time_loaded c v word h → HoldsNothing w.ring
+    → time ≡ clock_time_of word
     → IsTimed time w × IsBegun first w
 time_runs c v w word time first h e none is =
-    let inside : Section = record { low = low_of v.phase; word = word; mode = Open } in
-    let phase : w.phase ≡ Inside inside = ap (λ (u : View). u.phase) e in (
+    let inside : OwnSection = record { low = low_of v.phase; word = word; mode = Open } in
+    let phase : w.phase ≡ Inside inside = ap (λ (u : Knowledge). u.phase) e in (
       λ i in_section. let f : Inside inside ≡ Inside i = sym phase ∙ in_section in let same : inside ≡ i = cc in is ∙ ap time_in same,
       λ i in_section mode some_held. let z = holds_none w.ring none in absurd (omega arith),
     )

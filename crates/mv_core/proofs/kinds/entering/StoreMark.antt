@@ -1,8 +1,8 @@
 -- store MARK. The form of a step that writes a word and changes parts of its view: what changes is named in `settle`, and of the facts below only those that
 -- read it aren't that of before.
 use Rattle.std.proofs.Common.{◌≡◌, ◌≢◌, ℕ, ◌+◌, ◌≤◌, cond, List, sym, refl, ap, ◌∙◌, subst, eq-eqb, ne_eqb, Some}
-use Rattle.mv_core.proofs.Terms.{dite, ℕ_discrete, State, Writes, Config, Clock, Mark, clock_time_of, Memory, put, View, Phase, Outside, Lowered}
-use Rattle.mv_core.proofs.Terms.{Marked, Inside, Section, Scan, section_of, time_of, set_at}
+use Rattle.mv_core.proofs.Terms.{dite, ℕ_discrete, State, Writes, Config, Clock, Mark, clock_time_of, Memory, put, Knowledge, Phase, Outside, Lowered}
+use Rattle.mv_core.proofs.Terms.{Marked, Inside, OwnSection, Scan, section_of, time_of, set_at}
 use Rattle.mv_core.proofs.FactTerms.{MarkedAs, Marks, RunsOn, Stores, IsKept}
 use Rattle.mv_core.specs.EnterSteps.{MayStoreMark, mark_stored}
 use Rattle.mv_core.proofs.frames.FrameLaw.{set_at_here, set_at_else, set_at_all, unchanged, settle}
@@ -23,16 +23,16 @@ marks_after m a n phase p old here =
     (λ s ne. subst (MarkedAs (m Clock) (m (Mark s))) (sym (set_at_else phase a p s ne)) (old s))
 
 -- a seat outside a section keeps what its pass has at run time
-pub runs_outside : (v w : View) → ((s : Section) → w.phase ≢ Inside s) → RunsOn v w
+pub runs_outside : (v w : Knowledge) → ((s : OwnSection) → w.phase ≢ Inside s) → RunsOn v w
 runs_outside v w out time first a b = ((λ s e. absurd (out s e)), (λ s e o l. absurd (out s e)))
 
-module _ (starts : State → Type 0) (allows : List ℕ → State → Writes → Type 0) (c : Config) (start : State) (v : View) where
+module _ (starts : State → Type 0) (allows : List ℕ → State → Writes → Type 0) (c : Config) (start : State) (v : Knowledge) where
   mark_stores_low : (low : ℕ) → MayStoreMark v low → Stores starts allows c start v (Mark v.number) (1 + low) (λ w. ((w ≡ mark_stored c v low) × RunsOn v w)
       × IsKept v w)
   mark_stores_low low may m h seats k is own begins =
       let w = mark_stored c v low in
       let n = v.number in
-      let phase_is : (seats n).phase ≡ Lowered low = ap (λ (u : View). u.phase) is ∙ may in
+      let phase_is : (seats n).phase ≡ Lowered low = ap (λ (u : Knowledge). u.phase) is ∙ may in
       let low_now : low ≤ clock_time_of (m Clock) = (subst (MarkedAs (m Clock) (m (Mark n))) phase_is (k.marks n)).1 in
       let marks = marks_after m n (1 + low) (λ s. (seats s).phase) (Marked low) k.marks (refl, low_now) in
       let scanning = set_at_all (λ s p. (running : Scan) → (seats s).scan ≡ Some running → p ≡ Outside) (λ t. (seats t).phase) n (Marked low)

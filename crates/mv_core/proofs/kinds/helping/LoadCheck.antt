@@ -4,8 +4,8 @@ use Rattle.std.proofs.Common.{subst, ⊎_elim, inl, inr, le_refl, eqb-true, eq-e
 use Rattle.std.proofs.lemmas.Bool.{eqb-false}
 use Rattle.std.specs.Prelude.{Contains}
 use Rattle.std.proofs.lemmas.List.Elements.{Contains-append_left, Contains-append_right, Contains-append_cases, Contains-push}
-use Rattle.mv_core.proofs.Terms.{Entry, State, Writes, Config, Clock, Stamp, clock_time_of, clock_seat_of, clock_slot_of, Ring, Live, Version, Status}
-use Rattle.mv_core.proofs.Terms.{Committed, View, Past, LoadedClocks, FoundStamp, index_of, Lives, names_none, ViewParts, parts_of}
+use Rattle.mv_core.proofs.Terms.{Entry, State, Writes, Config, Clock, Stamp, clock_time_of, clock_seat_of, clock_slot_of, Ring, Live, Version, WriteSetStatus}
+use Rattle.mv_core.proofs.Terms.{Committed, Knowledge, Past, LoadedClocks, FoundStamp, index_of, Lives, names_none, ViewParts, parts_of}
 use Rattle.mv_core.proofs.FactTerms.{Positions, IsWord, WasClock, IsDone, IsNamedCommit, IsFound, RunsOn, Loads, IsKept}
 use Rattle.mv_core.specs.EnterSteps.{IsWhole, if_none, checked_found, checked_helped, checked_clocks, check_loaded}
 use Rattle.mv_core.proofs.frames.FrameLaw.{unchanged, settle}
@@ -28,7 +28,7 @@ named_found c h stamp rings f positions is =
       gone = λ none. absurd (none is.version (Committed is.note) is.lives is.first_is);
     }
   where
-    same : (x : Version) (st : Status) → Lives rings (clock_seat_of f.word) (clock_slot_of f.word) x st → (is.version ≡ x) × (Committed is.note ≡ st)
+    same : (x : Version) (st : WriteSetStatus) → Lives rings (clock_seat_of f.word) (clock_slot_of f.word) x st → (is.version ≡ x) × (Committed is.note ≡ st)
     same x st lives = let e : Live is.version (Committed is.note) ≡ Live x st = sym is.lives ∙ lives in (cc, cc)
 
 -- a checked stamp was found for the clock's word
@@ -98,28 +98,28 @@ module _ (c : Config) (clock : ℕ) (stamp : ℕ → ℕ → ℕ) (h : List Entr
         named_found c h stamp rings g positions named;
   }
 
-module _ (starts : State → Type 0) (allows : List ℕ → State → Writes → Type 0) (c : Config) (start : State) (v : View) where
+module _ (starts : State → Type 0) (allows : List ℕ → State → Writes → Type 0) (c : Config) (start : State) (v : Knowledge) where
   pub check_loads : Loads starts allows c start v Clock
       (λ n w. ((((h : List Entry) × IsWhole c v n h × (w ≡ check_loaded c v n h)) × IsWord c n) × RunsOn v w) × IsKept v w)
   check_loads m h seats k is own begins wide =
       let clock = m Clock in
       let n = v.number in
       let f : ViewParts = parts_of seats in
-      let w : View = check_loaded c v clock h in
+      let w : Knowledge = check_loaded c v clock h in
       let p : Past = record (seats n).past { seen = h } in
       let x : LoadedClocks = checked_clocks (seats n).clocks clock in
       let seen = whole_seen k n in
       let clocks = clocks_facts seen n x
       (clocks_checked c clock (λ s i. m (Stamp s i)) h f.ring k.positions k.loaded_words.clock_is (f.clocks n) (clocks_was k n)) in
       let front : (rest : List Entry) × (h ≡ v.past.seen ++ rest) =
-      subst (λ (u : View). (rest : List Entry) × (h ≡ u.past.seen ++ rest)) is (k.history.seats n).seen in (
+      subst (λ (u : Knowledge). (rest : List Entry) × (h ≡ u.past.seen ++ rest)) is (k.history.seats n).seen in (
         w,
         settle starts allows c start m h seats n v w is (record unchanged { past = Some p; clocks = Some x }) (
-          ap (λ (u : View). record u.past { seen = h }) (sym is),
+          ap (λ (u : Knowledge). record u.past { seen = h }) (sym is),
           refl,
           refl,
           refl,
-          ap (λ (u : View). checked_clocks u.clocks clock) (sym is),
+          ap (λ (u : Knowledge). checked_clocks u.clocks clock) (sym is),
           refl,
           refl,
           refl,

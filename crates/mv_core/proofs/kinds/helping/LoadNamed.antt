@@ -1,15 +1,16 @@
 -- load STAMP named.
 use Rattle.std.proofs.Common.{◌≡◌, ◌≢◌, ◌⊎◌, ℕ, ◌<◌, ◌≤◌, Bool, true, false, cond, leb, List, sym, refl, ap, subst}
 use Rattle.std.proofs.Common.{⊎_elim, inl, inr, leb-true, leb-false, arith, Some}
-use Rattle.mv_core.proofs.Terms.{dite, ℕ_discrete, Entry, State, Writes, Config, Clock, Stamp, Memory, clock_time_of, clock_slot_of, unset_of, View}
+use Rattle.mv_core.proofs.Terms.{dite, ℕ_discrete, Entry, State, Writes, Config, Clock, Stamp, Memory, clock_time_of, clock_slot_of, unset_of, Knowledge}
 use Rattle.mv_core.proofs.Terms.{LoadedClocks, FoundStamp, parts_of, set_at}
 use Rattle.mv_core.proofs.FactTerms.{WasClock, IsDone, IsNamedCommit, RunsOn, Facts, Loads, IsKept}
 use Rattle.mv_core.specs.EnterSteps.{stamp_place, helped_too, MayLoadNamed, named_clocks, named_loaded}
 use Rattle.mv_core.proofs.frames.FrameLaw.{unchanged, settle}
 use Rattle.mv_core.proofs.frames.ClocksLoaded.{ClocksAre, helped_one, clock_small, named_stamp, clocks_was, clocks_facts}
 
-module _ {starts : State → Type 0} {allows : List ℕ → State → Writes → Type 0} {c : Config} {start : State} (v : View) (word : ℕ) (may : MayLoadNamed v word)
-    {m : Memory} {h : List Entry} (seats : ℕ → View) (k : Facts starts allows c start m h (parts_of seats)) (is : seats v.number ≡ v) where
+module _ {starts : State → Type 0} {allows : List ℕ → State → Writes → Type 0} {c : Config} {start : State} (v : Knowledge) (word : ℕ)
+    (may : MayLoadNamed v word)
+    {m : Memory} {h : List Entry} (seats : ℕ → Knowledge) (k : Facts starts allows c start m h (parts_of seats)) (is : seats v.number ≡ v) where
   abbrev stamp : ℕ → ℕ → ℕ
   stamp s i = m (Stamp s i)
 
@@ -17,7 +18,7 @@ module _ {starts : State → Type 0} {allows : List ℕ → State → Writes →
   found = m (stamp_place word)
 
   was_clocks : ClocksAre c (m Clock) stamp (λ s. (seats s).ring) v.clocks v.clocks
-  was_clocks = subst (λ (u : View). ClocksAre c (m Clock) stamp (λ s. (seats s).ring) u.clocks u.clocks) is (clocks_was k v.number)
+  was_clocks = subst (λ (u : Knowledge). ClocksAre c (m Clock) stamp (λ s. (seats s).ring) u.clocks u.clocks) is (clocks_was k v.number)
 
   was : WasClock c (m Clock) word
   was = was_clocks.loaded word may.loaded
@@ -60,13 +61,13 @@ module _ {starts : State → Type 0} {allows : List ℕ → State → Writes →
       (λ ne. inl ne) in
       helped_one c (m Clock) stamp (λ s. (seats s).ring) v.clocks word was_clocks was done
 
-  pub named_facts : (w : View) × Facts starts allows c start m h (parts_of (set_at seats v.number w))
+  pub named_facts : (w : Knowledge) × Facts starts allows c start m h (parts_of (set_at seats v.number w))
       × (((w ≡ named_loaded c v word found) × RunsOn v w) × IsKept v w)
   named_facts =
-      let w : View = named_loaded c v word found in
+      let w : Knowledge = named_loaded c v word found in
       let x : LoadedClocks = named_clocks v.clocks word found in
       let mine : ClocksAre c (m Clock) stamp (λ s. (seats s).ring) (seats v.number).clocks x =
-      subst (λ (u : View). ClocksAre c (m Clock) stamp (λ s. (seats s).ring) u.clocks x) (sym is) (clocks_after (leb 9223372036854775808 found) refl) in (
+      subst (λ (u : Knowledge). ClocksAre c (m Clock) stamp (λ s. (seats s).ring) u.clocks x) (sym is) (clocks_after (leb 9223372036854775808 found) refl) in (
         w,
         settle starts allows c start m h seats v.number v w is (record unchanged { clocks = Some x })
             (refl, refl, refl, refl, refl, refl, refl, refl, refl, refl, refl)
@@ -74,7 +75,7 @@ module _ {starts : State → Type 0} {allows : List ℕ → State → Writes →
         ((refl, (λ t f a b. (a, b))), (refl, refl, refl, refl, refl, refl)),
       )
 
-module _ (starts : State → Type 0) (allows : List ℕ → State → Writes → Type 0) (c : Config) (start : State) (v : View) where
+module _ (starts : State → Type 0) (allows : List ℕ → State → Writes → Type 0) (c : Config) (start : State) (v : Knowledge) where
   pub named_loads : (word : ℕ) → MayLoadNamed v word
       → Loads starts allows c start v (stamp_place word) (λ n w. ((w ≡ named_loaded c v word n) × RunsOn v w) × IsKept v w)
   named_loads word may m h seats k is own begins small = named_facts v word may seats k is

@@ -4,7 +4,7 @@ use Rattle.std.proofs.Common.{⊎_elim, inl, inr, arith, eqb-true}
 use Rattle.std.specs.List.{AllByRecursion, IsDistinct, list_any}
 use Rattle.std.proofs.lemmas.List.Elements.{All-contains}
 use Rattle.std.proofs.lemmas.Map.Steps.{length-le_from_distinct_below}
-use Rattle.mv_core.proofs.Terms.{some, get_elem?, Entry, State, Writes, maker_of, Config, Memory, View, Note, parts_of}
+use Rattle.mv_core.proofs.Terms.{some, get_elem?, Entry, State, Writes, maker_of, Config, Memory, Knowledge, JoinedSeat, parts_of}
 use Rattle.mv_core.proofs.FactTerms.{KnowsPast, Facts, IsSeated}
 use Rattle.mv_core.specs.Views.{HasSeat}
 use Rattle.mv_core.specs.SeatSteps.{AreJoined}
@@ -12,22 +12,22 @@ use Rattle.mv_core.proofs.kinds.naming.entry.NewEntry.{bool_is}
 use Rattle.mv_core.proofs.kinds.joining.Between.{at_contains}
 
 -- the numbers of the joined seats
-abbrev numbers : List Note → List ℕ
+abbrev numbers : List JoinedSeat → List ℕ
 numbers [] = []
 numbers (n ∷ ns) = n.number ∷ numbers ns
 
-length_numbers : (ns : List Note) → length (numbers ns) ≡ length ns
+length_numbers : (ns : List JoinedSeat) → length (numbers ns) ≡ length ns
 length_numbers [] = refl
 length_numbers (n ∷ ns) = ap suc (length_numbers ns)
 
 -- a number among them is that of a note
-record NotedAs (ns : List Note) (s : ℕ) : Type 0 where
+record NotedAs (ns : List JoinedSeat) (s : ℕ) : Type 0 where
   place : ℕ
-  note : Note
+  note : JoinedSeat
   there : get_elem? ns place ≡ some note
   number_is : note.number ≡ s
 
-noted_as : (ns : List Note) (s : ℕ) → list_any (eqb s) (numbers ns) ≡ true → NotedAs ns s
+noted_as : (ns : List JoinedSeat) (s : ℕ) → list_any (eqb s) (numbers ns) ≡ true → NotedAs ns s
 noted_as [] s e = absurd cc
 noted_as (n ∷ ns) s e =
     ⊎_elim
@@ -38,7 +38,7 @@ noted_as (n ∷ ns) s e =
     (bool_is (eqb s n.number))
 
 -- a number that isn't among them differs from each
-all_other : (ns : List Note) (s : ℕ) → list_any (eqb s) (numbers ns) ≡ false → AllByRecursion (λ y. eqb s y ≡ false) (numbers ns)
+all_other : (ns : List JoinedSeat) (s : ℕ) → list_any (eqb s) (numbers ns) ≡ false → AllByRecursion (λ y. eqb s y ≡ false) (numbers ns)
 all_other [] s e = tt
 all_other (n ∷ ns) s e =
     ⊎_elim
@@ -47,7 +47,7 @@ all_other (n ∷ ns) s e =
     (bool_is (eqb s n.number))
 
 -- where no number is twice they are distinct
-all_distinct : (ns : List Note) → ((a b : ℕ) (m n : Note) → get_elem? ns a ≡ some m → get_elem? ns b ≡ some n → m.number ≡ n.number → a ≡ b)
+all_distinct : (ns : List JoinedSeat) → ((a b : ℕ) (m n : JoinedSeat) → get_elem? ns a ≡ some m → get_elem? ns b ≡ some n → m.number ≡ n.number → a ≡ b)
     → IsDistinct eqb (numbers ns)
 unfolding IsDistinct
 all_distinct [] once = tt
@@ -62,7 +62,7 @@ all_distinct (n ∷ ns) once = (
   all_distinct ns (λ a b x y e f same. let one = once (suc a) (suc b) x y e f same in omega arith),
 )
 
-module _ (c : Config) (seats : ℕ → View) (v : View) (k : IsSeated c seats v) where
+module _ (c : Config) (seats : ℕ → Knowledge) (v : Knowledge) (k : IsSeated c seats v) where
   own_apart : list_any (eqb v.number) (numbers v.notes) ≡ false
   own_apart =
       ⊎_elim
@@ -105,14 +105,14 @@ module _ (c : Config) (seats : ℕ → View) (v : View) (k : IsSeated c seats v)
       (bool_is (list_any (eqb s) (numbers v.notes))))
       (bool_is (eqb s v.number))
 
-module _ {starts : State → Type 0} {allows : List ℕ → State → Writes → Type 0} {c : Config} {start : State} (v : View) {m : Memory} {h : List Entry}
-    (seats : ℕ → View) (k : Facts starts allows c start m h (parts_of seats)) (is : seats v.number ≡ v) (own : IsSeated c seats v) where
+module _ {starts : State → Type 0} {allows : List ℕ → State → Writes → Type 0} {c : Config} {start : State} (v : Knowledge) {m : Memory} {h : List Entry}
+    (seats : ℕ → Knowledge) (k : Facts starts allows c start m h (parts_of seats)) (is : seats v.number ≡ v) (own : IsSeated c seats v) where
   pub are_joined : AreJoined c v h
   are_joined = record {
     joined = λ n has.
         let r = own.noted n has in
         (r.0.range, r.1, subst (KnowsPast h n.number) r.0.past (k.history.seats n.number));
     once = own.once;
-    own = subst (λ (u : View). KnowsPast h v.number u.past) is (k.history.seats v.number);
+    own = subst (λ (u : Knowledge). KnowsPast h v.number u.past) is (k.history.seats v.number);
     all = λ full e has. has_all c seats v own full (maker_of e) (All-contains (λ x. maker_of x < c.seats) h e k.history.makers has);
   }

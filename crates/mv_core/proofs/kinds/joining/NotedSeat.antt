@@ -2,12 +2,13 @@
 use Rattle.std.proofs.Common.{◌≡◌, ℕ, ◌<◌, false, List, sym, refl, ◌∙◌, inl, inr, ⊎_elim, arith}
 use Rattle.std.specs.Prelude.{Contains}
 use Rattle.std.proofs.lemmas.List.Elements.{All-contains}
-use Rattle.mv_core.proofs.Terms.{dite, some, ℕ_discrete, get_elem?, State, Config, View, Note, set_at}
+use Rattle.mv_core.proofs.Terms.{dite, some, ℕ_discrete, get_elem?, State, Config, Knowledge, JoinedSeat, set_at}
 use Rattle.mv_core.proofs.FactTerms.{Seated}
 use Rattle.mv_core.proofs.frames.FrameLaw.{set_at_else, set_at_all}
 
 -- a seat of which there is a note has another view that is as the note says
-module _ (c : Config) (start : State) (vs : List View) (seats : ℕ → View) (k : Seated c start vs seats) (o : ℕ) (x : View) (id : ℕ) (v : View) (n : Note)
+module _ (c : Config) (start : State) (vs : List Knowledge) (seats : ℕ → Knowledge) (k : Seated c start vs seats) (o : ℕ) (x : Knowledge) (id : ℕ)
+    (v : Knowledge) (n : JoinedSeat)
     (at : get_elem? vs id ≡ some v) (unspent : v.spent ≡ false) (has : Contains v.notes n)
     (of_it : n.number ≡ o) (number : x.number ≡ (seats o).number) (begins : x.start ≡ (seats o).start) (from : x.base ≡ (seats o).base)
     (past : x.past ≡ (seats o).past) (ring : x.ring ≡ (seats o).ring) (phase : x.phase ≡ (seats o).phase) (scan : x.scan ≡ (seats o).scan) where
@@ -30,7 +31,7 @@ module _ (c : Config) (start : State) (vs : List View) (seats : ℕ → View) (k
     once = k.once;
     maker = λ j y at' un some_made.
         let r = k.maker j y at' un some_made in
-        let below : n.number < y.made = All-contains (λ (m : Note). m.number < y.made) v.notes n (k.made j id y v at' at un unspent some_made).1 has in
+        let below : n.number < y.made = All-contains (λ (m : JoinedSeat). m.number < y.made) v.notes n (k.made j id y v at' at un unspent some_made).1 has in
         (r.0, λ s le. set_at_else seats o x s (λ e. omega arith) ∙ r.1 s le);
     made = k.made;
     all = λ s. ⊎_elim inl

@@ -1,6 +1,6 @@
 -- That SUPER was stored below a commit is noted above it: the facts that read notes but not SUPER.
 use Rattle.std.proofs.Common.{◌≡◌, ◌⊎◌, ℕ, ◌<◌, true, List, length, refl, sym, ap, ◌∙◌, subst, inl, inr}
-use Rattle.mv_core.proofs.Terms.{Entry, State, Writes, Config, Memory, Ring, Slot, Built, Live, Build, Version, Status, Committed, CommitNote}
+use Rattle.mv_core.proofs.Terms.{Entry, State, Writes, Config, Memory, Ring, Slot, Built, Live, Build, Version, WriteSetStatus, Committed, CommitNote}
 use Rattle.mv_core.proofs.Terms.{slot_at, put_slot, Lives, ViewParts, set_at}
 use Rattle.mv_core.proofs.FactTerms.{IsHeldOrAborted, Facts}
 use Rattle.mv_core.proofs.logs.Links.{live_once, note_once}
@@ -70,7 +70,7 @@ module _ {starts : State → Type 0} {allows : List ℕ → State → Writes →
       (λ s i ne e. record { was = d; lives_was = e; time = refl; dead = refl; cut = refl; linked = inl refl; linked_here = λ a b. absurd (ne (a, b)) })
       s i
 
-  pub was_uncommitted : (s i : ℕ) (z : Version) (st : Status) → IsHeldOrAborted st → Lives rings s i z st → Lives f.ring s i z st
+  pub was_uncommitted : (s i : ℕ) (z : Version) (st : WriteSetStatus) → IsHeldOrAborted st → Lives rings s i z st → Lives f.ring s i z st
   was_uncommitted s i z st fate = all_slots (λ s i slot. slot ≡ Live z st → slot_at (f.ring s) i ≡ Live z st)
       (λ e. let one = live_once new x z (Committed note') st refl e in absurd (subst IsHeldOrAborted (sym one.1) fate)) (λ s i ne e. e) s i
 

@@ -3,7 +3,7 @@ use Rattle.std.proofs.Common.{sym, ◌≢◌, ◌-◌, ◌+◌, ◌<◌, length,
 use Rattle.std.specs.Prelude.{Contains, slice_get, slice_index_or}
 use Rattle.std.proofs.lemmas.Option.{slice_get-get_or}
 use Rattle.mv_core.proofs.Terms.{dite, ℕ_discrete, Entry, Rest, Change, State, Writes, maker_of, Config, Clock, Stamp, Memory, clock_time_of}
-use Rattle.mv_core.proofs.Terms.{clock_seat_of, clock_slot_of, Ring, View, Past, LoadedClocks, ViewParts, parts_of}
+use Rattle.mv_core.proofs.Terms.{clock_seat_of, clock_slot_of, Ring, Knowledge, Past, LoadedClocks, ViewParts, parts_of}
 use Rattle.std.proofs.lemmas.List.Elements.{Contains-append_left, Contains-append_right, Contains-append_cases}
 use Rattle.mv_core.proofs.FactTerms.{BeginsWith, NamedBy, IsWord, WasClock, IsDone, Facts}
 use Rattle.mv_core.specs.EnterSteps.{IsWhole, if_none}
@@ -43,8 +43,8 @@ module _ (c : Config) (clock : ℕ) (stamp : ℕ → ℕ → ℕ) (rings : ℕ �
     checked = is.checked;
   }
 
-module _ {starts : State → Type 0} {allows : List ℕ → State → Writes → Type 0} {c : Config} {start : State} (v : View) {m : Memory} {h : List Entry}
-    (seats : ℕ → View) (k : Facts starts allows c start m h (parts_of seats)) (is : seats v.number ≡ v) where
+module _ {starts : State → Type 0} {allows : List ℕ → State → Writes → Type 0} {c : Config} {start : State} (v : Knowledge) {m : Memory} {h : List Entry}
+    (seats : ℕ → Knowledge) (k : Facts starts allows c start m h (parts_of seats)) (is : seats v.number ≡ v) where
   abbrev f : ViewParts
   f = parts_of seats
 
@@ -62,13 +62,13 @@ module _ {starts : State → Type 0} {allows : List ℕ → State → Writes →
   -- this is the whole history, by the word found
   pub lost_whole : IsWhole c v (m Clock) h
   lost_whole =
-      let front : BeginsWith h v.past.seen = subst (λ (u : View). BeginsWith h u.past.seen) is (k.history.seats v.number).seen in
+      let front : BeginsWith h v.past.seen = subst (λ (u : Knowledge). BeginsWith h u.past.seen) is (k.history.seats v.number).seen in
       (front, k.history.long, k.history.makers)
 
   -- a word that was loaded and isn't in the clock any more was overtaken
   pub lost_overtaken : (word : ℕ) → Contains v.clocks.loaded word → m Clock ≢ word → IsOvertaken c word (m Clock) h
   lost_overtaken word loaded lost =
-      let was = k.loaded_words.loaded v.number word (subst (λ (u : View). Contains u.clocks.loaded word) (sym is) loaded) in
+      let was = k.loaded_words.loaded v.number word (subst (λ (u : Knowledge). Contains u.clocks.loaded word) (sym is) loaded) in
       let past = was.past in
       let later : clock_time_of word < clock_time_of (m Clock) =
       dite (ℕ_discrete (clock_time_of word) (clock_time_of (m Clock))) (λ e. absurd (lost (sym (was.same e)))) (λ ne. omega arith) in

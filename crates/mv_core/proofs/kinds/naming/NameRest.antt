@@ -3,7 +3,7 @@ use Rattle.std.proofs.Common.{◌≡◌, ℕ, ◌+◌, ◌<◌, if◌then◌else
 use Rattle.std.specs.Prelude.{Contains}
 use Rattle.mv_history.specs.declared.Commit.{Commit}
 use Rattle.mv_core.proofs.Terms.{Entry, Rest, Change, State, Writes, state_after, commits_of, rests_of, Config, Clock, Memory, put, clock_of}
-use Rattle.mv_core.proofs.Terms.{clock_time_of, clock_slot_of, View, Past, Section, HoldsNothing, section_of, time_of, ViewParts, parts_of, set_at}
+use Rattle.mv_core.proofs.Terms.{clock_time_of, clock_slot_of, Knowledge, Past, OwnSection, HoldsNothing, section_of, time_of, ViewParts, parts_of, set_at}
 use Rattle.mv_history.specs.Legal.{IsNext, IsLegal, IsAllowed}
 use Rattle.mv_history.proofs.Histories.{splits_push}
 use Rattle.mv_history.proofs.Writing.{commits_of-append}
@@ -38,9 +38,9 @@ rest_allowed allows start h s old front back d eq =
     (λ d r. absurd cc)
     front back (Change d) eq d refl
 
-module _ (starts : State → Type 0) (allows : List ℕ → State → Writes → Type 0) (c : Config) (start : State) (v : View) (word : ℕ)
+module _ (starts : State → Type 0) (allows : List ℕ → State → Writes → Type 0) (c : Config) (start : State) (v : Knowledge) (word : ℕ)
     (may : MayNameRest v word) where
-  module _ (m : Memory) (h : List Entry) (seats : ℕ → View) (k : Facts starts allows c start m h (parts_of seats)) (is : seats v.number ≡ v)
+  module _ (m : Memory) (h : List Entry) (seats : ℕ → Knowledge) (k : Facts starts allows c start m h (parts_of seats)) (is : seats v.number ≡ v)
       (own : v.number < c.seats) (won : m Clock ≡ word) where
     abbrev f : ViewParts
     f = parts_of seats
@@ -55,12 +55,12 @@ module _ (starts : State → Type 0) (allows : List ℕ → State → Writes →
     t = new_time c.base h e
 
     ring_is : (seats n).ring ≡ v.ring
-    ring_is = ap (λ (u : View). u.ring) is
+    ring_is = ap (λ (u : Knowledge). u.ring) is
 
     no_section : f.section n ≡ None
-    no_section = ap (λ (u : View). section_of u.phase) is ∙ ap section_of may.outside
+    no_section = ap (λ (u : Knowledge). section_of u.phase) is ∙ ap section_of may.outside
 
-    not_inside : {X : Type 0} → (i : Section) → f.section n ≡ Some i → X
+    not_inside : {X : Type 0} → (i : OwnSection) → f.section n ≡ Some i → X
     not_inside i at = let none : None ≡ Some i = sym no_section ∙ at in absurd cc
 
     nothing : HoldsNothing (f.ring n)
@@ -79,7 +79,7 @@ module _ (starts : State → Type 0) (allows : List ℕ → State → Writes →
     clock_slot = slot_back t n 8191 seat_small (omega arith)
 
     knows : KnowsPast h n v.past
-    knows = subst (λ (u : View). KnowsPast h n u.past) is (k.history.seats n)
+    knows = subst (λ (u : Knowledge). KnowsPast h n u.past) is (k.history.seats n)
 
     abbrev p : Past
     p = record (seats n).past { seen = h ++ e ∷ []; rests = v.past.rests + 1 }
@@ -116,7 +116,7 @@ module _ (starts : State → Type 0) (allows : List ℕ → State → Writes →
       others = λ s ne. refl;
       before = λ i d at mode. not_inside i at;
       word_same = λ i at. not_inside i at;
-      no_back = (k.phases_and_scan.outside n (ap (λ (u : View). time_of u.phase) is ∙ ap time_of may.outside)).1;
+      no_back = (k.phases_and_scan.outside n (ap (λ (u : Knowledge). time_of u.phase) is ∙ ap time_of may.outside)).1;
       named = λ j x lives. absurd (nothing j x lives);
       named_is = λ i d at mode. not_inside i at;
       named_time = λ i d at mode. not_inside i at;
@@ -127,7 +127,7 @@ module _ (starts : State → Type 0) (allows : List ℕ → State → Writes →
         (changed f n (record unchanged { past = Some p; ring = Some (committed_ring t (f.ring n)) }))
     facts =
         facts_after k n e
-        (subst (λ (w : ℕ). Contains (f.clocks n).helped w) (sym won) (subst (λ (u : View). Contains u.clocks.helped word) (sym is) may.helped))
+        (subst (λ (w : ℕ). Contains (f.clocks n).helped w) (sym won) (subst (λ (u : Knowledge). Contains u.clocks.helped word) (sym is) may.helped))
         makes new_set clock
         (λ j x lives. absurd (nothing j x lives)) f.section turns (set_at f.past n p) history
         (seen_more starts allows c start (m Clock) clock h f.past k.history n e refl p refl)
@@ -154,7 +154,7 @@ module _ (starts : State → Type 0) (allows : List ℕ → State → Writes →
         (subst (λ (x : ℕ). Facts starts allows c start (put m Clock x) (h ++ e ∷ [])
         (changed f n (record unchanged { past = Some p; ring = Some (committed_ring t (f.ring n)) }))) word_is facts)
 
-  abbrev told : ℕ → View → Type 0
+  abbrev told : ℕ → Knowledge → Type 0
   told n w = ((RestTold c v word n w × IsWord c n) × RunsOn v w) × IsKept v w
 
   swaps_to : Swaps starts allows c start v Clock word (rest_word v word) told
@@ -178,11 +178,11 @@ module _ (starts : State → Type 0) (allows : List ℕ → State → Writes →
       rest_lost c v (m Clock) h,
       settle starts allows c start m h seats v.number v (rest_lost c v (m Clock) h) is
           (record unchanged { past = Some (record (seats v.number).past { seen = h }); clocks = Some (lost_clocks (seats v.number).clocks (m Clock)) }) (
-            ap (λ (u : View). record u.past { seen = h }) (sym is),
+            ap (λ (u : Knowledge). record u.past { seen = h }) (sym is),
             refl,
             refl,
             refl,
-            ap (λ (u : View). lost_clocks u.clocks (m Clock)) (sym is),
+            ap (λ (u : Knowledge). lost_clocks u.clocks (m Clock)) (sym is),
             refl,
             refl,
             refl,

@@ -2,7 +2,7 @@
 use Rattle.std.proofs.Common.{◌≡◌, ◌≢◌, ℕ, ◌≤◌, ◌==◌, ◌&&◌, Bool, true, false, cond, List}
 use Rattle.std.proofs.Common.{refl, sym, ap, ap₂, ◌∙◌, subst, ⊎_elim, arith, eq-eqb, eqb-true, Some}
 use Rattle.mv_core.proofs.Terms.{dite, ℕ_discrete, Entry, Change, State, Writes, Config, First, Stamp, Prev, Super, Data, Memory, put, link_seat_of}
-use Rattle.mv_core.proofs.Terms.{Ring, Slot, Built, Live, Version, Committed, CommitNote, View, Inside, Section, Open, Named, Naming, slot_at}
+use Rattle.mv_core.proofs.Terms.{Ring, Slot, Built, Live, Version, Committed, CommitNote, Knowledge, Inside, OwnSection, Open, Named, Naming, slot_at}
 use Rattle.mv_core.proofs.Terms.{index_of, put_slot, Lives, Names, IsEntry, IsNextWrite, time_in, ViewParts, parts_of, set_at}
 use Rattle.mv_core.proofs.FactTerms.{IsStored, HoldsSlot, IsHeldOrAborted, stamp_of, Successors, NamedIs, SucceededHasSuper, SuccessorFlag, RunsOn}
 use Rattle.mv_core.proofs.FactTerms.{Facts, Stores, IsKept}
@@ -22,7 +22,7 @@ use Rattle.mv_core.proofs.frames.InPlace.{in_place_facts}
 
 module _ {starts : State → Type 0} {allows : List ℕ → State → Writes → Type 0} {c : Config} {start : State} {m : Memory} {h : List Entry} {f : ViewParts}
     (k : Facts starts allows c start m h f)
-    (n j : ℕ) (x : Version) (note : CommitNote) (lives : Lives f.ring n j x (Committed note)) (inside : Section) (naming : Naming)
+    (n j : ℕ) (x : Version) (note : CommitNote) (lives : Lives f.ring n j x (Committed note)) (inside : OwnSection) (naming : Naming)
     (there : f.section n ≡ Some inside) (timed : f.time n ≡ Some (time_in inside)) (mode : inside.mode ≡ Named naming)
     (made : naming.stamped ≡ true) (of_commit : note.time ≡ naming.time) (unlinked : note.linked ≡ false) where
   abbrev t : ℕ
@@ -211,11 +211,11 @@ module _ {starts : State → Type 0} {allows : List ℕ → State → Writes →
             w.linked),
       )
     where
-      same_naming : (s i : ℕ) (b : Section) (d : Naming) → f.section s ≡ Some b → b.mode ≡ Named d → s ≡ n → d ≡ naming
+      same_naming : (s i : ℕ) (b : OwnSection) (d : Naming) → f.section s ≡ Some b → b.mode ≡ Named d → s ≡ n → d ≡ naming
       same_naming s i b d at mode' here =
           let both : Some b ≡ Some inside = sym at ∙ ap f.section here ∙ there in
           let one : b ≡ inside = cc in
-          let named : Named d ≡ Named naming = sym mode' ∙ ap (λ (q : Section). q.mode) one ∙ mode in cc
+          let named : Named d ≡ Named naming = sym mode' ∙ ap (λ (q : OwnSection). q.mode) one ∙ mode in cc
 
       below_here : (s i : ℕ) (z v : Version) (d q : CommitNote) → Lives f.ring s i z (Committed d) → (a : Names f.ring z.previous v (Committed q)) → s ≡ n
           → i ≡ j → (a.seat ≡ s0) × (a.slot ≡ k0)
@@ -251,15 +251,15 @@ module _ {starts : State → Type 0} {allows : List ℕ → State → Writes →
       let same_stamp = same_stamp_facts k rings matches in
       assumption (slot_words, successors_after, flags_after, succeeded_after, in_place, same_death_kept, same_stamp, k)
 
-module _ (starts : State → Type 0) (allows : List ℕ → State → Writes → Type 0) (c : Config) (start : State) (v : View) (link time k : ℕ) (x : Version)
+module _ (starts : State → Type 0) (allows : List ℕ → State → Writes → Type 0) (c : Config) (start : State) (v : Knowledge) (link time k : ℕ) (x : Version)
     (note : CommitNote) (may : MayStoreSuper v link time k x note) where
   pub super_stores : Stores starts allows c start v (Super (link_seat_of link) (slot_named c link)) time (λ w. ((w ≡ super_stored c v link time k x note)
       × RunsOn v w) × IsKept v w)
   super_stores m h seats facts is own begins =
       let n = v.number in
-      let w : View = super_stored c v link time k x note in
+      let w : Knowledge = super_stored c v link time k x note in
       let phase = may.phase in
-      let here : Lives (λ s. (seats s).ring) n k x (Committed note) = ap (λ (u : View). slot_at u.ring k) is ∙ may.own in
+      let here : Lives (λ s. (seats s).ring) n k x (Committed note) = ap (λ (u : Knowledge). slot_at u.ring k) is ∙ may.own in
       let after = super_facts facts n k x note here may.inside may.naming
       (section_is seats v may.inside facts is phase)
       (time_is seats v may.inside facts is phase) may.mode may.stamped (may.of_commit ∙ sym may.time_is) may.not_yet in
@@ -276,7 +276,7 @@ module _ (starts : State → Type 0) (allows : List ℕ → State → Writes →
           refl,
           refl,
           refl,
-          ap (λ (u : View). put_slot u.ring k (Live x (Committed (record note { linked = true })))) (sym is),
+          ap (λ (u : Knowledge). put_slot u.ring k (Live x (Committed (record note { linked = true })))) (sym is),
           refl,
           refl,
           refl,
@@ -289,7 +289,7 @@ module _ (starts : State → Type 0) (allows : List ℕ → State → Writes →
             (λ t first a begun. (
               a,
               λ i at opens some. let one : Inside may.inside ≡ Inside i = sym phase ∙ at in let same : may.inside ≡ i = cc in
-                  let none : Named may.naming ≡ Open = sym may.mode ∙ ap (λ (q : Section). q.mode) same ∙ opens in absurd cc,
+                  let none : Named may.naming ≡ Open = sym may.mode ∙ ap (λ (q : OwnSection). q.mode) same ∙ opens in absurd cc,
             )),
           ),
           (refl, refl, refl, refl, refl, refl),

@@ -2,7 +2,7 @@
 use Rattle.std.proofs.Common.{◌≡◌, ℕ, ◌+◌, ◌<◌, List, refl, sym, subst, arith}
 use Rattle.std.proofs.lemmas.List.Elements.{All-nil}
 use Rattle.std.proofs.Math.Logic.{∥∥₁_map}
-use Rattle.mv_core.proofs.Terms.{Change, State, Writes, maker_of, Config, Checked, Held, Committed, View, new_view}
+use Rattle.mv_core.proofs.Terms.{Change, State, Writes, maker_of, Config, Checked, Held, Committed, Knowledge, new_view}
 use Rattle.mv_history.specs.Legal.{AreWords}
 use Rattle.mv_history.proofs.Histories.{no_split}
 use Rattle.mv_core.proofs.FactTerms.{Known, KnownInDomain, IsTimed, IsBegun, RunsOn, first_view}
@@ -36,7 +36,7 @@ module _ (starts : State → Type 0) (allows : List ℕ → State → Writes →
     deaths = λ j x st dead lives. none_lives c j x st lives;
   }
 
-  maker_known : (v : View) → Known starts allows v → Known starts allows (made_one c v)
+  maker_known : (v : Knowledge) → Known starts allows v → Known starts allows (made_one c v)
   maker_known v k =
       record {
         unspent = k.unspent;
@@ -70,12 +70,12 @@ module _ (starts : State → Type 0) (allows : List ℕ → State → Writes →
       }
 
   -- the pass of the maker is as it was
-  pub maker_stays : (v w : View) → w ≡ made_one c v
+  pub maker_stays : (v w : Knowledge) → w ≡ made_one c v
       → (w.number ≡ v.number) × RunsOn v w × (∥ Known starts allows v ∥₁ → ∥ Known starts allows w ∥₁)
       × ((d : Config) → KnownInDomain d v → KnownInDomain d w)
   maker_stays v w e =
       subst
-      (λ (u : View). (u.number ≡ v.number) × RunsOn v u × (∥ Known starts allows v ∥₁ → ∥ Known starts allows u ∥₁)
+      (λ (u : Knowledge). (u.number ≡ v.number) × RunsOn v u × (∥ Known starts allows v ∥₁ → ∥ Known starts allows u ∥₁)
       × ((d : Config) → KnownInDomain d v → KnownInDomain d u))
       (sym e) (refl, (λ time first a b. (a, b)), (λ k. ∥∥₁_map k (maker_known v)), λ d k. k)
 
@@ -84,10 +84,10 @@ module _ (starts : State → Type 0) (allows : List ℕ → State → Writes →
   new_in_domain start number made d = ((λ word has. none_in word has), (λ f e. absurd (cc)), All-nil (λ e. maker_of e < d.seats))
 
   -- and that of the seat made is of a seat outside a section
-  pub made_begins : (v w : View) → Checked c → w ≡ newly_made c v → ∥ Known starts allows v ∥₁
+  pub made_begins : (v w : Knowledge) → Checked c → w ≡ newly_made c v → ∥ Known starts allows v ∥₁
       → (w.number ≡ v.made) × IsTimed 0 w × IsBegun 0 w × ∥ Known starts allows w ∥₁ × ((d : Config) → KnownInDomain d w)
   made_begins v w k e known =
-      subst (λ (u : View). (u.number ≡ v.made) × IsTimed 0 u × IsBegun 0 u × ∥ Known starts allows u ∥₁ × ((d : Config) → KnownInDomain d u)) (sym e) (
+      subst (λ (u : Knowledge). (u.number ≡ v.made) × IsTimed 0 u × IsBegun 0 u × ∥ Known starts allows u ∥₁ × ((d : Config) → KnownInDomain d u)) (sym e) (
         refl,
         (λ s in_section. absurd (cc)),
         (λ s in_section. absurd (cc)),
@@ -95,8 +95,8 @@ module _ (starts : State → Type 0) (allows : List ℕ → State → Writes →
         new_in_domain v.start v.made 0,
       )
 
-  pub first_begins : (start : State) (w : View) → Checked c → AreWords start → starts start → w ≡ first_view c start
+  pub first_begins : (start : State) (w : Knowledge) → Checked c → AreWords start → starts start → w ≡ first_view c start
       → (w.number ≡ 0) × IsTimed 0 w × IsBegun 0 w × ∥ Known starts allows w ∥₁ × ((d : Config) → KnownInDomain d w)
   first_begins start w k wide lawful e =
-      subst (λ (u : View). (u.number ≡ 0) × IsTimed 0 u × IsBegun 0 u × ∥ Known starts allows u ∥₁ × ((d : Config) → KnownInDomain d u)) (sym e)
+      subst (λ (u : Knowledge). (u.number ≡ 0) × IsTimed 0 u × IsBegun 0 u × ∥ Known starts allows u ∥₁ × ((d : Config) → KnownInDomain d u)) (sym e)
       (refl, (λ s in_section. absurd (cc)), (λ s in_section. absurd (cc)), ∣ new_known start 0 1 k wide lawful ∣₁, new_in_domain start 0 1)

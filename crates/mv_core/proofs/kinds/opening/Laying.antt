@@ -1,12 +1,12 @@
 -- The words of a new domain while its opening state is laid.
 use Rattle.std.proofs.Common.{◌≡◌, ℕ, List, slice_index}
 use Rattle.std.proofs.Common.{refl, ◌∙◌, inl, ⊎_elim, arith}
-use Rattle.mv_core.proofs.Terms.{State, Config, Place, Clock, Grace, Mark, Head, Master, First, Stamp, Prev, Super, Data, Checked}
+use Rattle.mv_core.proofs.Terms.{State, Config, SharedWord, Clock, Grace, Mark, Head, Master, First, Stamp, Prev, Super, Data, Checked}
 use Rattle.mv_core.proofs.Terms.{Shows, IsPlace, cell_of}
 use Rattle.mv_core.specs.Start.{opening_memory, zero_state, IsBlank, Laid}
 
 module _ (c : Config) (start : State) (k : Checked c) where
-  blank_is_zero : (q : Place) → IsBlank q → opening_memory c (zero_state c.objects) q ≡ 0
+  blank_is_zero : (q : SharedWord) → IsBlank q → opening_memory c (zero_state c.objects) q ≡ 0
   blank_is_zero Clock b = absurd b
   blank_is_zero Grace b = absurd b
   blank_is_zero (Master p x) b = absurd b
@@ -32,7 +32,7 @@ module _ (c : Config) (start : State) (k : Checked c) where
   pub laid_last : (words : List ℕ) → Laid c start words c.objects 0 → Shows c words (opening_memory c start)
   laid_last words l = record { wide = l.wide; each = each }
     where
-      each : (p : Place) → IsPlace c p → slice_index words (cell_of c p) ≡ opening_memory c start p
+      each : (p : SharedWord) → IsPlace c p → slice_index words (cell_of c p) ≡ opening_memory c start p
       each Clock at = l.clock
       each Grace at = l.grace
       each (Master o w) at = l.master o w at.0 at.1 (inl at.0)

@@ -3,7 +3,8 @@ use Rattle.std.proofs.Common.{◌≡◌, ◌≢◌, ◌⊎◌, ℕ, zero, suc, �
 use Rattle.std.proofs.Common.{subst, inl, inr, ⊎_elim, le_refl, arith, ne_eqb, All, None}
 use Rattle.std.specs.Prelude.{Contains}
 use Rattle.std.proofs.lemmas.List.Elements.{All-nil, All-weaker, All-contains}
-use Rattle.mv_core.proofs.Terms.{dite, some, some-injective, some-ne-none, ℕ_discrete, get_elem?, Step, State, Writes, Config, Checked, Shows, View, Note}
+use Rattle.mv_core.proofs.Terms.{dite, some, some-injective, some-ne-none, ℕ_discrete, get_elem?, Step, State, Writes, Config, Checked, Shows, Knowledge}
+use Rattle.mv_core.proofs.Terms.{JoinedSeat}
 use Rattle.mv_core.proofs.Terms.{new_view, set_at}
 use Rattle.atomic_table.specs.Table.{Splits, opening}
 use Rattle.atomic_table.proofs.Lists.{at_set, set_here, at_last, at_longer}
@@ -36,12 +37,14 @@ end_or_before (x ∷ xs) a b (suc j) e = ⊎_elim inl (λ t. inr (ap suc t.0, t.
 
 module _ (c : Config) (start : State) where
   -- the first seat, which is there alone
-  first_there : 0 < c.seats → (id : ℕ) (v : View) → get_elem? (first_view c start ∷ []) id ≡ some v → (first_seats c start v.number ≡ v) × (v.number < c.seats)
+  first_there : 0 < c.seats → (id : ℕ) (v : Knowledge) → get_elem? (first_view c start ∷ []) id ≡ some v → (first_seats c start v.number ≡ v)
+      × (v.number < c.seats)
   first_there some_seats id v at =
-      subst (λ (u : View). (first_seats c start u.number ≡ u) × (u.number < c.seats)) (one id (first_view c start) v at).1 (refl, some_seats)
+      subst (λ (u : Knowledge). (first_seats c start u.number ≡ u) × (u.number < c.seats)) (one id (first_view c start) v at).1 (refl, some_seats)
 
-  no_notes : {X : Type 0} (id : ℕ) (v : View) (n : Note) → get_elem? (first_view c start ∷ []) id ≡ some v → Contains v.notes n → X
-  no_notes id v n at has = none_in n (subst (λ (ns : List Note). Contains ns n) (ap (λ (u : View). u.notes) (sym (one id (first_view c start) v at).1)) has)
+  no_notes : {X : Type 0} (id : ℕ) (v : Knowledge) (n : JoinedSeat) → get_elem? (first_view c start ∷ []) id ≡ some v → Contains v.notes n → X
+  no_notes id v n at has = none_in n (subst (λ (ns : List JoinedSeat). Contains ns n)
+      (ap (λ (u : Knowledge). u.notes) (sym (one id (first_view c start) v at).1)) has)
 
   pub first_seated : 0 < c.seats → Seated c start (first_view c start ∷ []) (first_seats c start)
   first_seated some_seats = record {
@@ -50,25 +53,27 @@ module _ (c : Config) (start : State) where
     apart = λ i j v w a b _ _ _. (one i (first_view c start) v a).0 ∙ sym (one j (first_view c start) w b).0;
     noted = λ id v n at _ has. no_notes id v n at has;
     gone = λ i j v w n a b _ _ has. no_notes i v n a has;
-    once = λ i j p q v w m n a b _ _ e. none_at p m (ap (λ (u : View). get_elem? u.notes p) (one i (first_view c start) v a).1 ∙ e);
+    once = λ i j p q v w m n a b _ _ e. none_at p m (ap (λ (u : Knowledge). get_elem? u.notes p) (one i (first_view c start) v a).1 ∙ e);
     maker = λ id v at _ _.
-        subst (λ (u : View). (u.number ≡ 0) × ((s : ℕ) → u.made ≤ s → first_seats c start s ≡ new_view c start s 0)) (one id (first_view c start) v at).1
+        subst (λ (u : Knowledge). (u.number ≡ 0) × ((s : ℕ) → u.made ≤ s → first_seats c start s ≡ new_view c start s 0)) (one id (first_view c start) v at).1
         (refl, λ s le. ap (λ b. new_view c start s (cond b 1 0)) (ne_eqb s 0 (λ e. omega arith)));
     all = λ s.
         dite (ℕ_discrete s 0)
         (λ e. inl (record { id = 0; holder = first_view c start; place = refl; unspent = refl; named = inl (sym e) }))
         (λ ne. inr (ap (λ b. new_view c start s (cond b 1 0)) (ne_eqb s 0 ne)));
     made = λ i j v w a b _ _ _.
-        subst (λ (u : View). (w.number < u.made) × All (λ n. n.number < u.made) w.notes) (one i (first_view c start) v a).1
-        (subst (λ (u : View). (u.number < 1) × All (λ n. n.number < 1) u.notes) (one j (first_view c start) w b).1 (omega arith, All-nil (λ n. n.number < 1)));
+        subst (λ (u : Knowledge). (w.number < u.made) × All (λ n. n.number < u.made) w.notes) (one i (first_view c start) v a).1
+        (subst (λ (u : Knowledge). (u.number < 1) × All (λ n. n.number < 1) u.notes)
+        (one j (first_view c start) w b).1 (omega arith, All-nil (λ n. n.number < 1)));
   }
 
-module _ (c : Config) (start : State) (vs : List View) (seats : ℕ → View) (id : ℕ) (v : View) (k : Seated c start vs seats) (at : get_elem? vs id ≡ some v)
+module _ (c : Config) (start : State) (vs : List Knowledge) (seats : ℕ → Knowledge) (id : ℕ) (v : Knowledge) (k : Seated c start vs seats)
+    (at : get_elem? vs id ≡ some v)
     (unspent : v.spent ≡ false) (maker : 0 < v.made) (room : v.made < c.seats) where
-  abbrev w : View
+  abbrev w : Knowledge
   w = made_one c v
 
-  abbrev x : View
+  abbrev x : Knowledge
   x = newly_made c v
 
   here : seats v.number ≡ v
@@ -80,23 +85,23 @@ module _ (c : Config) (start : State) (vs : List View) (seats : ℕ → View) (i
   -- the seat that is made was new already
   new_is : seats v.made ≡ x
   new_is = (k.maker id v at unspent maker).1 v.made (le_refl v.made)
-      ∙ ap (λ (s : State). new_view c s v.made 0) (sym (k.own v.number).1 ∙ ap (λ (u : View). u.start) here)
+      ∙ ap (λ (s : State). new_view c s v.made 0) (sym (k.own v.number).1 ∙ ap (λ (u : Knowledge). u.start) here)
 
   -- what is at a place of the list after: the maker, another as before, or the new one
-  data Which (j : ℕ) (y : View) : Type 0 where
+  data Which (j : ℕ) (y : Knowledge) : Type 0 where
     maker_is : j ≡ id → w ≡ y → Which j y
     other_is : j ≢ id → get_elem? vs j ≡ some y → Which j y
     new_one : j ≡ length (set vs id w) → x ≡ y → Which j y
 
-  which : (j : ℕ) (y : View) → get_elem? (set vs id w ++ x ∷ []) j ≡ some y → Which j y
+  which : (j : ℕ) (y : Knowledge) → get_elem? (set vs id w ++ x ∷ []) j ≡ some y → Which j y
   which j y e =
       ⊎_elim (λ p. ⊎_elim (λ t. maker_is t.0 t.1) (λ t. other_is t.0 t.1) (at_set vs id j w y p)) (λ t. new_one t.0 t.1) (end_or_before (set vs id w) x y j e)
 
   -- a view but the new one, as it was
-  abbrev Was : ℕ → View → Type 0
-  Was j y = (z : View) × (get_elem? vs j ≡ some z) × (y.number ≡ z.number) × (y.notes ≡ z.notes) × (y.spent ≡ z.spent)
+  abbrev Was : ℕ → Knowledge → Type 0
+  Was j y = (z : Knowledge) × (get_elem? vs j ≡ some z) × (y.number ≡ z.number) × (y.notes ≡ z.notes) × (y.spent ≡ z.spent)
 
-  was : (j : ℕ) (y : View) → get_elem? (set vs id w ++ x ∷ []) j ≡ some y → Was j y ⊎ ((j ≡ length (set vs id w)) × (x ≡ y))
+  was : (j : ℕ) (y : Knowledge) → get_elem? (set vs id w ++ x ∷ []) j ≡ some y → Was j y ⊎ ((j ≡ length (set vs id w)) × (x ≡ y))
   was j y e = go (which j y e)
     where
       go : Which j y → Was j y ⊎ ((j ≡ length (set vs id w)) × (x ≡ y))
@@ -104,127 +109,128 @@ module _ (c : Config) (start : State) (vs : List View) (seats : ℕ → View) (i
           inl (
             v,
             subst (λ (i : ℕ). get_elem? vs i ≡ some v) (sym i) at,
-            ap (λ (u : View). u.number) (sym e),
-            ap (λ (u : View). u.notes) (sym e),
-            ap (λ (u : View). u.spent) (sym e),
+            ap (λ (u : Knowledge). u.number) (sym e),
+            ap (λ (u : Knowledge). u.notes) (sym e),
+            ap (λ (u : Knowledge). u.spent) (sym e),
           )
       go (other_is i e) = inl (y, e, refl, refl, refl)
       go (new_one i e) = inr (i, e)
 
-  low : (j : ℕ) (z : View) → get_elem? vs j ≡ some z → z.spent ≡ false → (z.number < v.made) × All (λ n. n.number < v.made) z.notes
+  low : (j : ℕ) (z : Knowledge) → get_elem? vs j ≡ some z → z.spent ≡ false → (z.number < v.made) × All (λ n. n.number < v.made) z.notes
   low j z e un = k.made id j v z at e unspent un maker
 
-  there_after : (j : ℕ) (y : View) → get_elem? (set vs id w ++ x ∷ []) j ≡ some y → y.spent ≡ false
+  there_after : (j : ℕ) (y : Knowledge) → get_elem? (set vs id w ++ x ∷ []) j ≡ some y → y.spent ≡ false
       → (set_at seats v.number w y.number ≡ y) × (y.number < c.seats)
   there_after j y e un = go (which j y e)
     where
       go : Which j y → (set_at seats v.number w y.number ≡ y) × (y.number < c.seats)
       go (maker_is i e) =
-          subst (λ (u : View). (set_at seats v.number w u.number ≡ u) × (u.number < c.seats)) e (set_at_here seats v.number w, (k.there id v at unspent).1)
+          subst (λ (u : Knowledge). (set_at seats v.number w u.number ≡ u) × (u.number < c.seats)) e (set_at_here seats v.number w, (k.there id v at unspent).1)
       go (other_is i e) =
           let o = k.there j y e un in
           (set_at_else seats v.number w y.number (λ same. i (k.apart j id y v e at un unspent same)) ∙ o.0, o.1)
       go (new_one i e) =
-          subst (λ (u : View). (set_at seats v.number w u.number ≡ u) × (u.number < c.seats)) e
+          subst (λ (u : Knowledge). (set_at seats v.number w u.number ≡ u) × (u.number < c.seats)) e
           (set_at_else seats v.number w v.made (λ same. let z = is_zero in omega arith) ∙ new_is, room)
 
-  noted_after : (j : ℕ) (y : View) (n : Note) → get_elem? (set vs id w ++ x ∷ []) j ≡ some y → y.spent ≡ false → Contains y.notes n
+  noted_after : (j : ℕ) (y : Knowledge) (n : JoinedSeat) → get_elem? (set vs id w ++ x ∷ []) j ≡ some y → y.spent ≡ false → Contains y.notes n
       → IsNoted c (set_at seats v.number w) n
   noted_after j y n e un has =
       ⊎_elim
       (λ o.
-      let old_has : Contains o.0.notes n = subst (λ (ns : List Note). Contains ns n) o.3 has in
+      let old_has : Contains o.0.notes n = subst (λ (ns : List JoinedSeat). Contains ns n) o.3 has in
       let old_un : o.0.spent ≡ false = sym o.4 ∙ un in
       let same : set_at seats v.number w n.number ≡ seats n.number =
       set_at_else seats v.number w n.number (λ e. k.gone j id o.0 v n o.1 at old_un unspent old_has (sym e)) in
       let r = k.noted j o.0 n o.1 old_un old_has in record {
         range = r.range;
-        number = ap (λ (u : View). u.number) same ∙ r.number;
-        past = ap (λ (u : View). u.past) same ∙ r.past;
-        ring = ap (λ (u : View). u.ring) same ∙ r.ring;
-        outside = ap (λ (u : View). u.phase) same ∙ r.outside;
-        no_scan = ap (λ (u : View). u.scan) same ∙ r.no_scan;
+        number = ap (λ (u : Knowledge). u.number) same ∙ r.number;
+        past = ap (λ (u : Knowledge). u.past) same ∙ r.past;
+        ring = ap (λ (u : Knowledge). u.ring) same ∙ r.ring;
+        outside = ap (λ (u : Knowledge). u.phase) same ∙ r.outside;
+        no_scan = ap (λ (u : Knowledge). u.scan) same ∙ r.no_scan;
       })
-      (λ t. none_in n (subst (λ (u : View). Contains u.notes n) (sym t.1) has))
+      (λ t. none_in n (subst (λ (u : Knowledge). Contains u.notes n) (sym t.1) has))
       (was j y e)
 
-  apart_after : (i j : ℕ) (y z : View) → get_elem? (set vs id w ++ x ∷ []) i ≡ some y → get_elem? (set vs id w ++ x ∷ []) j ≡ some z → y.spent ≡ false
+  apart_after : (i j : ℕ) (y z : Knowledge) → get_elem? (set vs id w ++ x ∷ []) i ≡ some y → get_elem? (set vs id w ++ x ∷ []) j ≡ some z → y.spent ≡ false
       → z.spent ≡ false → y.number ≡ z.number → i ≡ j
   apart_after i j y z e f un vn same =
       ⊎_elim
       (λ a. let old_un : a.0.spent ≡ false = sym a.4 ∙ un in
       ⊎_elim
       (λ b. k.apart i j a.0 b.0 a.1 b.1 old_un (sym b.4 ∙ vn) (sym a.2 ∙ same ∙ b.2))
-      (λ t. let below = (low i a.0 a.1 old_un).0 in let is : a.0.number ≡ v.made = sym a.2 ∙ same ∙ ap (λ (u : View). u.number) (sym t.1) in
+      (λ t. let below = (low i a.0 a.1 old_un).0 in let is : a.0.number ≡ v.made = sym a.2 ∙ same ∙ ap (λ (u : Knowledge). u.number) (sym t.1) in
       absurd (omega arith))
       (was j z f))
       (λ s. ⊎_elim
-      (λ b. let below = (low j b.0 b.1 (sym b.4 ∙ vn)).0 in let is : b.0.number ≡ v.made = sym b.2 ∙ sym same ∙ ap (λ (u : View). u.number) (sym s.1) in
+      (λ b. let below = (low j b.0 b.1 (sym b.4 ∙ vn)).0 in let is : b.0.number ≡ v.made = sym b.2 ∙ sym same ∙ ap (λ (u : Knowledge). u.number) (sym s.1) in
       absurd (omega arith))
       (λ t. s.0 ∙ sym t.0)
       (was j z f))
       (was i y e)
 
-  gone_after : (i j : ℕ) (y z : View) (n : Note) → get_elem? (set vs id w ++ x ∷ []) i ≡ some y → get_elem? (set vs id w ++ x ∷ []) j ≡ some z
+  gone_after : (i j : ℕ) (y z : Knowledge) (n : JoinedSeat) → get_elem? (set vs id w ++ x ∷ []) i ≡ some y → get_elem? (set vs id w ++ x ∷ []) j ≡ some z
       → y.spent ≡ false → z.spent ≡ false → Contains y.notes n → z.number ≢ n.number
   gone_after i j y z n e f un vn has same =
       ⊎_elim
       (λ a.
       let old_un : a.0.spent ≡ false = sym a.4 ∙ un in
-      let old_has : Contains a.0.notes n = subst (λ (ns : List Note). Contains ns n) a.3 has in
+      let old_has : Contains a.0.notes n = subst (λ (ns : List JoinedSeat). Contains ns n) a.3 has in
       ⊎_elim
       (λ b. k.gone i j a.0 b.0 n a.1 b.1 old_un (sym b.4 ∙ vn) old_has (sym b.2 ∙ same))
       (λ t. let below : n.number < v.made = All-contains (λ n. n.number < v.made) a.0.notes n (low i a.0 a.1 old_un).1 old_has in
-      let is : v.made ≡ n.number = ap (λ (u : View). u.number) t.1 ∙ same in absurd (omega arith))
+      let is : v.made ≡ n.number = ap (λ (u : Knowledge). u.number) t.1 ∙ same in absurd (omega arith))
       (was j z f))
-      (λ s. none_in n (subst (λ (u : View). Contains u.notes n) (sym s.1) has))
+      (λ s. none_in n (subst (λ (u : Knowledge). Contains u.notes n) (sym s.1) has))
       (was i y e)
 
-  once_after : (i j p q : ℕ) (y z : View) (m n : Note) → get_elem? (set vs id w ++ x ∷ []) i ≡ some y → get_elem? (set vs id w ++ x ∷ []) j ≡ some z
+  once_after : (i j p q : ℕ) (y z : Knowledge) (m n : JoinedSeat) → get_elem? (set vs id w ++ x ∷ []) i ≡ some y → get_elem? (set vs id w ++ x ∷ []) j ≡ some z
       → y.spent ≡ false → z.spent ≡ false → get_elem? y.notes p ≡ some m → get_elem? z.notes q ≡ some n → m.number ≡ n.number → (i ≡ j) × (p ≡ q)
   once_after i j p q y z m n e f un vn g h same =
       ⊎_elim
       (λ a. ⊎_elim
-      (λ b. k.once i j p q a.0 b.0 m n a.1 b.1 (sym a.4 ∙ un) (sym b.4 ∙ vn) (subst (λ (ns : List Note). get_elem? ns p ≡ some m) a.3 g)
-      (subst (λ (ns : List Note). get_elem? ns q ≡ some n) b.3 h) same)
-      (λ t. none_at q n (ap (λ (u : View). get_elem? u.notes q) t.1 ∙ h))
+      (λ b. k.once i j p q a.0 b.0 m n a.1 b.1 (sym a.4 ∙ un) (sym b.4 ∙ vn) (subst (λ (ns : List JoinedSeat). get_elem? ns p ≡ some m) a.3 g)
+      (subst (λ (ns : List JoinedSeat). get_elem? ns q ≡ some n) b.3 h) same)
+      (λ t. none_at q n (ap (λ (u : Knowledge). get_elem? u.notes q) t.1 ∙ h))
       (was j z f))
-      (λ s. none_at p m (ap (λ (u : View). get_elem? u.notes p) s.1 ∙ g))
+      (λ s. none_at p m (ap (λ (u : Knowledge). get_elem? u.notes p) s.1 ∙ g))
       (was i y e)
 
   -- only the maker makes seats
-  only_maker : (j : ℕ) (y : View) → Which j y → y.spent ≡ false → 0 < y.made → w ≡ y
+  only_maker : (j : ℕ) (y : Knowledge) → Which j y → y.spent ≡ false → 0 < y.made → w ≡ y
   only_maker j y (maker_is i e) un some_made = e
   only_maker j y (other_is i e) un some_made = absurd (i (k.apart j id y v e at un unspent ((k.maker j y e un some_made).0 ∙ sym is_zero)))
-  only_maker j y (new_one i e) un some_made = let none : 0 ≡ y.made = ap (λ (u : View). u.made) e in absurd (omega arith)
+  only_maker j y (new_one i e) un some_made = let none : 0 ≡ y.made = ap (λ (u : Knowledge). u.made) e in absurd (omega arith)
 
   later : (s : ℕ) → v.made + 1 ≤ s → set_at seats v.number w s ≡ new_view c start s 0
   later s le = set_at_else seats v.number w s (λ e. let z = is_zero in omega arith) ∙ (k.maker id v at unspent maker).1 s (omega arith)
 
-  maker_after : (j : ℕ) (y : View) → get_elem? (set vs id w ++ x ∷ []) j ≡ some y → y.spent ≡ false → 0 < y.made
+  maker_after : (j : ℕ) (y : Knowledge) → get_elem? (set vs id w ++ x ∷ []) j ≡ some y → y.spent ≡ false → 0 < y.made
       → (y.number ≡ 0) × ((s : ℕ) → y.made ≤ s → set_at seats v.number w s ≡ new_view c start s 0)
   maker_after j y e un some_made =
-      subst (λ (u : View). (u.number ≡ 0) × ((s : ℕ) → u.made ≤ s → set_at seats v.number w s ≡ new_view c start s 0))
+      subst (λ (u : Knowledge). (u.number ≡ 0) × ((s : ℕ) → u.made ≤ s → set_at seats v.number w s ≡ new_view c start s 0))
       (only_maker j y (which j y e) un some_made) (is_zero, later)
 
-  made_after : (i j : ℕ) (y z : View) → get_elem? (set vs id w ++ x ∷ []) i ≡ some y → get_elem? (set vs id w ++ x ∷ []) j ≡ some z → y.spent ≡ false
+  made_after : (i j : ℕ) (y z : Knowledge) → get_elem? (set vs id w ++ x ∷ []) i ≡ some y → get_elem? (set vs id w ++ x ∷ []) j ≡ some z → y.spent ≡ false
       → z.spent ≡ false → 0 < y.made → (z.number < y.made) × All (λ n. n.number < y.made) z.notes
   made_after i j y z e f un vn some_made =
-      subst (λ (u : View). (z.number < u.made) × All (λ n. n.number < u.made) z.notes) (only_maker i y (which i y e) un some_made)
+      subst (λ (u : Knowledge). (z.number < u.made) × All (λ n. n.number < u.made) z.notes) (only_maker i y (which i y e) un some_made)
       (⊎_elim
       (λ b.
       let r = low j b.0 b.1 (sym b.4 ∙ vn) in (
         let l = r.0 in let same = b.2 in omega arith,
-        subst (λ (ns : List Note). All (λ n. n.number < v.made + 1) ns) (sym b.3)
-            (All-weaker (λ (n : Note). n.number < v.made) (λ n. n.number < v.made + 1) (λ n l. omega arith) b.0.notes r.1),
+        subst (λ (ns : List JoinedSeat). All (λ n. n.number < v.made + 1) ns) (sym b.3)
+            (All-weaker (λ (n : JoinedSeat). n.number < v.made) (λ n. n.number < v.made + 1) (λ n l. omega arith) b.0.notes r.1),
       ))
-      (λ t. subst (λ (u : View). (u.number < v.made + 1) × All (λ n. n.number < v.made + 1) u.notes) t.1 (omega arith, All-nil (λ n. n.number < v.made + 1)))
+      (λ t. subst (λ (u : Knowledge). (u.number < v.made + 1) × All (λ n. n.number < v.made + 1) u.notes) t.1
+      (omega arith, All-nil (λ n. n.number < v.made + 1)))
       (was j z f))
 
   own_after : (s : ℕ) → ((set_at seats v.number w s).number ≡ s) × ((set_at seats v.number w s).start ≡ start) × ((set_at seats v.number w s).base ≡ c.base)
   own_after =
       set_at_all (λ s u. (u.number ≡ s) × (u.start ≡ start) × (u.base ≡ c.base)) seats v.number w
-      (let o = k.own v.number in (refl, sym (ap (λ (u : View). u.start) here) ∙ o.1, sym (ap (λ (u : View). u.base) here) ∙ o.2))
+      (let o = k.own v.number in (refl, sym (ap (λ (u : Knowledge). u.start) here) ∙ o.1, sym (ap (λ (u : Knowledge). u.base) here) ∙ o.2))
       (λ s ne. k.own s)
 
   all_after : (s : ℕ) → IsThere (set vs id w ++ x ∷ []) s ⊎ (set_at seats v.number w s ≡ new_view c start s 0)
@@ -261,7 +267,7 @@ module _ (c : Config) (start : State) (vs : List View) (seats : ℕ → View) (i
   }
 
 -- one more seat keeps the rule
-pub seat_splits : (starts : State → Type 0) (allows : List ℕ → State → Writes → Type 0) (key : Opening) (id : ℕ) (v : View) → v.spent ≡ false → 0 < v.made
+pub seat_splits : (starts : State → Type 0) (allows : List ℕ → State → Writes → Type 0) (key : Opening) (id : ℕ) (v : Knowledge) → v.spent ≡ false → 0 < v.made
     → v.made < key.config.seats
     → Splits (Ruled starts allows key) id v (made_one key.config v) (newly_made key.config v)
 seat_splits starts allows key id v unspent maker room s r at =
@@ -276,12 +282,12 @@ seat_splits starts allows key id v unspent maker room s r at =
     let was_new : r.seats v.made ≡ x = new_is c start s.views r.seats id v r.seated at unspent maker room in
     let same : set_at (set_at r.seats n w) v.made x ≡ set_at r.seats n w =
     set_at_same (set_at r.seats n w) v.made x (set_at_else r.seats n w v.made (λ e. omega arith) ∙ was_new) in
-    let seat : IsSeat before n = record { made = r.active id v at unspent; unspent = ap (λ (u : View). u.spent) here_is ∙ unspent } in
+    let seat : IsSeat before n = record { made = r.active id v at unspent; unspent = ap (λ (u : Knowledge). u.spent) here_is ∙ unspent } in
     let after_is : record before { seats = set_at r.seats n w } ≡ seat_made c n before =
-    ap (λ (f : ℕ → View). record before { seats = f }) (sym same)
-    ∙ ap (λ (u : View). record before { seats = set_at (set_at r.seats n (made_one c u)) u.made (newly_made c u) }) (sym here_is) in
+    ap (λ (f : ℕ → Knowledge). record before { seats = f }) (sym same)
+    ∙ ap (λ (u : Knowledge). record before { seats = set_at (set_at r.seats n (made_one c u)) u.made (newly_made c u) }) (sym here_is) in
     let as_made : (set_at r.seats n w 0).made ≡ v.made + 1 =
-    ap (λ (i : ℕ). (set_at r.seats n w i).made) (sym first) ∙ ap (λ (u : View). u.made) (set_at_here r.seats n w) in
+    ap (λ (i : ℕ). (set_at r.seats n w i).made) (sym first) ∙ ap (λ (u : Knowledge). u.made) (set_at_here r.seats n w) in
     let seated = seated_made c start s.views r.seats id v r.seated at unspent maker room in
     let place : get_elem? (set s.views id w ++ x ∷ []) id ≡ some w =
     at_longer (set s.views id w) (x ∷ []) id w (set_here s.views id w (at_within s.views id v at)) in
@@ -294,7 +300,7 @@ seat_splits starts allows key id v unspent maker room s r at =
       seated = seated;
       facts = unread starts allows c start r.memory r.history r.seats n v w here_is (refl, refl, refl, refl, refl, refl, refl, refl, refl, refl, refl) r.facts;
       reached = moved before (record before { seats = set_at r.seats n w }) r.reached
-          (n, seat, makes first (subst (λ (u : View). u.made < c.seats) (sym here_is) room) after_is);
+          (n, seat, makes first (subst (λ (u : Knowledge). u.made < c.seats) (sym here_is) room) after_is);
       active = λ j y at' un. let lt = (seated.made id j w y place at' unspent un (omega arith)).0 in omega arith;
     }
 
@@ -312,7 +318,7 @@ opened starts allows key words k sized wide lawful shows = record {
   seated = first_seated key.config key.start.value.items k.seats.0;
   facts = starting_facts starts allows key.config key.start.value.items k sized wide lawful;
   reached = moves.opened;
-  active = λ id v at un. subst (λ (u : View). u.number < 1) (one id (first_view key.config key.start.value.items) v at).1 (omega arith);
+  active = λ id v at un. subst (λ (u : Knowledge). u.number < 1) (one id (first_view key.config key.start.value.items) v at).1 (omega arith);
 }
 
 push_same : {A : Type 0} (n : ℕ) (x : A) → replicate n x ++ x ∷ [] ≡ replicate (suc n) x
@@ -343,7 +349,7 @@ each_from_first P a l first later zero x at = subst (P 0) (some-injective a x at
 each_from_first P a l first later (suc k) x at = later k x at
 
 -- the same, where the domain's numbers are named otherwise and the seat's view is one that a pass knows
-pub seat_splits_in : (starts : State → Type 0) (allows : List ℕ → State → Writes → Type 0) (key : Opening) (id : ℕ) (v : View) (c : Config)
+pub seat_splits_in : (starts : State → Type 0) (allows : List ℕ → State → Writes → Type 0) (key : Opening) (id : ℕ) (v : Knowledge) (c : Config)
     → c ≡ key.config → ∥ Known starts allows v ∥₁ → (0 < v.made) × (v.made < key.config.seats)
     → Splits (Ruled starts allows key) id v (made_one c v) (newly_made c v)
 seat_splits_in starts allows key id v c is known range =

@@ -2,7 +2,7 @@
 use Rattle.std.proofs.Common.{◌≡◌, ℕ, zero, suc, ◌<◌, List, length, get_or, refl, ap, ◌∙◌, None}
 use Rattle.atomic_table.proofs.Lists.{at_index}
 use Rattle.mv_history.specs.declared.Protocol.{Ghosts}
-use Rattle.mv_core.proofs.Terms.{State, Config, View, Outside, view, config_of, start_of, IsOf, AreNew}
+use Rattle.mv_core.proofs.Terms.{State, Config, Knowledge, Outside, view, config_of, start_of, IsOf, AreNew}
 use Rattle.mv_core.specs.declared.shared.Shared.{Shared}
 use Rattle.mv_core.specs.declared.shared.Pass.{Pass}
 use Rattle.mv_core.specs.EnterSteps.{MayLoadLow}
@@ -27,4 +27,4 @@ module _ {P : Type 0} {g : Ghosts P} (s : Shared P) (ps : List (Pass P g)) (new 
   pub new_may_enter : MayLoadLow (view p)
   new_may_enter =
       let out = starts_outside (config_of s) (start_of s) k in
-      record { outside = ap (λ (v : View). v.phase) new_view_is ∙ out.0; no_scan = ap (λ (v : View). v.scan) new_view_is ∙ out.1 }
+      record { outside = ap (λ (v : Knowledge). v.phase) new_view_is ∙ out.0; no_scan = ap (λ (v : Knowledge). v.scan) new_view_is ∙ out.1 }

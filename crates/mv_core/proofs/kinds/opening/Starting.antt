@@ -7,7 +7,7 @@ use Rattle.std.proofs.lemmas.List.Elements.{All-nil}
 use Rattle.std.proofs.Math.Seq.{take-nil}
 use Rattle.std.proofs.Math.Nat.{add-mod_left, div-eq_of_lt, mod-eq_of_lt}
 use Rattle.mv_core.proofs.Terms.{Entry, Change, State, Writes, maker_of, state_after, Config, Checked, clock_of, clock_time_of, clock_slot_of, Ring}
-use Rattle.mv_core.proofs.Terms.{Slot, Free, Built, Live, Freeing, Build, Version, Status, Held, Aborted, Committed, View, slot_at, index_of}
+use Rattle.mv_core.proofs.Terms.{Slot, Free, Built, Live, Freeing, Build, Version, WriteSetStatus, Held, Aborted, Committed, Knowledge, slot_at, index_of}
 use Rattle.mv_core.proofs.Terms.{empty_ring, Names, NoneUncut, InUse, new_view, parts_of}
 use Rattle.mv_history.specs.Meaning.{words_at}
 use Rattle.mv_history.specs.Legal.{AreWords}
@@ -31,11 +31,11 @@ pub none_built : {X : Type 0} (c : Config) (k : ℕ) (b : Build) → slot_at (em
 none_built c k b built = let e : Free ≡ Built b = sym (all_free c k) ∙ built in absurd (cc)
 
 -- and none of them has a version
-pub none_lives : {X : Type 0} (c : Config) (k : ℕ) (x : Version) (st : Status) → slot_at (empty_ring c) k ≡ Live x st → X
+pub none_lives : {X : Type 0} (c : Config) (k : ℕ) (x : Version) (st : WriteSetStatus) → slot_at (empty_ring c) k ≡ Live x st → X
 none_lives c k x st lives = let e : Free ≡ Live x st = sym (all_free c k) ∙ lives in absurd (cc)
 
 -- the seats, of which only the first is made
-abbrev pub first_seats : Config → State → ℕ → View
+abbrev pub first_seats : Config → State → ℕ → Knowledge
 first_seats c start s = new_view c start s (cond (eqb s 0) 1 0)
 
 abbrev rings : Config → ℕ → Ring
@@ -52,7 +52,7 @@ module _ (starts : State → Type 0) (allows : List ℕ → State → Writes →
   names_none : {X : Type 0} → clock_slot_of clock ≢ 8191 → X
   names_none ne = absurd (ne (slot_back c.base 0 8191 (omega arith) (omega arith)))
 
-  no_live : {X : Type 0} (j : ℕ) (x : Version) (st : Status) → slot_at (empty_ring c) j ≡ Live x st → X
+  no_live : {X : Type 0} (j : ℕ) (x : Version) (st : WriteSetStatus) → slot_at (empty_ring c) j ≡ Live x st → X
   no_live j x st = none_lives c j x st
 
   no_built : {X : Type 0} (j : ℕ) (b : Build) → slot_at (empty_ring c) j ≡ Built b → X
@@ -61,7 +61,7 @@ module _ (starts : State → Type 0) (allows : List ℕ → State → Writes →
   no_freeing : {X : Type 0} (j p first : ℕ) → slot_at (empty_ring c) j ≡ Freeing p first → X
   no_freeing j p first e = let f : Free ≡ Freeing p first = sym (all_free c j) ∙ e in absurd (cc)
 
-  no_version : {X : Type 0} (link : ℕ) (x : Version) (st : Status) → Names (rings c) link x st → X
+  no_version : {X : Type 0} (link : ℕ) (x : Version) (st : WriteSetStatus) → Names (rings c) link x st → X
   no_version link x st names = no_live names.slot x st names.lives
 
   none_uncut : (o t : ℕ) → NoneUncut (rings c) o t

@@ -6,9 +6,10 @@ use Rattle.std.proofs.lemmas.Bool.{eqb-false}
 use Rattle.std.specs.Prelude.{slice_get, Contains}
 use Rattle.std.proofs.lemmas.Option.{slice_get_within}
 use Rattle.mv_core.proofs.Terms.{dite, dec_lt, ℕ_discrete, Entry, State, Writes, Config, Clock, Master, First, Prev, Super, Data, Memory, link_of, Ring, Slot}
-use Rattle.mv_core.proofs.Terms.{Live, Version, Status, Aborted, Committed, CommitNote, View, Past, Stand, Section, slot_at, index_of, put_slot, is_held}
+use Rattle.mv_core.proofs.Terms.{Live, Version, WriteSetStatus, Aborted, Committed, CommitNote, Knowledge, Past, Stand, OwnSection, slot_at, index_of, put_slot}
+use Rattle.mv_core.proofs.Terms.{is_held}
 use Rattle.mv_core.proofs.Terms.{held_count, Lives, Names, writes_to, IsEntry, IsNextWrite, NotAbove, ViewParts, parts_of, set_at, time_in}
-use Rattle.mv_core.specs.declared.view.Walk.TheVariants.{At}
+use Rattle.mv_core.specs.declared.view.WalkStage.TheVariants.{At}
 use Rattle.mv_core.proofs.FactTerms.{BeginsWith, HoldsSlot, SlotWords, IsRightFor, MayStandAt, StandsRight, IsBeforeDeath, WalkerBeforeDeath, Deaths}
 use Rattle.mv_core.proofs.FactTerms.{DeathAfterWrite, SuccessorFlag, RunsOn, Facts, Loads, IsKept}
 use Rattle.mv_core.specs.ReclaimSteps.{super_note, MayLoadSuper, super_loaded, SeesSuper, FoundEmpty}
@@ -125,7 +126,7 @@ module _ {starts : State → Type 0} {allows : List ℕ → State → Writes →
       right
 
   -- the version that a link names is as before, or it is this one
-  names_was : (link : ℕ) (y : Version) (su : Status) → (names : Names rings link y su)
+  names_was : (link : ℕ) (y : Version) (su : WriteSetStatus) → (names : Names rings link y su)
       → (Names f.ring link y su) ⊎ ((su ≡ Committed new) × Names f.ring link x (Committed note))
   names_was link y su names = all_slots (λ t i z. z ≡ Live y su → t ≡ names.seat → i ≡ names.slot → (Names f.ring link y su) ⊎
       ((su ≡ Committed new) × Names f.ring link x (Committed note)))
@@ -287,7 +288,7 @@ module _ {starts : State → Type 0} {allows : List ℕ → State → Writes →
       (λ ne. let next = next_is ne in (entry-within c.base h x.object found next.entry next.there).1)
 
   -- where none is found, no section is at or after a later write of the object
-  pub none_written : ((t : ℕ) (inside : Section) → f.section t ≡ Some inside → f.time t ≡ Some (time_in inside)) → note.cut ≡ false → found ≡ 0
+  pub none_written : ((t : ℕ) (inside : OwnSection) → f.section t ≡ Some inside → f.time t ≡ Some (time_in inside)) → note.cut ≡ false → found ≡ 0
       → (t : ℕ) (e : Entry) → IsEntry c.base h t e → writes_to x.object e ≡ true → note.time < t → f.grace n < t
   none_written timed uncut none t e there writes late =
       let low = (commit_within c h f.ring k.write_sets n slot x note lives).0 in
@@ -311,7 +312,7 @@ entry_of_history base h seen t e front is =
     let lt = slice_get_within seen (t - (base + 1)) e is.1 in
     (low, ap (λ l. slice_get l (t - (base + 1))) front.1 ∙ slice_get-front seen front.0 (t - (base + 1)) lt ∙ is.1)
 
-module _ (starts : State → Type 0) (allows : List ℕ → State → Writes → Type 0) (c : Config) (start : State) (v : View) (position : ℕ) (x : Version)
+module _ (starts : State → Type 0) (allows : List ℕ → State → Writes → Type 0) (c : Config) (start : State) (v : Knowledge) (position : ℕ) (x : Version)
     (note : CommitNote) where
   pub super_loads : MayLoadSuper c v position x note
       → Loads starts allows c start v (Super v.number (index_of c position)) (λ found w. (((w ≡ super_loaded c v position x note found w.past.seen)
@@ -321,29 +322,29 @@ module _ (starts : State → Type 0) (allows : List ℕ → State → Writes →
       let slot = index_of c position in
       let found = m (Super n slot) in
       let f : ViewParts = parts_of seats in
-      let ring : (seats n).ring ≡ v.ring = ap (λ (y : View). y.ring) is in
+      let ring : (seats n).ring ≡ v.ring = ap (λ (y : Knowledge). y.ring) is in
       let lives : slot_at (seats n).ring slot ≡ Live x (Committed note) = ap (λ (r : Ring). slot_at r slot) ring ∙ may.own in
       let in_time = found_within k n slot x note lives may.no_death in
       let last = k.history.in_time in
-      let front : BeginsWith h v.past.seen = subst (λ (u : View). BeginsWith h u.past.seen) is (k.history.seats n).seen in
+      let front : BeginsWith h v.past.seen = subst (λ (u : Knowledge). BeginsWith h u.past.seen) is (k.history.seats n).seen in
       let to = seen_to c v h found front (λ low. in_time) in
       let seen = to.0 in
-      let w : View = super_loaded c v position x note found seen in
+      let w : Knowledge = super_loaded c v position x note found seen in
       let p : Past = record v.past { seen = seen } in
       let held : held_count w.ring ≡ held_count v.ring =
       held_same v.ring slot (Live x (Committed (super_note note found))) (live_within v.ring slot x (Committed note) may.own) (sym (ap is_held may.own)) in
       let more : Facts starts allows c start m h (changed f n (record unchanged { past = Some p })) =
       more_seen starts allows c start m h f k n p (sees_more starts allows c start (m Clock) h f.past n v.past
-      (ap (λ (u : View). u.past) is) k.history seen to.1 to.2.more) (seen_by_all seats k v is seen to.2.more)
-      (subst (λ (u : View). BeginsWith seen u.past.seen) (sym is) to.2.more) in
+      (ap (λ (u : Knowledge). u.past) is) k.history seen to.1 to.2.more) (seen_by_all seats k v is seen to.2.more)
+      (subst (λ (u : Knowledge). BeginsWith seen u.past.seen) (sym is) to.2.more) in
       let below : found ≡ 0 → (t : ℕ) (e : Entry) → IsEntry c.base v.past.seen t e → writes_to x.object e ≡ true → note.time < t → v.grace < t =
       λ none t e there writes late.
-      subst (λ (u : View). u.grace < t) is (none_written k n slot x note lives may.no_death
+      subst (λ (u : Knowledge). u.grace < t) is (none_written k n slot x note lives may.no_death
       (λ s inside in_section. time_of_section (seats s).phase inside in_section) may.uncut none t e
       (entry_of_history c.base h v.past.seen t e front there) writes late) in
       let sees : SeesSuper c v x note found seen = record { more = to.2.more; time = to.2.time (omega arith); least = to.2.least; no_write = below } in
       let some : FoundEmpty v x.object note.time → found ≢ 0 =
-      λ e. (k.succeeded_has_super n e.0 (subst (λ (u : View). Contains u.empty e.0) (sym is) e.1)).1 slot x note lives (sym e.2) e.3 may.uncut in (
+      λ e. (k.succeeded_has_super n e.0 (subst (λ (u : Knowledge). Contains u.empty e.0) (sym is) e.1)).1 slot x note lives (sym e.2) e.3 may.uncut in (
         w,
         settle starts allows c start m h seats n v w is
             (record unchanged { past = Some p; ring = Some (put_slot (seats n).ring slot (Live x (Committed (super_note note found)))) }) (

@@ -1,7 +1,7 @@
 -- load CLOCK (scan) and load MARK: a scan begins with the clock's time, and each mark lowers its least time to one that the section of that seat isn't below.
 use Rattle.std.proofs.Common.{◌≡◌, ◌≢◌, ℕ, ◌+◌, ◌-◌, ◌==◌, ◌≤◌, ◌<◌, ◌++◌, min, Bool, true, false, cond, List}
 use Rattle.std.proofs.Common.{refl, sym, ap, ◌∙◌, subst, le_refl, eqb-true, arith, Some}
-use Rattle.mv_core.proofs.Terms.{Entry, State, Writes, Config, Clock, Mark, clock_time_of, View, Past, Phase, Outside, Lowered, Marked}
+use Rattle.mv_core.proofs.Terms.{Entry, State, Writes, Config, Clock, Mark, clock_time_of, Knowledge, Past, Phase, Outside, Lowered, Marked}
 use Rattle.mv_core.proofs.Terms.{Inside, Scan, NotAbove, ViewParts, parts_of, time_of, time_in}
 use Rattle.mv_core.proofs.FactTerms.{ScanIs, MarkedAs, IsWord, RunsOn, Loads, IsKept}
 use Rattle.mv_core.specs.EnterSteps.{IsWhole}
@@ -54,7 +54,7 @@ up_to_mark clock least mark seat phase is old s lt = go (s == seat) refl
         lower_not_above least (least_with least mark) (time_of (phase s)) (lowered least mark)
         (old s (let ne : s ≢ seat = grind (arith, e) in omega (arith, lt)))
 
-module _ (starts : State → Type 0) (allows : List ℕ → State → Writes → Type 0) (c : Config) (start : State) (v : View) where
+module _ (starts : State → Type 0) (allows : List ℕ → State → Writes → Type 0) (c : Config) (start : State) (v : Knowledge) where
   pub scan_loads : MayLoadScan v
       → Loads starts allows c start v Clock
       (λ x w. ((((h : List Entry) × IsWhole c v x h × (w ≡ scan_loaded c v x h)) × IsWord c x) × RunsOn v w) × IsKept v w)
@@ -62,19 +62,19 @@ module _ (starts : State → Type 0) (allows : List ℕ → State → Writes →
       let n = v.number in
       let f : ViewParts = parts_of seats in
       let now = clock_time_of (m Clock) in
-      let w : View = scan_loaded c v (m Clock) h in
+      let w : Knowledge = scan_loaded c v (m Clock) h in
       let p : Past = record (seats n).past { seen = h } in
-      let out : (seats n).phase ≡ Outside = ap (λ (u : View). u.phase) is ∙ may.outside in
+      let out : (seats n).phase ≡ Outside = ap (λ (u : Knowledge). u.phase) is ∙ may.outside in
       let seen = whole_seen k n in
       let from = other_from n 0 in
       let scanned = with_own n 0 now f.phase out (λ s lt. absurd (omega (arith, lt))) in
       let facts = scan_goes_on seen n out now now from (le_refl now) (le_refl now) scanned in
       let front : (rest : List Entry) × (h ≡ v.past.seen ++ rest) =
-      subst (λ (u : View). (rest : List Entry) × (h ≡ u.past.seen ++ rest)) is (k.history.seats n).seen in (
+      subst (λ (u : Knowledge). (rest : List Entry) × (h ≡ u.past.seen ++ rest)) is (k.history.seats n).seen in (
         w,
         settle starts allows c start m h seats n v w is
             (record unchanged { past = Some p; scan = Some (scan_on c now now from); grace = Some (grace_on c (seats n).grace now from) }) (
-              ap (λ (u : View). record u.past { seen = h }) (sym is),
+              ap (λ (u : Knowledge). record u.past { seen = h }) (sym is),
               refl,
               refl,
               refl,
@@ -84,7 +84,7 @@ module _ (starts : State → Type 0) (allows : List ℕ → State → Writes →
               refl,
               refl,
               refl,
-              ap (λ (u : View). grace_on c u.grace now from) (sym is),
+              ap (λ (u : Knowledge). grace_on c u.grace now from) (sym is),
             ) facts,
         (
           (((h, (front, k.history.long, k.history.makers), refl), k.loaded_words.clock_is), (λ t i a b. (a, b))),
@@ -98,8 +98,8 @@ module _ (starts : State → Type 0) (allows : List ℕ → State → Writes →
       let n = v.number in
       let f : ViewParts = parts_of seats in
       let mark = m (Mark seat) in
-      let w : View = mark_loaded c v seat scan mark in
-      let running : (seats n).scan ≡ Some scan = ap (λ (u : View). u.scan) is ∙ may.running in
+      let w : Knowledge = mark_loaded c v seat scan mark in
+      let running : (seats n).scan ≡ Some scan = ap (λ (u : Knowledge). u.scan) is ∙ may.running in
       let out : (seats n).phase ≡ Outside = k.phases_and_scan.scanning n scan running in
       let old : ScanIs (m Clock) f.time (Some scan) = subst (ScanIs (m Clock) f.time) running (k.grace.scans n) in
       let least = least_with scan.least mark in
@@ -112,6 +112,6 @@ module _ (starts : State → Type 0) (allows : List ℕ → State → Writes →
         w,
         settle starts allows c start m h seats n v w is
             (record unchanged { scan = Some (scan_on c scan.clock least from); grace = Some (grace_on c (seats n).grace least from) })
-            (refl, refl, refl, refl, refl, refl, refl, refl, refl, refl, ap (λ (u : View). grace_on c u.grace least from) (sym is)) facts,
+            (refl, refl, refl, refl, refl, refl, refl, refl, refl, refl, ap (λ (u : Knowledge). grace_on c u.grace least from) (sym is)) facts,
         ((refl, (λ t i a b. (a, b))), (refl, refl, refl, refl, refl, refl)),
       )

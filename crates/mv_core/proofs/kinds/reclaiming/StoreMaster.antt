@@ -1,9 +1,9 @@
 -- store MASTER: a word of the version that is written back. No section reads the object's master meanwhile, and no other seat writes it back.
 use Rattle.std.proofs.Common.{◌≡◌, ◌≢◌, ℕ, ◌+◌, ◌<◌, ◌≤◌, false, List, refl, sym, ap, ◌∙◌, subst, ⊎_elim, inl, inr, arith, slice_index, Option, Some, None}
-use Rattle.mv_core.proofs.Terms.{dite, ℕ_discrete, Entry, State, Writes, Config, Master, link_of, Memory, put, Version, Status, Held, Aborted}
-use Rattle.mv_core.proofs.Terms.{Committed, CommitNote, View, Section, Open, Walk, WriteBack, slot_at, index_of, HoldsNothing, Lives, Names}
+use Rattle.mv_core.proofs.Terms.{dite, ℕ_discrete, Entry, State, Writes, Config, Master, link_of, Memory, put, Version, WriteSetStatus, Held, Aborted}
+use Rattle.mv_core.proofs.Terms.{Committed, CommitNote, Knowledge, OwnSection, Open, WalkStage, WriteBack, slot_at, index_of, HoldsNothing, Lives, Names}
 use Rattle.mv_core.proofs.Terms.{NoneUncut, latest, latest_at, ViewParts, parts_of, set_at, time_in}
-use Rattle.mv_core.specs.declared.view.Walk.TheVariants as walk
+use Rattle.mv_core.specs.declared.view.WalkStage.TheVariants as walk
 use Rattle.mv_core.proofs.FactTerms.{IsPastHelp, PresentMaster, ChainFoot, MasterServes, IsRightFor, MayStandAt, StandsRight, WalkerPlace}
 use Rattle.mv_core.proofs.FactTerms.{IsWrittenBack, WriteBacks, RunsOn, Facts, Stores, IsKept}
 use Rattle.mv_core.specs.ReclaimSteps.{GoesToWord, MayStoreMaster, master_stored}
@@ -18,7 +18,7 @@ use Rattle.mv_core.proofs.logs.LastWrites.{IsLastWrite, is_old, some_uncut, some
 
 module _ {starts : State → Type 0} {allows : List ℕ → State → Writes → Type 0} {c : Config} {start : State} {m : Memory} {h : List Entry} {f : ViewParts}
     (k : Facts starts allows c start m h f)
-    (n slot : ℕ) (inside : Section) (x : Version) (note : CommitNote) (last : IsLastWrite c h f n slot (time_in inside) x note) (w : ℕ) (range : w < 6) where
+    (n slot : ℕ) (inside : OwnSection) (x : Version) (note : CommitNote) (last : IsLastWrite c h f n slot (time_in inside) x note) (w : ℕ) (range : w < 6) where
   abbrev master : ℕ → ℕ → ℕ
   master o i = m (Master o i)
 
@@ -43,12 +43,13 @@ module _ {starts : State → Type 0} {allows : List ℕ → State → Writes →
       (subst (λ (p : ℕ). MasterServes c start h master f.ring t p) e a).1))
       (λ ne. ((λ i lt. else_same o i ne ∙ a.0 i lt), a.1))
 
-  status : (s t : ℕ) → f.time s ≡ Some t → (y : Version) (st : Status) → MayStandAt c start h master f.ring t y st → MayStandAt c start h later f.ring t y st
+  status : (s t : ℕ) → f.time s ≡ Some t → (y : Version) (st : WriteSetStatus) → MayStandAt c start h master f.ring t y st
+      → MayStandAt c start h later f.ring t y st
   status s t timed y Held may = tt
   status s t timed y (Committed o) may = may
   status s t timed y (Aborted dead) may = ⊎_elim (λ a. inl (a.0, serves s t y.object timed a.1)) (λ b. inr b) may
 
-  stands : (s t : ℕ) → f.time s ≡ Some t → (y : Walk) → StandsRight c start h master f.ring t y → StandsRight c start h later f.ring t y
+  stands : (s t : ℕ) → f.time s ≡ Some t → (y : WalkStage) → StandsRight c start h master f.ring t y → StandsRight c start h later f.ring t y
   stands s t timed walk.Nowhere right = tt
   stands s t timed (walk.Master o) right = serves s t o timed right
   stands s t timed (walk.At stand) right = (right.0, right.1, right.2, right.3, status s t timed right.0 right.1 right.4)
@@ -69,7 +70,7 @@ module _ {starts : State → Type 0} {allows : List ℕ → State → Writes →
   module _ (position : ℕ) (slot_is : slot ≡ index_of c position) (position_is : x.position ≡ position) (here : f.section n ≡ Some inside)
       (open_is : inside.mode ≡ Open) (past : IsPastHelp (f.clocks n) inside) (nothing : HoldsNothing (f.ring n))
       (stored : (i : ℕ) → i < w → m (Master x.object i) ≡ slice_index x.words i)
-      (timed : (s : ℕ) (i : Section) → f.section s ≡ Some i → f.time s ≡ Some (time_in i)) where
+      (timed : (s : ℕ) (i : OwnSection) → f.section s ≡ Some i → f.time s ≡ Some (time_in i)) where
     abbrev new : WriteBack
     new = record { object = x.object; position = position; stored = w + 1; tried = false }
 
@@ -101,7 +102,7 @@ module _ {starts : State → Type 0} {allows : List ℕ → State → Writes →
     }
 
     abbrev BackIs : ℕ → Option WriteBack → Type 0
-    BackIs s u = (b : WriteBack) → u ≡ Some b → (i : Section) × (f.section s ≡ Some i) × IsWrittenBack c h later f.time f.ring s (f.clocks s) (f.grace s) b i
+    BackIs s u = (b : WriteBack) → u ≡ Some b → (i : OwnSection) × (f.section s ≡ Some i) × IsWrittenBack c h later f.time f.ring s (f.clocks s) (f.grace s) b i
 
     backs_after : WriteBacks c h later f.section f.time f.clocks f.grace backs f.ring
     backs_after =
@@ -128,9 +129,10 @@ module _ {starts : State → Type 0} {allows : List ℕ → State → Writes →
         (λ s ne. k.phases_and_scan.outside s) in
         assumption (present_after, foot_after, places, backs_after, outside, k)
 
-module _ {starts : State → Type 0} {allows : List ℕ → State → Writes → Type 0} {c : Config} {start : State} {m : Memory} {h : List Entry} (seats : ℕ → View)
+module _ {starts : State → Type 0} {allows : List ℕ → State → Writes → Type 0} {c : Config} {start : State} {m : Memory} {h : List Entry}
+    (seats : ℕ → Knowledge)
     (k : Facts starts allows c start m h (parts_of seats))
-    (v : View) (is : seats v.number ≡ v) (object w value position : ℕ) (x : Version) (note : CommitNote) (inside : Section)
+    (v : Knowledge) (is : seats v.number ≡ v) (object w value position : ℕ) (x : Version) (note : CommitNote) (inside : OwnSection)
     (may : MayStoreMaster c v object w value position x note inside) where
   abbrev n : ℕ
   n = v.number
@@ -142,7 +144,7 @@ module _ {starts : State → Type 0} {allows : List ℕ → State → Writes →
   timed = time_is seats v inside k is may.phase
 
   lives : Lives f.ring n (index_of c position) x (Committed note)
-  lives = ap (λ (u : View). slot_at u.ring (index_of c position)) is ∙ may.own
+  lives = ap (λ (u : Knowledge). slot_at u.ring (index_of c position)) is ∙ may.own
 
   abbrev Words : Type 0
   Words = (i : ℕ) → i < w → m (Master x.object i) ≡ slice_index x.words i
@@ -153,7 +155,7 @@ module _ {starts : State → Type 0} {allows : List ℕ → State → Writes →
       ⊎_elim
       (λ a.
       let stand = a.2.0 in
-      let at : f.walk n ≡ walk.At stand = ap (λ (u : View). u.walk) is ∙ a.2.1 in
+      let at : f.walk n ≡ walk.At stand = ap (λ (u : Knowledge). u.walk) is ∙ a.2.1 in
       let r : StandsRight c start h (λ o i. m (Master o i)) f.ring (time_in inside) (walk.At stand) =
       subst (StandsRight c start h (λ o i. m (Master o i)) f.ring (time_in inside)) at (k.walker_place n (time_in inside) timed) in
       let mine : Names f.ring stand.link x (Committed note) =
@@ -162,14 +164,14 @@ module _ {starts : State → Type 0} {allows : List ℕ → State → Writes →
       let right : IsRightFor c h (time_in inside) x note =
       subst (λ (y : Version). MayStandAt c start h (λ o i. m (Master o i)) f.ring (time_in inside) y (Committed note)) one.2
       (subst (MayStandAt c start h (λ o i. m (Master o i)) f.ring (time_in inside) r.0) one.3 r.4) in
-      let known : note.time ≤ f.grace n = subst (λ (u : View). note.time ≤ u.grace) (sym is) a.4 in
+      let known : note.time ≤ f.grace n = subst (λ (u : Knowledge). note.time ≤ u.grace) (sym is) a.4 in
       let below = not_above (f.grace n) n (time_in inside) f.time (k.grace.views n).1 timed in
       let zero = a.0 in (
         record { timed = timed; lives = lives; uncut = a.3; known = known; last = ⊎_elim (λ late. absurd (omega arith)) (λ e. sym e) right },
         λ i lt. absurd (omega arith),
       ))
       (λ b.
-      let r = k.write_back n (record { object = object; position = position; stored = w; tried = false }) (ap (λ (u : View). u.back) is ∙ b.1) in
+      let r = k.write_back n (record { object = object; position = position; stored = w; tried = false }) (ap (λ (u : Knowledge). u.back) is ∙ b.1) in
       let own = r.2 in
       let same : Some inside ≡ Some r.0 = sym (section_is seats v inside k is may.phase) ∙ r.1 in
       let section : inside ≡ r.0 = cc in
@@ -193,7 +195,7 @@ module _ {starts : State → Type 0} {allows : List ℕ → State → Writes →
       let b = begins may.goes in
       let all = master_facts k n (index_of c position) inside x note b.0 w may.in_range position refl may.position_is
       (section_is seats v inside k is may.phase) may.open_is
-      (subst (λ (u : View). IsPastHelp u.clocks inside) (sym is) may.past_help) (subst (λ (u : View). HoldsNothing u.ring) (sym is) may.nothing) b.1
+      (subst (λ (u : Knowledge). IsPastHelp u.clocks inside) (sym is) may.past_help) (subst (λ (u : Knowledge). HoldsNothing u.ring) (sym is) may.nothing) b.1
       (λ s i e. time_of_section (seats s).phase i e) in
       settle starts allows c start (put m (Master object w) value) h seats v.number v (master_stored c v object w value position) is
       (record unchanged { back = Some (master_stored c v object w value position).back }) (refl, refl, refl, refl, refl, refl, refl, refl, refl, refl, refl)
@@ -203,8 +205,8 @@ module _ {starts : State → Type 0} {allows : List ℕ → State → Writes →
       (changed f n (record unchanged { back = Some (Some (record { object = x.object; position = position; stored = w + 1; tried = false })) })))
       (sym may.value_is) all))
 
-module _ (starts : State → Type 0) (allows : List ℕ → State → Writes → Type 0) (c : Config) (start : State) (v : View) (object w value position : ℕ)
-    (x : Version) (note : CommitNote) (inside : Section) where
+module _ (starts : State → Type 0) (allows : List ℕ → State → Writes → Type 0) (c : Config) (start : State) (v : Knowledge) (object w value position : ℕ)
+    (x : Version) (note : CommitNote) (inside : OwnSection) where
   pub master_stores : MayStoreMaster c v object w value position x note inside
       → Stores starts allows c start v (Master object w) value (λ u. ((u ≡ master_stored c v object w value position) × RunsOn v u) × IsKept v u)
   master_stores may m h seats k is own begins = (

@@ -4,7 +4,7 @@ use Rattle.std.proofs.Common.{slice_index_or, sym, refl, ap, ◌∙◌, subst, �
 use Rattle.std.specs.Prelude.{Contains}
 use Rattle.std.proofs.lemmas.List.Elements.{Contains-append_cases}
 use Rattle.mv_core.proofs.Terms.{dite, ℕ_discrete, Entry, Change, State, Writes, Config, Head, Super, Memory, link_of, Version, Committed, CommitNote}
-use Rattle.mv_core.proofs.Terms.{View, Phase, Outside, Lowered, Marked, Inside, Section, EmptyHead, Lives, NoneHolds, NoneUncut, latest, parts_of}
+use Rattle.mv_core.proofs.Terms.{Knowledge, Phase, Outside, Lowered, Marked, Inside, OwnSection, EmptyHead, Lives, NoneHolds, NoneUncut, latest, parts_of}
 use Rattle.mv_core.proofs.Terms.{section_of, time_of, time_in, set_at}
 use Rattle.mv_core.proofs.FactTerms.{SucceededHasSuper, Facts}
 use Rattle.mv_core.specs.WalkSteps.{empty_too}
@@ -16,16 +16,17 @@ use Rattle.mv_core.proofs.logs.Finding.{find_holder}
 use Rattle.mv_core.proofs.kinds.walking.Landing.{not_above}
 
 -- a seat in a section has that section's time
-pub time_of_section : (p : Phase) (s : Section) → section_of p ≡ Some s → time_of p ≡ Some (time_in s)
+pub time_of_section : (p : Phase) (s : OwnSection) → section_of p ≡ Some s → time_of p ≡ Some (time_in s)
 time_of_section Outside s e = absurd cc
 time_of_section (Lowered low) s e = absurd cc
 time_of_section (Marked low) s e = absurd cc
-time_of_section (Inside i) s e = let same : i ≡ s = cc in ap (λ (x : Section). Some (time_in x)) same
+time_of_section (Inside i) s e = let same : i ≡ s = cc in ap (λ (x : OwnSection). Some (time_in x)) same
 
 the_one : (a b : EmptyHead) → Contains (a ∷ []) b → b ≡ a
 the_one a b has = let place : has.0 ≡ 0 = (let lt = has.1 in omega arith) in sym (ap (λ i. slice_index_or (a ∷ []) i b) (sym place) ∙ has.2)
 
-module _ {starts : State → Type 0} {allows : List ℕ → State → Writes → Type 0} {c : Config} {start : State} {m : Memory} {h : List Entry} (seats : ℕ → View)
+module _ {starts : State → Type 0} {allows : List ℕ → State → Writes → Type 0} {c : Config} {start : State} {m : Memory} {h : List Entry}
+    (seats : ℕ → Knowledge)
     (k : Facts starts allows c start m h (parts_of seats)) (o : ℕ) (empty_is : m (Head o) ≡ 0) where
   none_holds : NoneHolds (λ s. (seats s).ring) o
   none_holds =
@@ -67,7 +68,8 @@ module _ {starts : State → Type 0} {allows : List ℕ → State → Writes →
       (time_of_section (seats u.seat).phase u.inside u.in_section) in
       absurd (omega arith))
 
-module _ {starts : State → Type 0} {allows : List ℕ → State → Writes → Type 0} {c : Config} {start : State} {m : Memory} {h : List Entry} (seats : ℕ → View)
+module _ {starts : State → Type 0} {allows : List ℕ → State → Writes → Type 0} {c : Config} {start : State} {m : Memory} {h : List Entry}
+    (seats : ℕ → Knowledge)
     (k : Facts starts allows c start m h (parts_of seats)) (n o time : ℕ) (past : time ≤ c.base + length h) where
   Succeeded : ℕ → List EmptyHead → Type 0
   Succeeded s empty =

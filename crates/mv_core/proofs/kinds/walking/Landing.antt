@@ -2,7 +2,7 @@
 use Rattle.std.proofs.Common.{◌≡◌, ◌⊎◌, ℕ, ◌+◌, ◌-◌, ◌<◌, ◌≤◌, Bool, true, false, List, length, Option, Some, sym}
 use Rattle.std.proofs.Common.{refl, ap, ◌∙◌, subst, inl, inr, ⊎_elim, arith}
 use Rattle.mv_core.proofs.Terms.{dite, dec_lt, Entry, Change, State, Writes, Config, Clock, Master, Stamp, Memory, clock_time_of, Ring, Version}
-use Rattle.mv_core.proofs.Terms.{Status, Committed, CommitNote, index_of, Lives, Names, IsVersion, NoneUncut, IsTop, latest, latest_at, words_of}
+use Rattle.mv_core.proofs.Terms.{WriteSetStatus, Committed, CommitNote, index_of, Lives, Names, IsVersion, NoneUncut, IsTop, latest, latest_at, words_of}
 use Rattle.mv_core.proofs.Terms.{AreThe, IsNextWrite, NotAbove, NotAboveAny, ViewParts}
 use Rattle.mv_layout.proofs.Unpacking.{time_back}
 use Rattle.mv_core.proofs.FactTerms.{stamp_of, CommitOf, LinksBelow, MasterServes, IsBeforeDeath, Facts}
@@ -80,7 +80,7 @@ module _ {starts : State → Type 0} {allows : List ℕ → State → Writes →
     still_last : latest_at c.base h x.object (note.time - 1) ≤ t → latest_at c.base h x.object t ≡ latest_at c.base h x.object (note.time - 1)
     still_last old = latest_at-same c.base h x.object t (note.time - 1) (omega arith) old
 
-    grounded_lands : ((y : Version) (st : Status) → ¬ (Names f.ring x.previous y st))
+    grounded_lands : ((y : Version) (st : WriteSetStatus) → ¬ (Names f.ring x.previous y st))
         → NoneUncut f.ring x.object (latest_at c.base h x.object (note.time - 1))
         → (x.previous ≡ 0) × MasterServes c start h (λ p w. m (Master p w)) f.ring t x.object
     grounded_lands nothing uncut =

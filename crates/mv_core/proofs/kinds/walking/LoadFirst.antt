@@ -1,17 +1,17 @@
 -- load FIRST: what is found is the first position of the version that the walk stands at.
 use Rattle.std.proofs.Common.{◌≡◌, ℕ, List, Some, None, sym, refl, ◌∙◌, subst}
-use Rattle.mv_core.proofs.Terms.{State, Writes, Config, First, link_seat_of, View, Stand, Names}
-use Rattle.mv_core.specs.declared.view.Walk.TheVariants as walk
+use Rattle.mv_core.proofs.Terms.{State, Writes, Config, First, link_seat_of, Knowledge, Stand, Names}
+use Rattle.mv_core.specs.declared.view.WalkStage.TheVariants as walk
 use Rattle.mv_core.specs.WalkSteps.{slot_named, MayLoadFirst, first_loaded}
 use Rattle.mv_core.proofs.FactTerms.{RunsOn, Loads, IsKept}
 use Rattle.mv_core.proofs.kinds.walking.Walks.{words_named, Standing, section_there, standing_of, walked}
 
-module _ (starts : State → Type 0) (allows : List ℕ → State → Writes → Type 0) (c : Config) (start : State) (v : View) where
+module _ (starts : State → Type 0) (allows : List ℕ → State → Writes → Type 0) (c : Config) (start : State) (v : Knowledge) where
   pub first_loads : (link : ℕ) (stand : Stand) → MayLoadFirst v link stand
       → Loads starts allows c start v (First (link_seat_of link) (slot_named c link)) (λ n w. ((w ≡ first_loaded c v stand n) × RunsOn v w) × IsKept v w)
   first_loads link stand may m h seats k is own begins small =
       let n : ℕ = m (First (link_seat_of link) (slot_named c link)) in
-      let w : View = first_loaded c v stand n in
+      let w : Knowledge = first_loaded c v stand n in
       let there = section_there seats v k is stand may.stands in
       let inside = there.0 in
       let r = standing_of seats v k is inside there.1 stand may.stands in

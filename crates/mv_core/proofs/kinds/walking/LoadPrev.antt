@@ -1,19 +1,19 @@
 -- load PREV: the walk goes on to the version below the one it stood at, or to a master that serves it.
 use Rattle.std.proofs.Common.{◌≡◌, ℕ, false, List, None, sym, refl, subst}
-use Rattle.mv_core.proofs.Terms.{State, Writes, Config, Prev, link_seat_of, View, Stand, Names}
+use Rattle.mv_core.proofs.Terms.{State, Writes, Config, Prev, link_seat_of, Knowledge, Stand, Names}
 use Rattle.mv_core.specs.WalkSteps.{MayLoadPrev, IsLinkOf, slot_named, stand_at, passed_too, prev_loaded}
 use Rattle.mv_core.proofs.FactTerms.{RunsOn, Loads, IsKept}
 use Rattle.mv_core.proofs.history.SectionWords.{time_is}
 use Rattle.mv_core.proofs.kinds.walking.Walks.{WalksRight, words_named, standing_of, walked}
 use Rattle.mv_core.proofs.kinds.walking.WalkOn.{prev_right, prev_link}
 
-module _ (starts : State → Type 0) (allows : List ℕ → State → Writes → Type 0) (c : Config) (start : State) (v : View) where
+module _ (starts : State → Type 0) (allows : List ℕ → State → Writes → Type 0) (c : Config) (start : State) (v : Knowledge) where
   pub prev_loads : (link : ℕ) (stand : Stand) → MayLoadPrev v link stand
       → Loads starts allows c start v (Prev (link_seat_of link) (slot_named c link))
       (λ n w. (((w ≡ prev_loaded c v stand n) × IsLinkOf c n) × RunsOn v w) × IsKept v w)
   prev_loads link stand may m h seats k is own begins small =
       let n : ℕ = m (Prev (link_seat_of link) (slot_named c link)) in
-      let w : View = prev_loaded c v stand n in
+      let w : Knowledge = prev_loaded c v stand n in
       let inside = may.inside in
       let timed = time_is seats v inside k is may.phase in
       let r = standing_of seats v k is inside may.phase stand may.stands in

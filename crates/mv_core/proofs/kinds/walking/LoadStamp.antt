@@ -3,10 +3,12 @@ use Rattle.std.proofs.Common.{◌≡◌, ℕ, zero, suc, ◌+◌, ◌-◌, ◌<�
 use Rattle.std.proofs.Common.{inl, inr, ⊎_elim, arith, take-append-drop, append-nil, length-take, length-append}
 use Rattle.std.specs.Prelude.{slice_get}
 use Rattle.std.proofs.Math.Seq.{take-append-add}
-use Rattle.mv_core.proofs.Terms.{dec_lt, dec_le, dite, Entry, State, Writes, Config, Clock, Stamp, Memory, link_seat_of, IsUnset, View, Section, Stand, Past}
-use Rattle.mv_core.proofs.Terms.{Inside, Version, Status, Held, Aborted, Committed, CommitNote, Lives, index_of, parts_of, time_in, time_of, set_at, IsEntry}
+use Rattle.mv_core.proofs.Terms.{dec_lt, dec_le, dite, Entry, State, Writes, Config, Clock, Stamp, Memory, link_seat_of, IsUnset, Knowledge, OwnSection, Stand}
+use Rattle.mv_core.proofs.Terms.{Past}
+use Rattle.mv_core.proofs.Terms.{Inside, Version, WriteSetStatus, Held, Aborted, Committed, CommitNote, Lives, index_of, parts_of, time_in, time_of, set_at}
+use Rattle.mv_core.proofs.Terms.{IsEntry}
 use Rattle.mv_core.proofs.Terms.{writes_to, section_of, slot_at, Open, Named, Live}
-use Rattle.mv_core.specs.declared.view.Walk.TheVariants as walk
+use Rattle.mv_core.specs.declared.view.WalkStage.TheVariants as walk
 use Rattle.mv_core.proofs.FactTerms.{HasPassed, IsBelowPassed, IsPastHelp, BeginsWith, StampedAs, stamp_of, RunsOn, Facts, Loads, IsKept}
 use Rattle.mv_core.proofs.logs.Written.{version_writes, commit_within}
 use Rattle.mv_core.specs.WalkSteps.{MayLoadStamp, SeesStamp, StampSays, IsOwnTime, stamp_loaded, slot_named}
@@ -18,7 +20,7 @@ use Rattle.mv_core.proofs.logs.SeenDeaths.{sees_on}
 use Rattle.mv_core.proofs.history.LongerSeen.{sees_more}
 
 -- a stamp that is a time is that of a commit
-stamped_time : (clock s k stamp first : ℕ) (st : Status) → StampedAs clock s k stamp first st → stamp < 2 ^ 63
+stamped_time : (clock s k stamp first : ℕ) (st : WriteSetStatus) → StampedAs clock s k stamp first st → stamp < 2 ^ 63
     → (note : CommitNote) × (st ≡ Committed note) × (note.time ≡ stamp)
 stamped_time clock s k stamp first Held e low = absurd (omega arith)
 stamped_time clock s k stamp first (Aborted dead) e low = absurd (omega arith)
@@ -32,7 +34,7 @@ begins_take h seen n front le =
     (take j front.0, ap (take n) front.1 ∙ ap (λ i. take i (seen ++ front.0)) is ∙ take-append-add seen front.0 j)
 
 -- how much is seen where this was found, a time in the history or no time
-pub seen_to : (c : Config) (v : View) (h : List Entry) (found : ℕ) → BeginsWith h v.past.seen → (found < 2 ^ 63 → found ≤ c.base + length h)
+pub seen_to : (c : Config) (v : Knowledge) (h : List Entry) (found : ℕ) → BeginsWith h v.past.seen → (found < 2 ^ 63 → found ≤ c.base + length h)
     → (seen : List Entry) × BeginsWith h seen × SeesStamp c v found seen
 seen_to c v h found front within =
     let old = v.past.seen in
@@ -61,21 +63,23 @@ entry_seen base h seen t e front le is =
     let low = is.0 in
     (low, sym (slice_get-front seen front.0 (t - (base + 1)) (omega arith)) ∙ ap (λ l. slice_get l (t - (base + 1))) (sym front.1) ∙ is.1)
 
-module _ {starts : State → Type 0} {allows : List ℕ → State → Writes → Type 0} {c : Config} {start : State} {m : Memory} {h : List Entry} (seats : ℕ → View)
-    (k : Facts starts allows c start m h (parts_of seats)) (v : View) (is : seats v.number ≡ v) where
+module _ {starts : State → Type 0} {allows : List ℕ → State → Writes → Type 0} {c : Config} {start : State} {m : Memory} {h : List Entry}
+    (seats : ℕ → Knowledge)
+    (k : Facts starts allows c start m h (parts_of seats)) (v : Knowledge) (is : seats v.number ≡ v) where
   -- a seat that sees more has seen its section's time still
   pub seen_by_all : (seen : List Entry) → BeginsWith seen v.past.seen → (u t : ℕ) → time_of (seats u).phase ≡ Some t
       → t ≤ c.base + length (set_at (λ q. (seats q).past) v.number (record v.past { seen = seen }) u).seen
   seen_by_all seen more u t =
       set_at_all (λ u (p : Past). time_of (seats u).phase ≡ Some t → t ≤ c.base + length p.seen) (λ q. (seats q).past) v.number (record v.past { seen = seen })
       (λ e.
-      let old = subst (λ (q : View). t ≤ c.base + length q.past.seen) is (k.phases_and_scan.seen v.number t e) in
+      let old = subst (λ (q : Knowledge). t ≤ c.base + length q.past.seen) is (k.phases_and_scan.seen v.number t e) in
       let longer : length seen ≡ length v.past.seen + length more.0 = ap length more.1 ∙ length-append v.past.seen more.0 in
       omega arith)
       (λ u ne. k.phases_and_scan.seen u t) u
 
   -- the seat stands at a version of which it found FIRST, and n is the stamp there
-  module _ (inside : Section) (phase : v.phase ≡ Inside inside) (stand : Stand) (r : Standing c start m h (λ t. (seats t).ring) v.clocks inside stand) (n : ℕ)
+  module _ (inside : OwnSection) (phase : v.phase ≡ Inside inside) (stand : Stand) (r : Standing c start m h (λ t. (seats t).ring) v.clocks inside stand)
+      (n : ℕ)
       (found_is : n ≡ stamp_of c (λ t j. m (Stamp t j)) (link_seat_of stand.link) r.version) where
     abbrev seat : ℕ
     seat = link_seat_of stand.link
@@ -112,17 +116,18 @@ module _ {starts : State → Type 0} {allows : List ℕ → State → Writes →
     own_time : IsOwnTime c v stand.link n
     own_time at x note there in_it phase_is open_is =
         let there_too : slot_at v.ring (slot_named c stand.link) ≡ Live r.version r.status =
-        ap (λ (u : View). slot_at u.ring (slot_named c stand.link)) (sym is) ∙ ap (λ (s : ℕ). slot_at (seats s).ring (slot_named c stand.link)) (sym at)
+        ap (λ (u : Knowledge). slot_at u.ring (slot_named c stand.link)) (sym is) ∙ ap (λ (s : ℕ). slot_at (seats s).ring (slot_named c stand.link)) (sym at)
         ∙ lives in
         let st = (live_once (slot_at v.ring (slot_named c stand.link)) r.version x r.status (Committed note) there_too there).1 in
         dite (dec_lt n (2 ^ 63)) (λ low. low)
         (λ high.
         let w = (within note st).1 in
         let u = k.unstamped_is_unfinished seat (slot_named c stand.link) r.version note (committed note st) (λ made. let e = found_is in omega arith) in
-        let here : section_of v.phase ≡ Some u.0 = ap (λ (q : View). section_of q.phase) (sym is) ∙ ap (λ (s : ℕ). section_of (seats s).phase) (sym at) ∙ u.2 in
+        let here : section_of v.phase ≡ Some u.0 = ap (λ (q : Knowledge). section_of q.phase) (sym is)
+        ∙ ap (λ (s : ℕ). section_of (seats s).phase) (sym at) ∙ u.2 in
         let same : Some in_it ≡ Some u.0 = ap section_of (sym phase_is) ∙ here in
         let one : in_it ≡ u.0 = cc in
-        let clash : Open ≡ Named u.1 = sym open_is ∙ ap (λ (q : Section). q.mode) one ∙ u.3 in absurd (cc))
+        let clash : Open ≡ Named u.1 = sym open_is ∙ ap (λ (q : OwnSection). q.mode) one ∙ u.3 in absurd (cc))
 
     -- past its help a section finds each commit up to its time stamped
     unset_late : (note : CommitNote) → IsUnset n → r.status ≡ Committed note → time_in inside < note.time
@@ -131,7 +136,7 @@ module _ {starts : State → Type 0} {allows : List ℕ → State → Writes →
         dite (dec_lt (time_in inside) note.time) (λ lt. lt)
         (λ ge.
         let is_time =
-        k.stamped_past_help v.number inside (section_is seats v inside k is phase) (subst (λ (u : View). IsPastHelp u.clocks inside) (sym is) r.helped)
+        k.stamped_past_help v.number inside (section_is seats v inside k is phase) (subst (λ (u : Knowledge). IsPastHelp u.clocks inside) (sym is) r.helped)
         seat (slot_named c stand.link) r.version note (committed note st) (omega arith) in
         absurd (omega arith))
 
@@ -167,7 +172,7 @@ module _ {starts : State → Type 0} {allows : List ℕ → State → Writes →
       late = λ in_it phase_is late low.
           let same : inside ≡ in_it = (let e : Inside inside ≡ Inside in_it = sym phase ∙ phase_is in cc) in
           let t = by_time low in
-          subst (λ (u : ℕ). time_in in_it < u) t.2 (subst (λ (q : Section). time_in q < t.0.time) same (r.late t.0 late t.1));
+          subst (λ (u : ℕ). time_in in_it < u) t.2 (subst (λ (q : OwnSection). time_in q < t.0.time) same (r.late t.0 late t.1));
     }
 
     -- the rule after the load, which sees this much
@@ -177,11 +182,12 @@ module _ {starts : State → Type 0} {allows : List ℕ → State → Writes →
         let p : Past = record v.past { seen = seen } in
         walked seats v k is inside phase (walk.At (record stand { stamp = Some n })) stamp_stands (stamp_loaded c v stand first n seen) (Some p) None
         (refl, refl, refl, refl, refl, refl, refl, refl, refl, refl, refl)
-        (sees_more starts allows c start (m Clock) h (λ q. (seats q).past) v.number v.past (ap (λ (u : View). u.past) is) k.history seen front sees.more)
+        (sees_more starts allows c start (m Clock) h (λ q. (seats q).past) v.number v.past (ap (λ (u : Knowledge). u.past) is) k.history seen front sees.more)
         (seen_by_all seen sees.more) k.succeeded_has_super
-        (sees_on c (λ q. (seats q).past) (λ q. (seats q).ring) v.number p (subst (λ (u : View). BeginsWith seen u.past.seen) (sym is) sees.more) k.deaths_seen)
+        (sees_on c (λ q. (seats q).past) (λ q. (seats q).ring) v.number p (subst (λ (u : Knowledge). BeginsWith seen u.past.seen) (sym is) sees.more)
+        k.deaths_seen)
 
-module _ (starts : State → Type 0) (allows : List ℕ → State → Writes → Type 0) (c : Config) (start : State) (v : View) (first : ℕ) (stand : Stand) where
+module _ (starts : State → Type 0) (allows : List ℕ → State → Writes → Type 0) (c : Config) (start : State) (v : Knowledge) (first : ℕ) (stand : Stand) where
   stamp_loads_there : MayLoadStamp v stand.link first stand
       → Loads starts allows c start v (Stamp (link_seat_of stand.link) (index_of c first))
       (λ n w. (((w ≡ stamp_loaded c v stand first n w.past.seen) × StampSays c v stand n w.past.seen × IsOwnTime c v stand.link n) × RunsOn v w) × IsKept v w)
@@ -191,9 +197,9 @@ module _ (starts : State → Type 0) (allows : List ℕ → State → Writes →
       let r = standing_of seats v k is there.0 there.1 stand may.stands in
       let found_is : n ≡ stamp_of c (λ t j. m (Stamp t j)) (link_seat_of stand.link) r.version =
       ap (λ p. m (Stamp (link_seat_of stand.link) (index_of c p))) (r.first first may.first_is) in
-      let front : BeginsWith h v.past.seen = subst (λ (u : View). BeginsWith h u.past.seen) is (k.history.seats v.number).seen in
+      let front : BeginsWith h v.past.seen = subst (λ (u : Knowledge). BeginsWith h u.past.seen) is (k.history.seats v.number).seen in
       let to = seen_to c v h n front (in_history seats k v is there.0 there.1 stand r n found_is) in
-      let w : View = stamp_loaded c v stand first n to.0 in (
+      let w : Knowledge = stamp_loaded c v stand first n to.0 in (
         w,
         stamp_rule seats k v is there.0 there.1 stand r n found_is first to.0 to.1 to.2,
         (

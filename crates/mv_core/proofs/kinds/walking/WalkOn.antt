@@ -1,9 +1,9 @@
 -- Where load HEAD and load PREV put a walk, it is right.
 use Rattle.std.proofs.Common.{◌≡◌, ◌≢◌, ◌⊎◌, ℕ, ◌<◌, ◌^◌, leb, Bool, true, false, List, Option, Some, None, sym, refl, ap}
 use Rattle.std.proofs.Common.{◌∙◌, subst, inl, inr, ⊎_elim, arith, if◌then◌else◌, eq-eqb, ne_eqb, leb-true, leb-false}
-use Rattle.mv_core.proofs.Terms.{dite, dec_lt, Entry, State, Writes, Config, Head, Master, Stamp, Memory, link_of, IsUnset, Version, Status, Held}
-use Rattle.mv_core.proofs.Terms.{Aborted, Committed, CommitNote, Section, Stand, LoadedClocks, Lives, IsTop, latest, latest_at, ViewParts, time_in}
-use Rattle.mv_core.specs.declared.view.Walk.TheVariants as walk
+use Rattle.mv_core.proofs.Terms.{dite, dec_lt, Entry, State, Writes, Config, Head, Master, Stamp, Memory, link_of, IsUnset, Version, WriteSetStatus, Held}
+use Rattle.mv_core.proofs.Terms.{Aborted, Committed, CommitNote, OwnSection, Stand, LoadedClocks, Lives, IsTop, latest, latest_at, ViewParts, time_in}
+use Rattle.mv_core.specs.declared.view.WalkStage.TheVariants as walk
 use Rattle.mv_core.specs.declared.view.Passed.{Passed}
 use Rattle.mv_core.specs.declared.view.Passed.TheVariants.{Nothing, Unset, Time}
 use Rattle.mv_core.proofs.FactTerms.{stamp_of, IsPastHelp, MasterServes, MayStandAt, HasPassed, IsBelowPassed, Facts}
@@ -36,7 +36,7 @@ at_some o link passed late ne =
     ap (λ (b : Bool). if b then walk.Master o else walk.At (record { object = o; link = link; first = None; stamp = None; passed = passed; late = late }))
     (sym (ne_eqb link 0 ne))
 
-module _ (c : Config) (start : State) (m : Memory) (h : List Entry) (f : ViewParts) (clocks : LoadedClocks) (inside : Section) where
+module _ (c : Config) (start : State) (m : Memory) (h : List Entry) (f : ViewParts) (clocks : LoadedClocks) (inside : OwnSection) where
   -- a walk that found 0 stands at the master, and is right if that serves
   pub zero_right : (o link : ℕ) (passed : Passed) (late : Bool) → link ≡ 0 → MasterServes c start h (λ p i. m (Master p i)) f.ring (time_in inside) o
       → IsPastHelp clocks inside → WalksRight c start m h f.ring clocks inside (stand_at o link passed late)
@@ -50,7 +50,7 @@ module _ (c : Config) (start : State) (m : Memory) (h : List Entry) (f : ViewPar
       subst (WalksRight c start m h f.ring clocks inside) (at_some o link passed late (names_some f.ring link r.version r.status r.names)) r
 
 module _ {starts : State → Type 0} {allows : List ℕ → State → Writes → Type 0} {c : Config} {start : State} {m : Memory} {h : List Entry} {f : ViewParts}
-    (k : Facts starts allows c start m h f) (n : ℕ) (clocks : LoadedClocks) (inside : Section) (timed : f.time n ≡ Some (time_in inside))
+    (k : Facts starts allows c start m h f) (n : ℕ) (clocks : LoadedClocks) (inside : OwnSection) (timed : f.time n ≡ Some (time_in inside))
     (helped : IsPastHelp clocks inside) where
   abbrev t : ℕ
   t = time_in inside
@@ -132,11 +132,11 @@ module _ {starts : State → Type 0} {allows : List ℕ → State → Writes →
     abbrev Goes : (o link : ℕ) → Type 0
     Goes o link = ((link ≡ 0) × MasterServes c start h (λ p i. m (Master p i)) f.ring t o) ⊎ ((l : LandsAt c h f.ring t o link) × IsUnder o link l)
 
-    lives_as : (st : Status) → there.status ≡ st → Lives f.ring there.names.seat there.names.slot there.version st
-    lives_as st e = subst (λ (su : Status). Lives f.ring there.names.seat there.names.slot there.version su) e there.names.lives
+    lives_as : (st : WriteSetStatus) → there.status ≡ st → Lives f.ring there.names.seat there.names.slot there.version st
+    lives_as st e = subst (λ (su : WriteSetStatus). Lives f.ring there.names.seat there.names.slot there.version su) e there.names.lives
 
     -- a time found is that of a commit
-    time_found : (st : Status) → there.status ≡ st → found < 2 ^ 63 → (note : CommitNote) × (st ≡ Committed note) × (note.time ≡ found)
+    time_found : (st : WriteSetStatus) → there.status ≡ st → found < 2 ^ 63 → (note : CommitNote) × (st ≡ Committed note) × (note.time ≡ found)
     time_found st e small = let g = there.stamp found stamp_is small in (g.0, sym e ∙ g.1, g.2)
 
     goes_held : there.status ≡ Held → Goes stand.object there.version.previous
@@ -181,7 +181,7 @@ module _ {starts : State → Type 0} {allows : List ℕ → State → Writes →
         ))
         may
 
-    same_note : (a b : CommitNote) → ◌≡◌ {A = Status} (Committed a) (Committed b) → a ≡ b
+    same_note : (a b : CommitNote) → ◌≡◌ {A = WriteSetStatus} (Committed a) (Committed b) → a ≡ b
     same_note a b e = cc
 
     -- a commit where a walk goes on is later than the section
@@ -211,7 +211,7 @@ module _ {starts : State → Type 0} {allows : List ℕ → State → Writes →
         ))
         (below_lands k n t timed there.names.seat there.names.slot x note lives (is_late note e)))
 
-    goes : (st : Status) → there.status ≡ st → Goes stand.object there.version.previous
+    goes : (st : WriteSetStatus) → there.status ≡ st → Goes stand.object there.version.previous
     goes Held e = goes_held e
     goes (Aborted dead) e = goes_aborted dead e
     goes (Committed note) e = goes_committed note e

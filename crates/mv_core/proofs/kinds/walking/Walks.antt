@@ -1,9 +1,9 @@
 -- What a walk's load leaves: where the walk stands afterwards, and with that all facts.
 use Rattle.std.proofs.Common.{◌≡◌, ◌≢◌, ℕ, ◌+◌, ◌<◌, ◌≤◌, ◌^◌, true, List, length, Option, Some, None, sym, refl, ap, ◌∙◌, subst}
 use Rattle.mv_core.proofs.Terms.{Entry, State, Writes, Config, Clock, Master, First, Stamp, Prev, Super, Data, IsUnset, link_seat_of, Memory, Ring}
-use Rattle.mv_core.proofs.Terms.{Version, Status, Aborted, Committed, CommitNote, View, Past, Phase, Outside, Lowered, Marked, Inside, Section}
-use Rattle.mv_core.proofs.Terms.{LoadedClocks, Walk, Stand, EmptyHead, Lives, Names, parts_of, section_of, time_of, time_in, set_at}
-use Rattle.mv_core.specs.declared.view.Walk.TheVariants as walk
+use Rattle.mv_core.proofs.Terms.{Version, WriteSetStatus, Aborted, Committed, CommitNote, Knowledge, Past, Phase, Outside, Lowered, Marked, Inside, OwnSection}
+use Rattle.mv_core.proofs.Terms.{LoadedClocks, WalkStage, Stand, EmptyHead, Lives, Names, parts_of, section_of, time_of, time_in, set_at}
+use Rattle.mv_core.specs.declared.view.WalkStage.TheVariants as walk
 use Rattle.mv_core.proofs.FactTerms.{History, stamp_of, HoldsVersion, HoldsSlot, IsPastHelp, DeathsSeen, MasterServes, MayStandAt, StandsRight}
 use Rattle.mv_core.proofs.FactTerms.{IsBeforeDeath, IsBelowPassed, HasPassed, WalkerPlace, WalkerBeforeDeath, WalkerKnowledge, WalkerFalls}
 use Rattle.mv_core.proofs.FactTerms.{WalkerLate, SucceededHasSuper, Facts}
@@ -12,17 +12,18 @@ use Rattle.mv_core.proofs.frames.FrameLaw.{set_at_all, after, unchanged, Fits, s
 use Rattle.mv_core.proofs.logs.Links.{names_once, names_place}
 use Rattle.mv_core.proofs.history.SectionWords.{section_is, time_is}
 
-module _ (c : Config) (start : State) (m : Memory) (h : List Entry) (rings : ℕ → Ring) (clocks : LoadedClocks) (inside : Section) where
+module _ (c : Config) (start : State) (m : Memory) (h : List Entry) (rings : ℕ → Ring) (clocks : LoadedClocks) (inside : OwnSection) where
   -- what holds of the one version that a walk of this section stands at
   pub record Standing (stand : Stand) : Type 0 where
     pub version : Version
-    pub status : Status
+    pub status : WriteSetStatus
     pub names : Names rings stand.link version status
     pub object_is : version.object ≡ stand.object
     pub may : MayStandAt c start h (λ o i. m (Master o i)) rings (time_in inside) version status
     pub helped : IsPastHelp clocks inside
     pub death : IsBeforeDeath (time_in inside) status
-    pub below : (dead : Option ℕ) (y : Version) (st : Status) → status ≡ Aborted dead → Names rings version.previous y st → IsBeforeDeath (time_in inside) st
+    pub below : (dead : Option ℕ) (y : Version) (st : WriteSetStatus) → status ≡ Aborted dead → Names rings version.previous y st
+        → IsBeforeDeath (time_in inside) st
     pub first : (first : ℕ) → stand.first ≡ Some first → first ≡ version.first
     pub stamp : (found : ℕ) → stand.stamp ≡ Some found → found < 2 ^ 63 → (note : CommitNote) × (status ≡ Committed note) × (note.time ≡ found)
     pub unset : (found : ℕ) (note : CommitNote) → stand.stamp ≡ Some found → IsUnset found → status ≡ Committed note → time_in inside < note.time
@@ -32,37 +33,38 @@ module _ (c : Config) (start : State) (m : Memory) (h : List Entry) (rings : ℕ
     pub late : (note : CommitNote) → stand.late ≡ true → status ≡ Committed note → time_in inside < note.time
 
   -- what is to be shown of where a walk is after its load: of a version all that, and of a master that it serves
-  abbrev pub WalksRight : Walk → Type 0
+  abbrev pub WalksRight : WalkStage → Type 0
   WalksRight walk.Nowhere = Unit {0}
   WalksRight (walk.At stand) = Standing stand
   WalksRight (walk.Master o) = MasterServes c start h (λ o i. m (Master o i)) rings (time_in inside) o × IsPastHelp clocks inside
 
-  stands_right : (y : Walk) → WalksRight y → StandsRight c start h (λ o i. m (Master o i)) rings (time_in inside) y
+  stands_right : (y : WalkStage) → WalksRight y → StandsRight c start h (λ o i. m (Master o i)) rings (time_in inside) y
   stands_right walk.Nowhere r = tt
   stands_right (walk.At stand) r = (r.version, r.status, r.names, r.object_is, r.may)
   stands_right (walk.Master o) r = r.0
 
-  standing_at : (y : Walk) → WalksRight y → (stand : Stand) → y ≡ walk.At stand → Standing stand
+  standing_at : (y : WalkStage) → WalksRight y → (stand : Stand) → y ≡ walk.At stand → Standing stand
   standing_at walk.Nowhere r stand e = absurd cc
   standing_at (walk.At at) r stand e = let same : at ≡ stand = cc in subst Standing same r
   standing_at (walk.Master o) r stand e = absurd cc
 
-  helped_there : (y : Walk) → WalksRight y → y ≢ walk.Nowhere → IsPastHelp clocks inside
+  helped_there : (y : WalkStage) → WalksRight y → y ≢ walk.Nowhere → IsPastHelp clocks inside
   helped_there walk.Nowhere r ne = absurd (ne refl)
   helped_there (walk.At stand) r ne = r.helped
   helped_there (walk.Master o) r ne = r.1
 
 -- a seat that stands somewhere is in a section
-section_by : (p : Phase) → time_of p ≢ None → (inside : Section) × (p ≡ Inside inside)
+section_by : (p : Phase) → time_of p ≢ None → (inside : OwnSection) × (p ≡ Inside inside)
 section_by Outside some = absurd (some refl)
 section_by (Lowered low) some = absurd (some refl)
 section_by (Marked low) some = absurd (some refl)
 section_by (Inside inside) some = (inside, refl)
 
-module _ {starts : State → Type 0} {allows : List ℕ → State → Writes → Type 0} {c : Config} {start : State} {m : Memory} {h : List Entry} (seats : ℕ → View)
+module _ {starts : State → Type 0} {allows : List ℕ → State → Writes → Type 0} {c : Config} {start : State} {m : Memory} {h : List Entry}
+    (seats : ℕ → Knowledge)
     (k : Facts starts allows c start m h (parts_of seats)) where
   -- the version that a link names is in the slot that it names
-  pub lives_named : (link : ℕ) (x : Version) (st : Status) → Names (λ s. (seats s).ring) link x st
+  pub lives_named : (link : ℕ) (x : Version) (st : WriteSetStatus) → Names (λ s. (seats s).ring) link x st
       → Lives (λ s. (seats s).ring) (link_seat_of link) (slot_named c link) x st
   lives_named link x st names =
       let p = names_place c h (λ s. (seats s).ring) k.checked k.history.in_time k.positions link x st names in
@@ -70,7 +72,7 @@ module _ {starts : State → Type 0} {allows : List ℕ → State → Writes →
       (subst (λ (i : ℕ). Lives (λ s. (seats s).ring) names.seat i x st) (sym p.1) names.lives)
 
   -- the words of that slot are those of the version
-  pub words_named : (link : ℕ) (x : Version) (st : Status) → Names (λ s. (seats s).ring) link x st
+  pub words_named : (link : ℕ) (x : Version) (st : WriteSetStatus) → Names (λ s. (seats s).ring) link x st
       → HoldsVersion (m (First (link_seat_of link) (slot_named c link))) (m (Prev (link_seat_of link) (slot_named c link)))
       (λ i. m (Data (link_seat_of link) (slot_named c link) i)) x
   words_named link x st names =
@@ -78,28 +80,29 @@ module _ {starts : State → Type 0} {allows : List ℕ → State → Writes →
       let i = slot_named c link in
       subst (HoldsSlot (m (First s i)) (m (Prev s i)) (λ w. m (Data s i w))) (lives_named link x st names) (k.slot_words s i)
 
-module _ {starts : State → Type 0} {allows : List ℕ → State → Writes → Type 0} {c : Config} {start : State} {m : Memory} {h : List Entry} (seats : ℕ → View)
-    (v : View) (k : Facts starts allows c start m h (parts_of seats)) (is : seats v.number ≡ v) where
+module _ {starts : State → Type 0} {allows : List ℕ → State → Writes → Type 0} {c : Config} {start : State} {m : Memory} {h : List Entry}
+    (seats : ℕ → Knowledge)
+    (v : Knowledge) (k : Facts starts allows c start m h (parts_of seats)) (is : seats v.number ≡ v) where
   abbrev pub rings : ℕ → Ring
   rings s = (seats s).ring
 
-  walk_is : (y : Walk) → v.walk ≡ y → (seats v.number).walk ≡ y
-  walk_is y e = ap (λ (u : View). u.walk) is ∙ e
+  walk_is : (y : WalkStage) → v.walk ≡ y → (seats v.number).walk ≡ y
+  walk_is y e = ap (λ (u : Knowledge). u.walk) is ∙ e
 
-  pub section_there : (stand : Stand) → v.walk ≡ walk.At stand → (inside : Section) × (v.phase ≡ Inside inside)
+  pub section_there : (stand : Stand) → v.walk ≡ walk.At stand → (inside : OwnSection) × (v.phase ≡ Inside inside)
   section_there stand at =
       section_by v.phase (λ none.
       let nowhere : walk.At stand ≡ walk.Nowhere = sym (walk_is (walk.At stand) at) ∙
-      (k.phases_and_scan.outside v.number (ap (λ (u : View). time_of u.phase) is ∙ none)).0 in absurd cc)
+      (k.phases_and_scan.outside v.number (ap (λ (u : Knowledge). time_of u.phase) is ∙ none)).0 in absurd cc)
 
-  module _ (inside : Section) (phase : v.phase ≡ Inside inside) where
+  module _ (inside : OwnSection) (phase : v.phase ≡ Inside inside) where
     at_time : (t : ℕ) → time_of (seats v.number).phase ≡ Some t → time_in inside ≡ t
     at_time t e = let same : Some (time_in inside) ≡ Some t = sym (time_is seats v inside k is phase) ∙ e in cc
 
-    at_section : (s : Section) → section_of (seats v.number).phase ≡ Some s → inside ≡ s
+    at_section : (s : OwnSection) → section_of (seats v.number).phase ≡ Some s → inside ≡ s
     at_section s e = let same : Some inside ≡ Some s = sym (section_is seats v inside k is phase) ∙ e in cc
 
-    once : (link : ℕ) (x y : Version) (st su : Status) → Names rings link x st → Names rings link y su → (x ≡ y) × (st ≡ su)
+    once : (link : ℕ) (x y : Version) (st su : WriteSetStatus) → Names rings link x st → Names rings link y su → (x ≡ y) × (st ≡ su)
     once link x y st su a b = let r = names_once c h rings k.checked k.history.in_time k.positions link x y st su a b in (r.2, r.3)
 
     -- all that is known of the version that the seat stands at
@@ -119,7 +122,7 @@ module _ {starts : State → Type 0} {allows : List ℕ → State → Writes →
           names = names;
           object_is = p.3;
           may = p.4;
-          helped = subst (λ (u : View). IsPastHelp u.clocks inside) is (k.walker_knowledge.helped n inside section somewhere);
+          helped = subst (λ (u : Knowledge). IsPastHelp u.clocks inside) is (k.walker_knowledge.helped n inside section somewhere);
           death = k.walker_before_death.here n (time_in inside) stand p.0 p.1 time there names;
           below = λ dead y st e below. k.walker_before_death.below n (time_in inside) stand p.0 y dead st time there
               (subst (Names rings stand.link p.0) e names) below;
@@ -133,8 +136,8 @@ module _ {starts : State → Type 0} {allows : List ℕ → State → Writes →
           late = λ note e st. k.walker_late n (time_in inside) stand p.0 note time there e (subst (Names rings stand.link p.0) st names);
         }
 
-    module _ (y : Walk) (right : WalksRight c start m h rings v.clocks inside y) where
-      abbrev walks : ℕ → Walk
+    module _ (y : WalkStage) (right : WalksRight c start m h rings v.clocks inside y) where
+      abbrev walks : ℕ → WalkStage
       walks = set_at (λ s. (seats s).walk) v.number y
 
       -- what is known of the seat's new walk, in the words of the facts
@@ -148,14 +151,15 @@ module _ {starts : State → Type 0} {allows : List ℕ → State → Writes →
           (stands_right c start m h rings v.clocks inside y right))
           (λ s ne. k.walker_place s t) s
 
-      death_here : (t : ℕ) (stand : Stand) (x : Version) (st : Status) → time_of (seats v.number).phase ≡ Some t → y ≡ walk.At stand
+      death_here : (t : ℕ) (stand : Stand) (x : Version) (st : WriteSetStatus) → time_of (seats v.number).phase ≡ Some t → y ≡ walk.At stand
           → Names rings stand.link x st → IsBeforeDeath t st
       death_here t stand x st e at names =
           let r = new_at stand at in
           let same = once stand.link r.version x r.status st r.names names in
           subst (λ (u : ℕ). IsBeforeDeath u st) (at_time t e) (subst (IsBeforeDeath (time_in inside)) same.1 r.death)
 
-      death_below : (t : ℕ) (stand : Stand) (x z : Version) (dead : Option ℕ) (st : Status) → time_of (seats v.number).phase ≡ Some t → y ≡ walk.At stand
+      death_below : (t : ℕ) (stand : Stand) (x z : Version) (dead : Option ℕ) (st : WriteSetStatus) → time_of (seats v.number).phase ≡ Some t
+          → y ≡ walk.At stand
           → Names rings stand.link x (Aborted dead) → Names rings x.previous z st → IsBeforeDeath t st
       death_below t stand x z dead st e at names below =
           let r = new_at stand at in
@@ -173,18 +177,18 @@ module _ {starts : State → Type 0} {allows : List ℕ → State → Writes →
             (death_below t stand x z dead st) (λ s ne. k.walker_before_death.below s t stand x z dead st) s;
       }
 
-      knows_helped : (s : Section) → section_of (seats v.number).phase ≡ Some s → y ≢ walk.Nowhere → IsPastHelp (seats v.number).clocks s
+      knows_helped : (s : OwnSection) → section_of (seats v.number).phase ≡ Some s → y ≢ walk.Nowhere → IsPastHelp (seats v.number).clocks s
       knows_helped s e ne =
-          subst (λ (u : View). IsPastHelp u.clocks s) (sym is)
+          subst (λ (u : Knowledge). IsPastHelp u.clocks s) (sym is)
           (subst (IsPastHelp v.clocks) (at_section s e) (helped_there c start m h rings v.clocks inside y right ne))
 
-      knows_first : (first : ℕ) (stand : Stand) (x : Version) (st : Status) → y ≡ walk.At stand → stand.first ≡ Some first → Names rings stand.link x st
+      knows_first : (first : ℕ) (stand : Stand) (x : Version) (st : WriteSetStatus) → y ≡ walk.At stand → stand.first ≡ Some first → Names rings stand.link x st
           → first ≡ x.first
       knows_first first stand x st at e names =
           let r = new_at stand at in
           r.first first e ∙ ap (λ (o : Version). o.first) (once stand.link r.version x r.status st r.names names).0
 
-      knows_stamp : (found : ℕ) (stand : Stand) (x : Version) (st : Status) → y ≡ walk.At stand → stand.stamp ≡ Some found → found < 2 ^ 63
+      knows_stamp : (found : ℕ) (stand : Stand) (x : Version) (st : WriteSetStatus) → y ≡ walk.At stand → stand.stamp ≡ Some found → found < 2 ^ 63
           → Names rings stand.link x st → (note : CommitNote) × (st ≡ Committed note) × (note.time ≡ found)
       knows_stamp found stand x st at e low names =
           let r = new_at stand at in
@@ -213,7 +217,7 @@ module _ {starts : State → Type 0} {allows : List ℕ → State → Writes →
             (knows_unset t found stand x note) (λ s ne. k.walker_knowledge.unset s t found stand x note) s;
       }
 
-      falls_there : (stand : Stand) (x : Version) (st : Status) → y ≡ walk.At stand → HasPassed stand.passed → (names : Names rings stand.link x st)
+      falls_there : (stand : Stand) (x : Version) (st : WriteSetStatus) → y ≡ walk.At stand → HasPassed stand.passed → (names : Names rings stand.link x st)
           → (note : CommitNote) × (st ≡ Committed note) × (stamp_of c (λ s k. m (Stamp s k)) names.seat x ≡ note.time) × IsBelowPassed note.time stand.passed
       falls_there stand x st at passed names =
           let r = new_at stand at in
@@ -256,7 +260,7 @@ module _ {starts : State → Type 0} {allows : List ℕ → State → Writes →
           (λ s ne. k.phases_and_scan.outside s)
 
       -- all facts after a load of a walk, which moves the walk and may change what was seen or which heads were found empty
-      pub walked : (w : View) (p : Option Past) (e : Option (List EmptyHead)) → Fits v w (record unchanged { past = p; walk = Some y; empty = e })
+      pub walked : (w : Knowledge) (p : Option Past) (e : Option (List EmptyHead)) → Fits v w (record unchanged { past = p; walk = Some y; empty = e })
           → History starts allows c start (m Clock) h (after (λ s. (seats s).past) v.number p)
           → ((s t : ℕ) → time_of (seats s).phase ≡ Some t → t ≤ c.base + length (after (λ s. (seats s).past) v.number p s).seen)
           → SucceededHasSuper c h (λ s k. m (Super s k)) (after (λ s. (seats s).empty) v.number e) rings

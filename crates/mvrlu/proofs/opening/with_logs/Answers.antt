@@ -2,7 +2,7 @@ use Rattle.std.proofs.Common.{◌≡◌, ℕ, ◌<◌, length, sym, ◌∙◌, s
 use Rattle.mv_layout.specs.declared.Config.{Config}
 use Rattle.object_lock.specs.mv_core.Passes.{config_of}
 use Rattle.object_lock.specs.seat_log.Notes.{nothing_noted}
-use Rattle.mvrlu.specs.declared.places.Place.{Place}
+use Rattle.mvrlu.specs.declared.places.SeatState.{SeatState}
 use Rattle.mvrlu.specs.Readiness.{IsNewPass, AreReady}
 use Rattle.mvrlu.proofs.Started.{new_front, new_last, ready_next}
 use Rattle.mvrlu.proofs.opening.with_logs.Goals as goal
@@ -32,6 +32,6 @@ loop-pass-preserved g c =
       new = new_front s left c.loop-pass.passes.items p c.in-Some.ensures.items c.loop-pass.invariant.new;
       ready = subst (AreReady s) (sym c.in_ok-push.ensures.items)
           (ready_next s c.loop-pass.ready.items (record { place = c.in_ok-place.place }) (length left) c.loop-pass.invariant.ready (omega arith)
-          (subst (λ (v : Place g.row.P.Denot g.P.Protocol). IsNewPass s (length left) v.pass × (v.log ≡ nothing_noted (length left) (config_of s).slots))
+          (subst (λ (v : SeatState g.row.P.Denot g.P.Protocol). IsNewPass s (length left) v.pass × (v.log ≡ nothing_noted (length left) (config_of s).slots))
           (sym c.in_ok-place.ensures.ok) (is, c.in_ok-log.ensures ∙ (λ i. nothing_noted (number i) (c.config.ensures i).slots))));
     }

@@ -1,6 +1,6 @@
 use Rattle.std.proofs.Common.{ℕ, [], sym, ap, ◌∙◌, subst}
 use Rattle.std.specs.Prelude.{unwrap_or}
-use Rattle.seat_log.specs.mv_core.declared.view.View.{View}
+use Rattle.seat_log.specs.mv_core.declared.view.Knowledge.{Knowledge}
 use Rattle.seat_log.specs.mv_core.Passes.{view, config_of}
 use Rattle.object_lock.specs.Locks.{built_words, AreFew, AnswersWith}
 use Rattle.version_chain.specs.Reads.{words_in}
@@ -32,13 +32,13 @@ returns-in-Ok-clause-answers g c =
     let rest = begun.tries.rest in
     let words = built_words c.start.new.log in
     let made = made_answers config v w begun.keeps x c.in-Ok.started.object words c.lock_end.result begun.tries.trail.0
-    begun.tries.trail.1 (ap (λ (u : View). u.number) rest)
-    (ap (λ (u : View). u.phase) rest) begun.started.room c.lock_end.ensures.outcome.1.makes in
+    begun.tries.trail.1 (ap (λ (u : Knowledge). u.number) rest)
+    (ap (λ (u : Knowledge). u.phase) rest) begun.started.room c.lock_end.ensures.outcome.1.makes in
     let ended = c.lock_end.ensures.outcome.1 in
     let stay = ended.tries.rest in
     answers_of config v x c.args.object words (unwrap_or c.args.given (words_in config x c.args.object)) c.lock_end.result
     (λ held. begun.started.words_are ∙ ap (unwrap_or c.args.given)
-    (sym (words_stay config w x c.args.object (ap (λ (u : View). u.start) stay) (ended.sees held) (ap (λ (u : View). u.phase) stay))))
+    (sym (words_stay config w x c.args.object (ap (λ (u : Knowledge). u.start) stay) (ended.sees held) (ap (λ (u : Knowledge). u.phase) stay))))
     (subst (λ (o : ℕ). AnswersWith config v x o words c.lock_end.result) begun.started.object_is made)
 
 pub returns-in-Err-clause-tries : goal.returns-in-Err-clause-tries

@@ -10,7 +10,7 @@ use Rattle.object_lock.proofs.Looks.{later_commit, head_bound, master_bound, loo
 use mathlib.Core.Logic.{dite}
 use native.Mathlib.Decide.{dec_lt}
 use Rattle.object_lock.specs.Tops.{Tries, FoundHeld}
-use Rattle.seat_log.specs.mv_core.declared.view.View.{View}
+use Rattle.seat_log.specs.mv_core.declared.view.Knowledge.{Knowledge}
 use Rattle.seat_log.specs.mv_core.declared.view.Passed.TheVariants.{Nothing}
 use Rattle.version_chain.specs.Reads.{words_in}
 use Rattle.seat_log.proofs.OwnSlots.{same_on, of_still}
@@ -119,7 +119,7 @@ read_master-requires-clause-may g c =
 pub read_master-requires-clause-stands : goal.read_master-requires-clause-stands
 read_master-requires-clause-stands g c =
     at_master (view c.load_head-link.new.pass) c.args.object c.load_head-link.result Nothing c.if-link-eq0.true
-    (ap (λ (u : View). u.walk) c.load_head-link.ensures.view)
+    (ap (λ (u : Knowledge). u.walk) c.load_head-link.ensures.view)
 
 pub stamp_at-stamp-requires-clause-of : goal.stamp_at-stamp-requires-clause-of
 stamp_at-stamp-requires-clause-of g c = of_still c.args.shared.now c.args.pass.now c.load_head-link.new.pass c.load_head-link.ensures.same c.requires.of
@@ -147,11 +147,11 @@ pub returns-then-link-eq0-clause-answers : goal.returns-then-link-eq0-clause-ans
 returns-then-link-eq0-clause-answers g c =
     let read = c.read_master.ensures.reads.rest in (
       inl (
-        ap (λ (u : View). u.walk) read ∙ at_master (view c.load_head-link.new.pass) c.args.object c.load_head-link.result Nothing c.if-link-eq0.true
-            (ap (λ (u : View). u.walk) c.load_head-link.ensures.view),
+        ap (λ (u : Knowledge). u.walk) read ∙ at_master (view c.load_head-link.new.pass) c.args.object c.load_head-link.result Nothing c.if-link-eq0.true
+            (ap (λ (u : Knowledge). u.walk) c.load_head-link.ensures.view),
         refl,
       ),
-      c.read_master.ensures.words ∙ sym (ap (λ (u : View). words_in (config_of c.args.shared.now) u c.args.object) read)
+      c.read_master.ensures.words ∙ sym (ap (λ (u : Knowledge). words_in (config_of c.args.shared.now) u c.args.object) read)
           ∙ ap (λ given. unwrap_or given (words_in (config_of c.args.shared.now) (view c.read_master.new.pass) c.args.object)) (sym c.in_default.is),
       λ some. absurd (some refl),
     )
@@ -161,7 +161,7 @@ returns-then-link-eq0-clause-may g c = c.read_master.ensures.may
 
 pub returns-then-link-eq0-clause-ring : goal.returns-then-link-eq0-clause-ring
 returns-then-link-eq0-clause-ring g c =
-    ap (λ (u : View). u.ring) c.read_master.ensures.reads.rest ∙ ap (λ (u : View). u.ring) c.load_head-link.ensures.view
+    ap (λ (u : Knowledge). u.ring) c.read_master.ensures.reads.rest ∙ ap (λ (u : Knowledge). u.ring) c.load_head-link.ensures.view
 
 pub returns-then-link-eq0-clause-same : goal.returns-then-link-eq0-clause-same
 returns-then-link-eq0-clause-same g c =
@@ -176,7 +176,7 @@ returns-then-stamp-time-clause-may g c = c.stamp_at-stamp.ensures.may
 
 pub returns-then-stamp-time-clause-ring : goal.returns-then-stamp-time-clause-ring
 returns-then-stamp-time-clause-ring g c =
-    ap (λ (u : View). u.ring) c.stamp_at-stamp.ensures.looked.view ∙ ap (λ (u : View). u.ring) c.load_head-link.ensures.view
+    ap (λ (u : Knowledge). u.ring) c.stamp_at-stamp.ensures.looked.view ∙ ap (λ (u : Knowledge). u.ring) c.load_head-link.ensures.view
 
 pub returns-then-stamp-time-clause-same : goal.returns-then-stamp-time-clause-same
 returns-then-stamp-time-clause-same g c =
@@ -190,8 +190,8 @@ returns-clause-may g c = c.read_version.ensures.may
 
 pub returns-clause-ring : goal.returns-clause-ring
 returns-clause-ring g c =
-    ap (λ (u : View). u.ring) c.read_version.ensures.reads.rest ∙ ap (λ (u : View). u.ring) c.stamp_at-stamp.ensures.looked.view ∙ ap
-    (λ (u : View). u.ring) c.load_head-link.ensures.view
+    ap (λ (u : Knowledge). u.ring) c.read_version.ensures.reads.rest ∙ ap (λ (u : Knowledge). u.ring) c.stamp_at-stamp.ensures.looked.view ∙ ap
+    (λ (u : Knowledge). u.ring) c.load_head-link.ensures.view
 
 pub returns-clause-same : goal.returns-clause-same
 returns-clause-same g c =
@@ -218,7 +218,7 @@ pub returns-in-Some-clause-answers : goal.returns-in-Some-clause-answers
 returns-in-Some-clause-answers g c = (
   inl (
     at_master (view c.load_head-link.new.pass) c.args.object c.load_head-link.result Nothing c.if-link-eq0.true
-        (ap (λ (u : View). u.walk) c.load_head-link.ensures.view),
+        (ap (λ (u : Knowledge). u.walk) c.load_head-link.ensures.view),
     refl,
   ),
   ap (λ given. unwrap_or given (words_in (config_of c.args.shared.now) (view c.load_head-link.new.pass) c.args.object)) (sym c.in-Some.is),

@@ -1,5 +1,5 @@
 use Rattle.std.proofs.Common.{ap, subst, sym}
-use Rattle.seat_log.specs.mv_core.declared.view.View.{View}
+use Rattle.seat_log.specs.mv_core.declared.view.Knowledge.{Knowledge}
 use Rattle.seat_log.specs.mv_core.Passes.{view, config_of}
 use Rattle.object_lock.specs.Writes.{Stores}
 use Rattle.object_lock.proofs.Holding.{may_same}
@@ -19,8 +19,8 @@ put_words-requires-clause-held g c =
 pub returns-clause-may : goal.returns-clause-may
 returns-clause-may g c =
     let r = c.put_words.ensures.rest in
-    may_same (view c.args.pass.now) (view c.put_words.new.pass) (ap (λ (u : View). u.phase) r) (ap (λ (u : View). u.clocks) r)
-    (ap (λ (u : View). u.back) r) c.requires.may
+    may_same (view c.args.pass.now) (view c.put_words.new.pass) (ap (λ (u : Knowledge). u.phase) r) (ap (λ (u : Knowledge). u.clocks) r)
+    (ap (λ (u : Knowledge). u.back) r) c.requires.may
 
 pub returns-clause-own : goal.returns-clause-own
 returns-clause-own g c =
@@ -35,7 +35,7 @@ returns-clause-spare g c =
 
 pub returns-clause-stores : goal.returns-clause-stores
 returns-clause-stores g c =
-    subst (λ (w : View). Stores (view c.args.pass.now) w 6) (sym c.put_words.ensures.view)
+    subst (λ (w : Knowledge). Stores (view c.args.pass.now) w 6) (sym c.put_words.ensures.view)
     (puts_store (config_of c.args.shared.now) (view c.args.pass.now) c.position_of-position.result 6 c.args.words)
 
 pub returns-clause-same : goal.returns-clause-same

@@ -4,7 +4,7 @@ use Rattle.std.specs.Prelude.{All}
 use Rattle.mv_history.specs.declared.Entry.{Entry}
 use Rattle.mv_history.specs.State.{maker_of}
 use Rattle.mv_layout.specs.declared.Config.{Config}
-use Rattle.commit_clock.specs.mv_core.declared.view.View.{View}
+use Rattle.commit_clock.specs.mv_core.declared.view.Knowledge.{Knowledge}
 use Rattle.commit_clock.specs.mv_core.Passes.{view, config_of}
 use Rattle.reader_marks.specs.declared.scanning.Lowest.{Lowest}
 use Rattle.reader_marks.specs.Lowering.{Looks}
@@ -17,16 +17,17 @@ loop-seat-init g c =
       a.same,
       looks_first (config_of c.args.shared.now) (view c.args.pass.now) (view c.load_scan.new.pass) c.load_scan.result c.clock_time-clock.result
           c.args.steps.now c.load_scan.new.steps a.view.0 a.view.1 a.view.2 c.clock_time-clock.ensures a.step,
-      subst (λ (h : List Entry). All (λ e. maker_of e < (config_of c.args.shared.now).seats) h) (sym (ap (λ (u : View). u.past.seen) a.view.2)) a.view.1.2,
+      subst (λ (h : List Entry). All (λ e. maker_of e < (config_of c.args.shared.now).seats) h) (sym (ap (λ (u : Knowledge). u.past.seen) a.view.2)) a.view.1.2,
     )
 
 -- every entry that is seen is by a seat of the domain, also where the same is seen later
-makers_on : (c : Config) (v w : View) → w.past.seen ≡ v.past.seen → All (λ e. maker_of e < c.seats) v.past.seen → All (λ e. maker_of e < c.seats) w.past.seen
+makers_on : (c : Config) (v w : Knowledge) → w.past.seen ≡ v.past.seen → All (λ e. maker_of e < c.seats) v.past.seen
+    → All (λ e. maker_of e < c.seats) w.past.seen
 makers_on c v w is = subst (λ (h : List Entry). All (λ e. maker_of e < c.seats) h) (sym is)
 
 -- the number of a seat stays
-number_is : (c : Config) (v w : View) (clock n : ℕ) (l : Lowest) (before after : ℕ) → Looks c v w clock n l before after → w.number ≡ v.number
-number_is c v w clock n l before after k = ap (λ (u : View). u.number) k.view
+number_is : (c : Config) (v w : Knowledge) (clock n : ℕ) (l : Lowest) (before after : ℕ) → Looks c v w clock n l before after → w.number ≡ v.number
+number_is c v w clock n l before after k = ap (λ (u : Knowledge). u.number) k.view
 
 pub look_at-lowest-requires-clause-may : goal.look_at-lowest-requires-clause-may
 look_at-lowest-requires-clause-may g c =
@@ -51,7 +52,7 @@ loop-seat-preserved g c =
           let looks = looks_own _ _ _ _ _ _ _ _ k (e ∙ at) in
           subst (λ (x : Lowest). Looks (config_of c.args.shared.now) (view c.args.pass.now) (view c.look_at-lowest.new.pass) c.clock_time-clock.result
           (c.loop-seat.seat + 1) x c.args.steps.now c.look_at-lowest.new.steps) (sym o.0)
-          (subst (λ (u : View). Looks (config_of c.args.shared.now) (view c.args.pass.now) u c.clock_time-clock.result (c.loop-seat.seat + 1)
+          (subst (λ (u : Knowledge). Looks (config_of c.args.shared.now) (view c.args.pass.now) u c.clock_time-clock.result (c.loop-seat.seat + 1)
           c.loop-seat.lowest c.args.steps.now c.look_at-lowest.new.steps) (sym o.1)
           (subst (Looks (config_of c.args.shared.now) (view c.args.pass.now) (view c.loop-seat.pass) c.clock_time-clock.result (c.loop-seat.seat + 1)
           c.loop-seat.lowest c.args.steps.now) (sym o.2) looks)))
@@ -62,7 +63,7 @@ loop-seat-preserved g c =
           (looks_other _ _ _ _ _ _ _ _ k (view c.look_at-lowest.new.pass) o.0 c.look_at-lowest.new.steps o.1 lt (λ e. ne (e ∙ sym at)) o.2 o.4 o.5))
           (cases_eq c.loop-seat.seat (view c.loop-seat.pass).number),
       makers_on (config_of c.args.shared.now) (view c.loop-seat.pass) (view c.look_at-lowest.new.pass)
-          (⊎_elim (λ e. ap (λ (u : View). u.past.seen) (t.own e).1) (λ ne. ap (λ (u : View). u.past.seen) (t.other ne).4)
+          (⊎_elim (λ e. ap (λ (u : Knowledge). u.past.seen) (t.own e).1) (λ ne. ap (λ (u : Knowledge). u.past.seen) (t.other ne).4)
           (cases_eq c.loop-seat.seat (view c.loop-seat.pass).number))
           c.loop-seat.invariant.2,
     )
@@ -83,7 +84,7 @@ returns-clause-scans g c =
 pub returns-clause-makers : goal.returns-clause-makers
 returns-clause-makers g c =
     makers_on (config_of c.args.shared.now) (view c.loop-seat.pass) (view c.raise_grace-found.new.pass)
-    (ap (λ (u : View). u.past.seen) c.raise_grace-found.ensures.view) c.loop-seat.invariant.2
+    (ap (λ (u : Knowledge). u.past.seen) c.raise_grace-found.ensures.view) c.loop-seat.invariant.2
 
 pub returns-clause-cost : goal.returns-clause-cost
 returns-clause-cost g c = scan_cost _ _ _ _ _ _ _ (returns-clause-scans g c)

@@ -1,5 +1,5 @@
 use Rattle.std.proofs.Common.{◌+◌, length, sym, ap, ◌∙◌, arith}
-use Rattle.commit_clock.specs.mv_core.declared.view.View.{View}
+use Rattle.commit_clock.specs.mv_core.declared.view.Knowledge.{Knowledge}
 use Rattle.commit_clock.specs.mv_core.Passes.{view, config_of}
 use Rattle.reader_marks.proofs.EnterHears.{time_seen, hears_entered}
 use Rattle.reader_marks.proofs.Entered.{begins, last_found}
@@ -21,7 +21,7 @@ returns-clause-hears g c =
     let help = c.help_clock-last.ensures in
     let word = c.enter_time-word.result in
     let last = last_found d (view c.enter_time-word.new.pass) (view c.help_clock-last.new.pass) word c.help_clock-last.result
-    (t.view.1.1 ∙ ap (λ (u : View). d.base + length u.past.seen) (sym t.view.2)) help.clock c.unwrap_or.result c.unwrap_or.ensures in
+    (t.view.1.1 ∙ ap (λ (u : Knowledge). d.base + length u.past.seen) (sym t.view.2)) help.clock c.unwrap_or.result c.unwrap_or.ensures in
     hears_entered d (view c.args.pass.now) (view c.enter_low-low.new.pass) (view c.enter_mark.new.pass) (view c.enter_time-word.new.pass)
     (view c.help_clock-last.new.pass) low.0 _ word c.unwrap_or.result c.clock_time-2.result t.view.0 c.help_clock-last.result low.2
     c.enter_mark.ensures.view t.view.2 help.hears c.unwrap_or.ensures c.clock_time-2.ensures
@@ -34,7 +34,7 @@ returns-clause-last g c =
     let t = c.enter_time-word.ensures in
     c.clock_time-2.ensures
     ∙ last_found d (view c.enter_time-word.new.pass) (view c.help_clock-last.new.pass) c.enter_time-word.result c.help_clock-last.result
-    (t.view.1.1 ∙ ap (λ (u : View). d.base + length u.past.seen) (sym t.view.2)) c.help_clock-last.ensures.clock c.unwrap_or.result c.unwrap_or.ensures
+    (t.view.1.1 ∙ ap (λ (u : Knowledge). d.base + length u.past.seen) (sym t.view.2)) c.help_clock-last.ensures.clock c.unwrap_or.result c.unwrap_or.ensures
 
 pub help_clock-last-requires-clause-loaded : goal.help_clock-last-requires-clause-loaded
 help_clock-last-requires-clause-loaded g c = c.enter_time-word.ensures.loaded

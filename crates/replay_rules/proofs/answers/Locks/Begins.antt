@@ -2,17 +2,17 @@
 use Rattle.std.proofs.Common.{◌≡◌, ◌≢◌, ℕ, ◌+◌, ◌==◌, true, false, List, [], length, Some, None, refl, ap, arith, eqb-true, if◌then◌else◌}
 use Rattle.mv_history.specs.declared.answers.LockAnswer.TheVariants as refusals
 use Rattle.mv_core.proofs.Terms.{Config, Checked}
-use Rattle.mv_core.specs.declared.view.View.{View}
+use Rattle.mv_core.specs.declared.view.Knowledge.{Knowledge}
 use Rattle.seat_log.specs.Notes.{Noted, built_count}
 use Rattle.object_lock.specs.Locks.{HoldsObject}
 use Rattle.object_lock.proofs.Looks.{none_tried}
 use Rattle.object_lock.proofs.Locked.{held_some, held_none, lacks_is, full_is, not_full, spare_is}
 use Rattle.replay_rules.specs.declared.plan.Call.TheVariants.{Lock}
-use Rattle.replay_rules.specs.declared.seats.Version.{Version}
+use Rattle.replay_rules.specs.declared.seats.NotedVersion.{NotedVersion}
 use Rattle.replay_rules.specs.declared.seats.State.{State}
 use Rattle.replay_rules.specs.declared.seats.Walking.TheVariants as walks
-use Rattle.replay_rules.specs.declared.seats.Task.TheVariants.{Walks}
-use Rattle.replay_rules.specs.declared.seats.Answer.TheVariants.{Locked}
+use Rattle.replay_rules.specs.declared.seats.NextStep.TheVariants.{Walks}
+use Rattle.replay_rules.specs.declared.seats.CallAnswer.TheVariants.{Locked}
 use Rattle.replay_rules.specs.declared.seats.Then.TheVariants.{Goes, Ends}
 use Rattle.replay_rules.specs.SeatNotes.{place_held, holds, held, live}
 use Rattle.replay_rules.specs.Begins.{begin_lock, new_sweep}
@@ -26,7 +26,8 @@ use Rattle.replay_rules.proofs.answers.Progress.{Comes, state_with, BeginsSo}
 use Rattle.replay_rules.proofs.answers.HeldObjects.{from_low, held_there, none_held}
 use Rattle.replay_rules.proofs.answers.Locks.Far.{LockFar}
 
-module _ (o : ℕ) (c : Config) (k : Checked c) (n : ℕ) (v : View) (log : List Version) (freed from t : ℕ) (inside : InSection c v log freed from (Some t)) where
+module _ (o : ℕ) (c : Config) (k : Checked c) (n : ℕ) (v : Knowledge) (log : List NotedVersion) (freed from t : ℕ)
+    (inside : InSection c v log freed from (Some t)) where
   abbrev l : Noted
   l = inside.logs.noted
 

@@ -6,18 +6,18 @@ use Rattle.std.proofs.lemmas.List.{length-set}
 use Rattle.mv_history.specs.declared.Step.{Step}
 use Rattle.mv_core.proofs.Terms.{Config, Checked}
 use Rattle.mv_core.specs.declared.ring.Build as core
-use Rattle.mv_core.specs.declared.view.View.{View}
+use Rattle.mv_core.specs.declared.view.Knowledge.{Knowledge}
 use Rattle.mv_core.specs.LockSteps.{nothing_built, built_too, built_stored}
-use Rattle.mv_core.specs.Moves.{Moment, Kind, store_built}
+use Rattle.mv_core.specs.Moves.{Moment, MoveKind, store_built}
 use Rattle.seat_log.specs.Builds.{build_at}
 use Rattle.object_lock.specs.Locks.{lost_step, KeepsOwn}
 use Rattle.object_lock.proofs.Holding.{own_kept}
 use Rattle.replay_rules.specs.declared.plan.Call.TheVariants.{Lock}
-use Rattle.replay_rules.specs.declared.seats.Version.{Version}
+use Rattle.replay_rules.specs.declared.seats.NotedVersion.{NotedVersion}
 use Rattle.replay_rules.specs.declared.seats.State.{State}
 use Rattle.replay_rules.specs.declared.seats.Locking.{Locking}
 use Rattle.replay_rules.specs.declared.seats.Locking.TheVariants.{Build, LockHead, ClearPrevious}
-use Rattle.replay_rules.specs.declared.seats.Task.TheVariants.{Locks}
+use Rattle.replay_rules.specs.declared.seats.NextStep.TheVariants.{Locks}
 use Rattle.replay_rules.specs.declared.seats.Then.TheVariants.{Goes}
 use Rattle.replay_rules.specs.States.{Made, state_of}
 use Rattle.replay_rules.specs.Tasks.{field_word}
@@ -34,7 +34,7 @@ use Rattle.replay_rules.proofs.answers.Seen.{all_seen}
 use Rattle.replay_rules.proofs.answers.Locks.Far.{HasDone, LockFar, done_more, load_done}
 
 -- a section holds the same where its notes are the same
-logs_keep : (c : Config) (v w : View) (log : List Version) (freed from : ℕ) → Logs c v log freed from → Logs c w log freed from → KeepsOwn c v w
+logs_keep : (c : Config) (v w : Knowledge) (log : List NotedVersion) (freed from : ℕ) → Logs c v log freed from → Logs c w log freed from → KeepsOwn c v w
 logs_keep c v w log freed from a b =
     own_kept c v w a.noted b.noted a.stands b.stands (b.is.live ∙ sym a.is.live) (let x = a.is.held in let y = b.is.held in omega (arith, x, y))
 
@@ -46,17 +46,17 @@ wide_too b (suc (suc zero)) x wide = wide
 wide_too b (suc (suc (suc zero))) x wide = wide
 wide_too b (suc (suc (suc (suc w)))) x wide = length-set b.words w (Some x) ∙ wide
 
-module _ (o : ℕ) (c : Config) (k : Checked c) (n : ℕ) (made : List Made) (log : List Version) (freed from : ℕ) (time : Option ℕ) (u : View)
-    (inside : InSection c ((state_of c made).seats n) log freed from time) (room : length log < freed + c.slots) (notes : List Version) (state : State)
-    (version : Version) (at : ℕ) (at_is : at ≡ length log) (same : version.object ≡ o) where
+module _ (o : ℕ) (c : Config) (k : Checked c) (n : ℕ) (made : List Made) (log : List NotedVersion) (freed from : ℕ) (time : Option ℕ) (u : Knowledge)
+    (inside : InSection c ((state_of c made).seats n) log freed from time) (room : length log < freed + c.slots) (notes : List NotedVersion) (state : State)
+    (version : NotedVersion) (at : ℕ) (at_is : at ≡ length log) (same : version.object ≡ o) where
   abbrev s : Moment
   s = state_of c made
 
-  abbrev v : View
+  abbrev v : Knowledge
   v = s.seats n
 
   -- the step of the core is of this kind
-  abbrev Steps : Locking → Kind → Type 0
+  abbrev Steps : Locking → MoveKind → Type 0
   Steps next kind = IsStepOf c made (step_of n kind) n (Locks version at next)
 
   -- a store leaves what is held

@@ -8,10 +8,10 @@ use Rattle.mv_layout.specs.Places.{place_of}
 use Rattle.mv_layout.specs.Words.{link_of, link_seat_of}
 use Rattle.mv_core.proofs.Terms.{Config, Checked, Head}
 use Rattle.mv_core.specs.declared.ring.Build as core
-use Rattle.mv_core.specs.declared.view.View.{View}
-use Rattle.mv_core.specs.declared.view.Section.{Section}
+use Rattle.mv_core.specs.declared.view.Knowledge.{Knowledge}
+use Rattle.mv_core.specs.declared.view.OwnSection.{OwnSection}
 use Rattle.mv_core.specs.declared.view.Passed.TheVariants.{Nothing}
-use Rattle.mv_core.specs.declared.view.Walk as walking
+use Rattle.mv_core.specs.declared.view.WalkStage as walking
 use Rattle.mv_core.specs.Rings.{own_of}
 use Rattle.mv_core.specs.WalkSteps.{IsLinkOf}
 use Rattle.mv_core.specs.LockSteps.{MayLock, head_locked, lock_lost}
@@ -23,11 +23,11 @@ use Rattle.version_chain.specs.Walks.{stand_of}
 use Rattle.version_chain.specs.Reads.{words_in}
 use Rattle.object_lock.specs.Locks.{lost_step, AreFew}
 use Rattle.replay_rules.specs.declared.plan.Call.TheVariants.{Lock}
-use Rattle.replay_rules.specs.declared.seats.Version.{Version}
+use Rattle.replay_rules.specs.declared.seats.NotedVersion.{NotedVersion}
 use Rattle.replay_rules.specs.declared.seats.State.{State}
 use Rattle.replay_rules.specs.declared.seats.Locking.TheVariants.{ClearPrevious, FoundFirst}
-use Rattle.replay_rules.specs.declared.seats.Task.TheVariants.{Locks}
-use Rattle.replay_rules.specs.declared.seats.Answer.TheVariants.{Locked}
+use Rattle.replay_rules.specs.declared.seats.NextStep.TheVariants.{Locks}
+use Rattle.replay_rules.specs.declared.seats.CallAnswer.TheVariants.{Locked}
 use Rattle.replay_rules.specs.declared.seats.Then.TheVariants.{Goes, Ends}
 use Rattle.replay_rules.specs.GoesOn.{after_lock_head}
 use Rattle.replay_rules.specs.States.{any_commit, any_start, zeros, Made, state_of, AreMade}
@@ -40,14 +40,14 @@ use Rattle.replay_rules.proofs.answers.Seen.{all_seen}
 use Rattle.replay_rules.proofs.answers.Locks.Far.{HasDone, HasLost, HasBuilt, LockFar, done_more, tries_more, one_done, found_now}
 use Rattle.replay_rules.proofs.answers.Locks.Refusals.{same_number}
 
-module _ (o : ℕ) (c : Config) (k : Checked c) (n : ℕ) (lt : n < c.seats) (made : List Made) (each : AreMade c made) (u : View)
-    (notes : List Version) (state : State) (version : Version) (at : ℕ) (same : version.object ≡ o) (build : core.Build) (i : Section)
+module _ (o : ℕ) (c : Config) (k : Checked c) (n : ℕ) (lt : n < c.seats) (made : List Made) (each : AreMade c made) (u : Knowledge)
+    (notes : List NotedVersion) (state : State) (version : NotedVersion) (at : ℕ) (same : version.object ≡ o) (build : core.Build) (i : OwnSection)
     (may : MayLock c c.write_max ((state_of c made).seats n) version.object version.previous at version.words build i)
     (reads : version.words ≡ words_in c ((state_of c made).seats n) version.object) where
   abbrev s : Moment
   s = state_of c made
 
-  abbrev v : View
+  abbrev v : Knowledge
   v = s.seats n
 
   abbrev p : ℕ
@@ -57,10 +57,10 @@ module _ (o : ℕ) (c : Config) (k : Checked c) (n : ℕ) (lt : n < c.seats) (ma
   found = (state_of c made).memory (Head version.object)
 
   -- the views behind a won exchange, and behind a lost one
-  abbrev won : View
+  abbrev won : Knowledge
   won = head_locked c ((state_of c made).seats n) version.object version.previous at version.words
 
-  abbrev lost : View
+  abbrev lost : Knowledge
   lost = lock_lost c ((state_of c made).seats n) version.object ((state_of c made).memory (Head version.object))
 
   abbrev won_step : Step
@@ -136,7 +136,7 @@ module _ (o : ℕ) (c : Config) (k : Checked c) (n : ℕ) (lt : n < c.seats) (ma
               (lost_done most tried done);
           found = found_now c u v lost version.object found most tried kinds.LockHead done refl (told.0 some);
           other = λ e. told.1 some (e ∙ sym number);
-          late = ap (λ (x : walking.Walk). (stand_of x).late) (sym (at_some version.object found Nothing true some));
+          late = ap (λ (x : walking.WalkStage). (stand_of x).late) (sym (at_some version.object found Nothing true some));
         }
 
     lost_so : HasBuilt c u v version.object version.previous → found ≢ 0 → HasLost c u lost version.object found 22 []
@@ -144,7 +144,7 @@ module _ (o : ℕ) (c : Config) (k : Checked c) (n : ℕ) (lt : n < c.seats) (ma
     lost_so (inr done) some = came_so some 21 (lost_step c p 0 ∷ []) done.1 (omega arith) (refl, refl)
 
   -- what comes behind the exchange
-  abbrev Comes_so : View → Bool → Type 0
+  abbrev Comes_so : Knowledge → Bool → Type 0
   Comes_so w b =
       Comes (LockFar o c n u w notes state) (AnswersSo c (Lock o) u w)
       (if b then Ends (Locked refusals.Held)

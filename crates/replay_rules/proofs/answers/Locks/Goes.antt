@@ -2,23 +2,23 @@
 use Rattle.std.proofs.Common.{◌≡◌, ℕ, ◌<◌, true, List, [], ◌∷◌, ◌++◌, Option, refl, sym, ap, ◌∙◌, subst, arith}
 use Rattle.mv_layout.specs.Words.{link_seat_of}
 use Rattle.mv_core.proofs.Terms.{Config, Checked, First, Stamp}
-use Rattle.mv_core.specs.declared.view.View.{View}
+use Rattle.mv_core.specs.declared.view.Knowledge.{Knowledge}
 use Rattle.mv_core.specs.declared.view.Stand.{Stand}
-use Rattle.mv_core.specs.declared.view.Walk as walking
-use Rattle.mv_core.specs.declared.view.Walk.TheVariants as walk
+use Rattle.mv_core.specs.declared.view.WalkStage as walking
+use Rattle.mv_core.specs.declared.view.WalkStage.TheVariants as walk
 use Rattle.mv_core.specs.Rings.{index_of}
 use Rattle.mv_core.specs.WalkSteps.{slot_named, IsWriteOf}
-use Rattle.mv_core.specs.Moves.{Moment, Kind, load_first, load_stamp}
+use Rattle.mv_core.specs.Moves.{Moment, MoveKind, load_first, load_stamp}
 use Rattle.mv_core.specs.Times.{words_of}
 use Rattle.mv_core.specs.Views.{time_in}
 use Rattle.version_chain.specs.Walks.{inside_of, stand_of}
 use Rattle.version_chain.specs.Reads.{words_in}
 use Rattle.replay_rules.specs.declared.plan.Call.TheVariants.{Lock}
-use Rattle.replay_rules.specs.declared.seats.Version.{Version}
+use Rattle.replay_rules.specs.declared.seats.NotedVersion.{NotedVersion}
 use Rattle.replay_rules.specs.declared.seats.State.{State}
 use Rattle.replay_rules.specs.declared.seats.Locking.{Locking}
 use Rattle.replay_rules.specs.declared.seats.Locking.TheVariants.{Build, LockHead, ClearPrevious, FoundFirst, FoundStamp}
-use Rattle.replay_rules.specs.declared.seats.Task.TheVariants.{Enters, Helps, Walks, Locks, Writes, EndsSection, Tidies}
+use Rattle.replay_rules.specs.declared.seats.NextStep.TheVariants.{Enters, Helps, Walks, Locks, Writes, EndsSection, Tidies}
 use Rattle.replay_rules.specs.Tasks.{locking_place, place_in_task}
 use Rattle.replay_rules.specs.SeatNotes.{applied}
 use Rattle.replay_rules.specs.Learns.{state_after, edit_of}
@@ -39,21 +39,21 @@ use Rattle.replay_rules.proofs.answers.Locks.Builds.{field_so, clear_so}
 use Rattle.replay_rules.proofs.answers.Locks.Exchanges.{exchange_so}
 
 -- behind its walk
-module _ (o : ℕ) (c : Config) (k : Checked c) (n : ℕ) (lt : n < c.seats) (made : List Made) (each : AreMade c made) (log : List Version)
-    (freed from : ℕ) (time : Option ℕ) (u : View) (notes : List Version) (state : State) (version : Version) (at : ℕ)
+module _ (o : ℕ) (c : Config) (k : Checked c) (n : ℕ) (lt : n < c.seats) (made : List Made) (each : AreMade c made) (log : List NotedVersion)
+    (freed from : ℕ) (time : Option ℕ) (u : Knowledge) (notes : List NotedVersion) (state : State) (version : NotedVersion) (at : ℕ)
     (same : version.object ≡ o) where
   abbrev s : Moment
   s = state_of c made
 
-  abbrev v : View
+  abbrev v : Knowledge
   v = s.seats n
 
   -- the step of the core is of this kind
-  abbrev Steps : Locking → Kind → Type 0
+  abbrev Steps : Locking → MoveKind → Type 0
   Steps next kind = IsStepOf c made (step_of n kind) n (Locks version at next)
 
   -- what comes behind it
-  abbrev Comes_so : Locking → Kind → Type 0
+  abbrev Comes_so : Locking → MoveKind → Type 0
   Comes_so next kind =
       Comes (LockFar o c n u (view_by c s n kind) notes state) (AnswersSo c (Lock o) u (view_by c s n kind))
       (after_locking next version at (s.memory (locking_place c n version.object at next)))
@@ -73,7 +73,7 @@ module _ (o : ℕ) (c : Config) (k : Checked c) (n : ℕ) (lt : n < c.seats) (ma
           found = found_on c u v w version.object link [] (first_step c link first) lost.found
               (ap (λ (x : ℕ). v.trail ++ first_step c x first ∷ []) m.link_is);
           other = lost.other;
-          late = ap (λ (x : walking.Walk). (stand_of x).late) (sym m.stands) ∙ lost.late;
+          late = ap (λ (x : walking.WalkStage). (stand_of x).late) (sym m.stands) ∙ lost.late;
         },
       )
 
@@ -89,7 +89,7 @@ module _ (o : ℕ) (c : Config) (k : Checked c) (n : ℕ) (lt : n < c.seats) (ma
       let is : walk.At there.stand ≡ walk.At stand = sym there.at ∙ m.stands in
       let one : there.stand ≡ stand = cc in
       let object : stand.object ≡ version.object = ap (λ (x : Stand). x.object) (sym one) ∙ there.object_is ∙ sym object_is in
-      let late : stand.late ≡ true = ap (λ (x : walking.Walk). (stand_of x).late) (sym m.stands) ∙ lost.late in
+      let late : stand.late ≡ true = ap (λ (x : walking.WalkStage). (stand_of x).late) (sym m.stands) ∙ lost.late in
       refusal_so (LockFar o c n u w notes state) c u w version.object o link first found 24 lost.tried inside.section same
       (load_done c u v w version.object 23 lost.tried _ lost.done told.sees.more refl tt refl refl (refl, refl)) (omega arith) lost.few
       (found_on c u v w version.object link (first_step c link first ∷ []) (stamp_step c link first found) lost.found
@@ -100,7 +100,7 @@ module _ (o : ℕ) (c : Config) (k : Checked c) (n : ℕ) (lt : n < c.seats) (ma
         subst (λ (q : ℕ). IsWriteOf c w.past.seen q found) object (told.write low),
       ))
 
-  locks_so : (next : Locking) → IsLocking c v log freed from time version at next → BuildFar c u v version.object version.previous next → (kind : Kind)
+  locks_so : (next : Locking) → IsLocking c v log freed from time version at next → BuildFar c u v version.object version.previous next → (kind : MoveKind)
       → Steps next kind → IsKindOfLocking version at next kind → Comes_so next kind
   locks_so (Build field) l far kind step is =
       subst (Comes_so (Build field)) (sym is.1)

@@ -5,10 +5,10 @@ use Rattle.mv_history.specs.declared.answers.LockAnswer.{LockAnswer}
 use Rattle.mv_history.specs.declared.answers.LockAnswer.TheVariants.{Held, Busy, Stale, SetFull, LogFull}
 use Rattle.mv_layout.specs.Words.{IsUnset, link_seat_of}
 use Rattle.mv_core.proofs.Terms.{Config}
-use Rattle.mv_core.specs.declared.view.View.{View}
+use Rattle.mv_core.specs.declared.view.Knowledge.{Knowledge}
 use Rattle.mv_core.specs.declared.view.Phase.{Phase}
 use Rattle.mv_core.specs.declared.view.Phase.TheVariants.{Inside}
-use Rattle.mv_core.specs.declared.view.Section.{Section}
+use Rattle.mv_core.specs.declared.view.OwnSection.{OwnSection}
 use Rattle.mv_core.specs.Views.{time_in}
 use Rattle.mv_core.specs.WalkSteps.{IsWriteOf}
 use Rattle.version_chain.specs.Walks.{inside_of}
@@ -16,8 +16,8 @@ use Rattle.object_lock.specs.Tops.{FoundHeld, IsRefused}
 use Rattle.object_lock.specs.Locks.{AreFew, HasRoom, LockAnswers}
 use Rattle.object_lock.proofs.Looks.{head_found}
 use Rattle.replay_rules.specs.declared.plan.Call.TheVariants.{Lock}
-use Rattle.replay_rules.specs.declared.seats.Task.{Task}
-use Rattle.replay_rules.specs.declared.seats.Answer.TheVariants.{Locked}
+use Rattle.replay_rules.specs.declared.seats.NextStep.{NextStep}
+use Rattle.replay_rules.specs.declared.seats.CallAnswer.TheVariants.{Locked}
 use Rattle.replay_rules.specs.declared.seats.Then.TheVariants.{Ends}
 use Rattle.replay_rules.specs.GoesOn.{is_unset, refusal}
 use Rattle.replay_rules.specs.LockAnswers.{LocksSo}
@@ -27,7 +27,7 @@ use Rattle.replay_rules.proofs.answers.Progress.{Comes}
 use Rattle.replay_rules.proofs.answers.Locks.Far.{HasDone, HasFound, first_step, stamp_step}
 
 -- the answer of a refusal
-refusal_says : (c : Config) (v w : View) (o : ℕ) (answer : LockAnswer) → HasRoom c v → IsRefused c v w o answer → LockAnswers c v w o answer
+refusal_says : (c : Config) (v w : Knowledge) (o : ℕ) (answer : LockAnswer) → HasRoom c v → IsRefused c v w o answer → LockAnswers c v w o answer
 refusal_says c v w o Held room cause = absurd cause
 refusal_says c v w o (Busy seat) room cause = (room, cause)
 refusal_says c v w o (Stale time) room cause = (room, cause)
@@ -35,7 +35,7 @@ refusal_says c v w o SetFull room cause = absurd cause
 refusal_says c v w o LogFull room cause = absurd cause
 
 -- a lock that is refused
-refused_so : (c : Config) (v w : View) (o most : ℕ) (tried : List Step) (answer : LockAnswer) → HasDone c v w o most tried → most ≤ 24 → AreFew c o tried
+refused_so : (c : Config) (v w : Knowledge) (o most : ℕ) (tried : List Step) (answer : LockAnswer) → HasDone c v w o most tried → most ≤ 24 → AreFew c o tried
     → IsRefused c v w o answer → LocksSo c v w o answer
 refused_so c v w o most tried answer done le few cause =
     let lacks = done.2.lacks in
@@ -49,7 +49,7 @@ refused_so c v w o most tried answer done le few cause =
     }
 
 -- the last three steps found the object held
-held_so : (c : Config) (v w : View) (o link first stamp : ℕ) → HasFound c v w o link (first_step c link first ∷ stamp_step c link first stamp ∷ [])
+held_so : (c : Config) (v w : Knowledge) (o link first stamp : ℕ) → HasFound c v w o link (first_step c link first ∷ stamp_step c link first stamp ∷ [])
     → IsUnset stamp → FoundHeld c o (link_seat_of link) v.trail w.trail
 held_so c v w o link first stamp found unset = record {
   before = found.before;
@@ -69,15 +69,15 @@ held_so c v w o link first stamp found unset = record {
 }
 
 -- a lock stays in its section
-pub same_phase : (c : Config) (v w : View) (o most : ℕ) (tried : List Step) → HasDone c v w o most tried → w.phase ≡ v.phase
-same_phase c v w o most tried done = ap (λ (z : View). z.phase) done.2.tries.rest
+pub same_phase : (c : Config) (v w : Knowledge) (o most : ℕ) (tried : List Step) → HasDone c v w o most tried → w.phase ≡ v.phase
+same_phase c v w o most tried done = ap (λ (z : Knowledge). z.phase) done.2.tries.rest
 
 -- and its seat keeps its number
-pub same_number : (c : Config) (v w : View) (o most : ℕ) (tried : List Step) → HasDone c v w o most tried → w.number ≡ v.number
-same_number c v w o most tried done = ap (λ (z : View). z.number) done.2.tries.rest
+pub same_number : (c : Config) (v w : Knowledge) (o most : ℕ) (tried : List Step) → HasDone c v w o most tried → w.number ≡ v.number
+same_number c v w o most tried done = ap (λ (z : Knowledge). z.number) done.2.tries.rest
 
 -- A lock that is refused by a version of another seat where its stamp is unset, and is of a later time where it is one.
-pub refusal_so : (Far : Task → Type 0) (c : Config) (v w : View) (p o link first stamp most : ℕ) (tried : List Step) (i : Section) → p ≡ o
+pub refusal_so : (Far : NextStep → Type 0) (c : Config) (v w : Knowledge) (p o link first stamp most : ℕ) (tried : List Step) (i : OwnSection) → p ≡ o
     → HasDone c v w p most tried → most ≤ 24 → AreFew c p tried
     → HasFound c v w p link (first_step c link first ∷ stamp_step c link first stamp ∷ []) → w.phase ≡ Inside i
     → (IsUnset stamp → link_seat_of link ≢ v.number) → (stamp < 2 ^ 63 → (time_in i < stamp) × IsWriteOf c w.past.seen p stamp)

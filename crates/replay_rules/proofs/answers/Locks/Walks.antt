@@ -6,24 +6,24 @@ use Rattle.mv_history.specs.declared.StepKind.TheVariants as kinds
 use Rattle.mv_layout.specs.Words.{IsUnset, link_seat_of}
 use Rattle.mv_core.proofs.Terms.{Config, Checked, Head, First, Stamp}
 use Rattle.mv_core.specs.declared.ring.Slot.TheVariants.{Live}
-use Rattle.mv_core.specs.declared.ring.Status.{Status}
-use Rattle.mv_core.specs.declared.view.View.{View}
-use Rattle.mv_core.specs.declared.view.Section.{Section}
+use Rattle.mv_core.specs.declared.ring.WriteSetStatus.{WriteSetStatus}
+use Rattle.mv_core.specs.declared.view.Knowledge.{Knowledge}
+use Rattle.mv_core.specs.declared.view.OwnSection.{OwnSection}
 use Rattle.mv_core.specs.declared.view.Stand.{Stand}
-use Rattle.mv_core.specs.declared.view.Walk.TheVariants as walk
+use Rattle.mv_core.specs.declared.view.WalkStage.TheVariants as walk
 use Rattle.mv_core.specs.Rings.{slot_at, index_of}
 use Rattle.mv_core.specs.Views.{time_in}
 use Rattle.mv_core.specs.WalkSteps.{slot_named, IsWriteOf, IsPackedOf, IsOwnTop, IsOwnTime}
-use Rattle.mv_core.specs.Moves.{Moment, Kind, load_head, load_first, load_stamp, load_data, load_master}
+use Rattle.mv_core.specs.Moves.{Moment, MoveKind, load_head, load_first, load_stamp, load_data, load_master}
 use Rattle.mv_core.proofs.kinds.walking.LoadHead.{head_loads}
 use Rattle.replay_rules.specs.declared.plan.Call.TheVariants.{Lock}
-use Rattle.replay_rules.specs.declared.seats.Version.{Version}
+use Rattle.replay_rules.specs.declared.seats.NotedVersion.{NotedVersion}
 use Rattle.replay_rules.specs.declared.seats.Sweep.{Sweep}
 use Rattle.replay_rules.specs.declared.seats.State.{State}
 use Rattle.replay_rules.specs.declared.seats.Walking.{Walking}
 use Rattle.replay_rules.specs.declared.seats.Walking.TheVariants.{LoadHead, LoadFirst, LoadStamp, LoadPrev, LoadWord}
 use Rattle.replay_rules.specs.declared.seats.Locking.TheVariants as locking
-use Rattle.replay_rules.specs.declared.seats.Task.TheVariants.{Walks, Locks}
+use Rattle.replay_rules.specs.declared.seats.NextStep.TheVariants.{Walks, Locks}
 use Rattle.replay_rules.specs.declared.seats.Then.TheVariants.{Goes}
 use Rattle.replay_rules.specs.States.{any_commit, any_start, zeros, Made, state_of, AreMade}
 use Rattle.replay_rules.specs.Tasks.{walking_place}
@@ -50,32 +50,32 @@ later found time limit low = go (is_unset found) refl (leb found time) refl limi
     go false p true q e = absurd (cc)
     go false p false q e = leb_gt found time q
 
-module _ (o : ℕ) (c : Config) (k : Checked c) (n : ℕ) (lt : n < c.seats) (made : List Made) (each : AreMade c made) (log : List Version)
-    (freed from : ℕ) (time : Option ℕ) (sweep : Sweep) (u : View) (inside : InSection c ((state_of c made).seats n) log freed from time)
+module _ (o : ℕ) (c : Config) (k : Checked c) (n : ℕ) (lt : n < c.seats) (made : List Made) (each : AreMade c made) (log : List NotedVersion)
+    (freed from : ℕ) (time : Option ℕ) (sweep : Sweep) (u : Knowledge) (inside : InSection c ((state_of c made).seats n) log freed from time)
     (p : ℕ) (same : p ≡ o) (may : MayHold c log freed from p) where
   abbrev s : Moment
   s = state_of c made
 
-  abbrev v : View
+  abbrev v : Knowledge
   v = s.seats n
 
-  abbrev i : Section
+  abbrev i : OwnSection
   i = inside.section
 
   abbrev state : State
   state = state_with n time from freed (Lock o) sweep
 
   -- what comes behind a step of this kind
-  abbrev Comes_so : Walking → Kind → Type 0
+  abbrev Comes_so : Walking → MoveKind → Type 0
   Comes_so next kind =
       Comes (LockFar o c n u (view_by c s n kind) log state) (AnswersSo c (Lock o) u (view_by c s n kind))
       (after_walking next c log state p (s.memory (walking_place c p next)))
 
   -- the step of the core is of this kind
-  abbrev Steps : Walking → Kind → Type 0
+  abbrev Steps : Walking → MoveKind → Type 0
   Steps next kind = IsStepOf c made (step_of n kind) n (Walks p next)
 
-  head_so : (there : Section) → HasDone c u v p 0 [] → Steps LoadHead (load_head p there) → Comes_so LoadHead (load_head p there)
+  head_so : (there : OwnSection) → HasDone c u v p 0 [] → Steps LoadHead (load_head p there) → Comes_so LoadHead (load_head p there)
   head_so there done step =
       let w = view_by c s n (load_head p there) in
       let link = s.memory (Head p) in
@@ -105,9 +105,9 @@ module _ (o : ℕ) (c : Config) (k : Checked c) (n : ℕ) (lt : n < c.seats) (ma
       let own = top (λ z. absurd (omega (arith, high, z))) seat in
       ⊎_elim
       (λ held. held_in_log c k v log freed from inside.logs p may.unheld (slot_named c link) own.0
-      (subst (λ (st : Status). slot_at v.ring (slot_named c link) ≡ Live own.0 st) held own.2) own.3)
+      (subst (λ (st : WriteSetStatus). slot_at v.ring (slot_named c link) ≡ Live own.0 st) held own.2) own.3)
       (λ done.
-      let low = timed seat own.0 done.0 (subst (λ (st : Status). slot_at v.ring (slot_named c link) ≡ Live own.0 st) done.1 own.2) inside.section
+      let low = timed seat own.0 done.0 (subst (λ (st : WriteSetStatus). slot_at v.ring (slot_named c link) ≡ Live own.0 st) done.1 own.2) inside.section
       inside.walking.phase inside.walking.open_is in
       omega (arith, low, unset))
       own.4
@@ -140,7 +140,7 @@ module _ (o : ℕ) (c : Config) (k : Checked c) (n : ℕ) (lt : n < c.seats) (ma
       )))
 
   -- one word more of the object was read
-  word_so : (w : View) (link : ℕ) (words : List ℕ) (word found : ℕ) → word < 6 → HasDone c u w p (3 + word + 1) []
+  word_so : (w : Knowledge) (link : ℕ) (words : List ℕ) (word found : ℕ) → word < 6 → HasDone c u w p (3 + word + 1) []
       → Comes (LockFar o c n u w log state) (AnswersSo c (Lock o) u w)
       (if ltb word 5 then Goes (Walks p (LoadWord link (slice_set words word found) (word + 1)))
       else Goes (Locks (new_version state p link (slice_set words word found)) (length log) (locking.Build 0)))
@@ -151,7 +151,7 @@ module _ (o : ℕ) (c : Config) (k : Checked c) (n : ℕ) (lt : n < c.seats) (ma
       (λ e. done_more c u w p (3 + word + 1) (3 + (word + 1)) [] (omega arith) done)
       (λ e. (same, done_more c u w p (3 + word + 1) 9 [] (omega (arith, less)) done))
 
-  pub walk_so : (next : Walking) → WalksAt c v inside.section p next → WalkFar c u v p next → (kind : Kind) → Steps next kind
+  pub walk_so : (next : Walking) → WalksAt c v inside.section p next → WalkFar c u v p next → (kind : MoveKind) → Steps next kind
       → IsKindOfWalking p next kind → Comes_so next kind
   walk_so LoadHead at far kind step is = subst (Comes_so LoadHead) (sym is.1) (head_so is.0 far (subst (Steps LoadHead) is.1 step))
   walk_so (LoadFirst link) at far kind step is =

@@ -3,21 +3,21 @@ use Rattle.std.proofs.Common.{◌≡◌, ℕ, ◌+◌, ◌≤◌, ◌==◌, ltb,
 use Rattle.mv_history.specs.declared.Step.{Step}
 use Rattle.mv_history.specs.declared.StepKind.TheVariants as steps
 use Rattle.mv_history.specs.Trail.{clock_exchanges}
-use Rattle.mv_layout.specs.declared.Place.TheVariants.{Clock, Mark, Master}
+use Rattle.mv_layout.specs.declared.SharedWord.TheVariants.{Clock, Mark, Master}
 use Rattle.mv_layout.specs.Places.{place_of}
 use Rattle.mv_layout.specs.Words.{clock_time_of, clock_slot_of}
 use Rattle.mv_core.proofs.Terms.{Config, Checked}
 use Rattle.mv_core.specs.declared.ring.CommitNote.{CommitNote}
 use Rattle.mv_core.specs.declared.ring.Version as core
-use Rattle.mv_core.specs.declared.view.View.{View}
-use Rattle.mv_core.specs.declared.view.Section.{Section}
+use Rattle.mv_core.specs.declared.view.Knowledge.{Knowledge}
+use Rattle.mv_core.specs.declared.view.OwnSection.{OwnSection}
 use Rattle.mv_core.specs.Moves.{Moment, load_low, store_mark, load_time, store_master}
-use Rattle.replay_rules.specs.declared.seats.Version.{Version}
+use Rattle.replay_rules.specs.declared.seats.NotedVersion.{NotedVersion}
 use Rattle.replay_rules.specs.declared.seats.Sweep.{Sweep}
 use Rattle.replay_rules.specs.declared.seats.Entering.TheVariants.{LoadLow, StoreMark, LoadTime}
 use Rattle.replay_rules.specs.declared.seats.Helping.TheVariants.{LoadNamed}
 use Rattle.replay_rules.specs.declared.seats.Sweeping.TheVariants.{LoadGrace, StoreMaster, CutHead, NameRest}
-use Rattle.replay_rules.specs.declared.seats.Task.TheVariants.{Enters, Helps, Tidies}
+use Rattle.replay_rules.specs.declared.seats.NextStep.TheVariants.{Enters, Helps, Tidies}
 use Rattle.replay_rules.specs.declared.seats.Then.TheVariants.{Goes}
 use Rattle.replay_rules.specs.Tasks.{next_clock}
 use Rattle.replay_rules.specs.GoesOn.{is_last, helped_in_tidy}
@@ -31,8 +31,8 @@ use Rattle.replay_rules.proofs.answers.Tidying.Grown.{come_on, tries_on, unreste
 use Rattle.replay_rules.proofs.answers.Tidying.Rounds.{rested_of}
 use Rattle.replay_rules.proofs.answers.Tidying.Stepping.{tidying, ComesSo, front, clock_long, GoesBy}
 
-module _ (c : Config) (v w : View) (step : Step) (f : Further v w (step ∷ [])) (rests : w.past.rests ≡ v.past.rests)
-    (exchanges : clock_exchanges (step ∷ []) ≡ []) (v0 : View) (made : List Step) (old log : List Version) (freed : ℕ) (sweep : Sweep) where
+module _ (c : Config) (v w : Knowledge) (step : Step) (f : Further v w (step ∷ [])) (rests : w.past.rests ≡ v.past.rests)
+    (exchanges : clock_exchanges (step ∷ []) ≡ []) (v0 : Knowledge) (made : List Step) (old log : List NotedVersion) (freed : ℕ) (sweep : Sweep) where
   -- the first round is as far behind a step that leaves the log alone
   pub first_goes : (up : ℕ) → IsFirst c v0 v made log freed up sweep → IsFirst c v0 w (made ++ step ∷ []) log freed up sweep
   first_goes up x = record {
@@ -70,7 +70,7 @@ module _ (c : Config) (v w : View) (step : Step) (f : Further v w (step ∷ []))
     backs_later at x = (first_later at x.0, (backs_goes at x).1)
 
 -- what a tidy does once a clock word is helped
-pub helped_far : (c : Config) (n : ℕ) (v0 w : View) (log : List Version) (freed from : ℕ) (time : Option ℕ) (sweep : Sweep)
+pub helped_far : (c : Config) (n : ℕ) (v0 w : Knowledge) (log : List NotedVersion) (freed from : ℕ) (time : Option ℕ) (sweep : Sweep)
     (k : HasCome c v0 w log freed from sweep.began) (word : ℕ) → HelpsIn c v0 w k.made k.old log freed sweep time word
     → ComesSo c n v0 w log (tidying n time from freed sweep) (helped_in_tidy log (tidying n time from freed sweep) word)
 helped_far c n v0 w log freed from (Some time) sweep k word x = λ stands. (k, x)
@@ -90,12 +90,13 @@ helped_far c n v0 w log freed from None sweep k word x =
     ))
     (λ more. λ stands. (k, x))
 
-module _ (c : Config) (k : Checked c) (n : ℕ) (made : List Made) (each : AreMade c made) (log : List Version) (freed from : ℕ) (sweep : Sweep) (v0 : View)
+module _ (c : Config) (k : Checked c) (n : ℕ) (made : List Made) (each : AreMade c made) (log : List NotedVersion) (freed from : ℕ) (sweep : Sweep)
+    (v0 : Knowledge)
   where
     abbrev s : Moment
     s = state_of c made
 
-    abbrev v : View
+    abbrev v : Knowledge
     v = s.seats n
 
     pub low_goes : TidyFar c n v0 v log (tidying n None from freed sweep) (Enters LoadLow)
@@ -139,7 +140,7 @@ module _ (c : Config) (k : Checked c) (n : ℕ) (made : List Made) (each : AreMa
         (λ some. λ stands. (come, x))
 
     -- a word is stored into the master
-    pub store_goes : (at o word : ℕ) (words : List ℕ) (version : core.Version) (note : CommitNote) (inside : Section) (time : Option ℕ)
+    pub store_goes : (at o word : ℕ) (words : List ℕ) (version : core.Version) (note : CommitNote) (inside : OwnSection) (time : Option ℕ)
         → TidyFar c n v0 v log (tidying n time from freed sweep) (Tidies (StoreMaster at o words word))
         → GoesBy c k n made each v0 log (tidying n time from freed sweep) (Tidies (StoreMaster at o words word))
         (store_master o word (slice_index words word) at version note inside)

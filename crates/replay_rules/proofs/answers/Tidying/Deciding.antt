@@ -4,16 +4,16 @@ use Rattle.std.proofs.Common.{if◌then◌else◌, refl, sym, ap, ◌∙◌, sub
 use Rattle.std.proofs.lemmas.List.Elements.{Contains-push}
 use Rattle.mv_history.specs.declared.Step.{Step}
 use Rattle.mv_history.specs.declared.StepKind.TheVariants as steps
-use Rattle.mv_layout.specs.declared.Place.TheVariants.{Head}
+use Rattle.mv_layout.specs.declared.SharedWord.TheVariants.{Head}
 use Rattle.mv_layout.specs.Places.{place_of}
 use Rattle.mv_layout.specs.Words.{link_of, link_seat_of}
 use Rattle.mv_core.proofs.Terms.{Config, Checked}
 use Rattle.mv_core.specs.declared.ring.CommitNote.{CommitNote}
 use Rattle.mv_core.specs.declared.ring.Version as core
-use Rattle.mv_core.specs.declared.ring.Status.TheVariants.{Committed}
-use Rattle.mv_core.specs.declared.view.View.{View}
+use Rattle.mv_core.specs.declared.ring.WriteSetStatus.TheVariants.{Committed}
+use Rattle.mv_core.specs.declared.view.Knowledge.{Knowledge}
 use Rattle.mv_core.specs.declared.view.EmptyHead.{EmptyHead}
-use Rattle.mv_core.specs.declared.view.Section.{Section}
+use Rattle.mv_core.specs.declared.view.OwnSection.{OwnSection}
 use Rattle.mv_core.specs.declared.view.Phase.{Phase}
 use Rattle.mv_core.specs.declared.view.Phase.TheVariants.{Inside}
 use Rattle.mv_core.specs.Views.{time_in}
@@ -26,11 +26,11 @@ use Rattle.mv_core.proofs.kinds.walking.LoadHead.{head_loads}
 use Rattle.mv_core.proofs.kinds.reclaiming.cut_head.CutHead.{cut_swaps}
 use Rattle.mv_core.proofs.logs.Links.{position_small}
 use Rattle.log_reclaim.specs.Untimed.{TriedSo}
-use Rattle.replay_rules.specs.declared.seats.Version.{Version}
+use Rattle.replay_rules.specs.declared.seats.NotedVersion.{NotedVersion}
 use Rattle.replay_rules.specs.declared.seats.Sweep.{Sweep}
-use Rattle.replay_rules.specs.declared.seats.Back.TheVariants.{WasGone, WasAbove}
+use Rattle.replay_rules.specs.declared.seats.WriteBackEnd.TheVariants.{WasGone, WasAbove}
 use Rattle.replay_rules.specs.declared.seats.Sweeping.TheVariants.{LoadTop, StoreMaster, CutHead, LoadCutDeath, LeaveBack}
-use Rattle.replay_rules.specs.declared.seats.Task.TheVariants.{Tidies}
+use Rattle.replay_rules.specs.declared.seats.NextStep.TheVariants.{Tidies}
 use Rattle.replay_rules.specs.declared.seats.Then.TheVariants.{Goes}
 use Rattle.replay_rules.specs.SeatNotes.{version_at}
 use Rattle.replay_rules.specs.Tasks.{link_to}
@@ -53,16 +53,16 @@ use Rattle.replay_rules.proofs.answers.Tidying.Tops.{own_later, others_newer}
 use Rattle.replay_rules.proofs.answers.Tidying.Stepping.{tidying, ComesSo, GoesBy}
 
 -- a phase is in one section
-section_once : (p : Phase) (a b : Section) → p ≡ Inside a → p ≡ Inside b → a ≡ b
+section_once : (p : Phase) (a b : OwnSection) → p ≡ Inside a → p ≡ Inside b → a ≡ b
 section_once p a b x y = let e : Inside a ≡ Inside b = sym x ∙ y in cc
 
-module _ (c : Config) (k : Checked c) (n : ℕ) (lt : n < c.seats) (made : List Made) (each : AreMade c made) (log : List Version) (freed from : ℕ)
-    (sweep : Sweep) (v0 : View) (at : ℕ) (time : Option ℕ) (logs : Logs c ((state_of c made).seats n) log freed from) (nothing : from ≡ length log)
+module _ (c : Config) (k : Checked c) (n : ℕ) (lt : n < c.seats) (made : List Made) (each : AreMade c made) (log : List NotedVersion) (freed from : ℕ)
+    (sweep : Sweep) (v0 : Knowledge) (at : ℕ) (time : Option ℕ) (logs : Logs c ((state_of c made).seats n) log freed from) (nothing : from ≡ length log)
     (alive : (version_at log at).dead ≡ 0) (low : freed ≤ at) (live : at < length log) where
   abbrev s : Moment
   s = state_of c made
 
-  abbrev v : View
+  abbrev v : Knowledge
   v = s.seats n
 
   abbrev o : ℕ
@@ -81,10 +81,10 @@ module _ (c : Config) (k : Checked c) (n : ℕ) (lt : n < c.seats) (made : List 
       link_is n at (omega (arith, lt, seats)) small ∙ ap (λ p. link_of p at) (sym (number_is c k n made each))
 
   -- HEAD is loaded
-  module _ (section : Section) (phase : ((state_of c made).seats n).phase ≡ Inside section) (time_is : time ≡ Some (time_in section)) (inside : Section)
+  module _ (section : OwnSection) (phase : ((state_of c made).seats n).phase ≡ Inside section) (time_is : time ≡ Some (time_in section)) (inside : OwnSection)
       (next : IsStepOf c made (step_of n (load_head (version_at log at).object inside)) n (Tidies (LoadTop at (version_at log at).object)))
       (far : TidyFar c n v0 ((state_of c made).seats n) log (tidying n time from freed sweep) (Tidies (LoadTop at (version_at log at).object))) where
-    abbrev w : View
+    abbrev w : Knowledge
     w = view_by c (state_of c made) n (load_head (version_at log at).object inside)
 
     abbrev step : Step
@@ -154,7 +154,7 @@ module _ (c : Config) (k : Checked c) (n : ℕ) (lt : n < c.seats) (made : List 
   module _ (version : core.Version) (note : CommitNote)
       (next : IsStepOf c made (step_of n (cut_head (version_at log at).object at version note)) n (Tidies (CutHead at (version_at log at).object)))
       (far : TidyFar c n v0 ((state_of c made).seats n) log (tidying n time from freed sweep) (Tidies (CutHead at (version_at log at).object))) where
-    abbrev won : View
+    abbrev won : Knowledge
     won = head_cut c ((state_of c made).seats n) (version_at log at).object at version note
 
     abbrev won_step : Step
@@ -165,7 +165,7 @@ module _ (c : Config) (k : Checked c) (n : ℕ) (lt : n < c.seats) (made : List 
       stored = Some 0;
     }
 
-    abbrev lost : View
+    abbrev lost : Knowledge
     lost = cut_lost c ((state_of c made).seats n) (version_at log at).object at found
 
     abbrev lost_step : Step

@@ -2,12 +2,12 @@
 use Rattle.std.proofs.Common.{◌≡◌, ◌≢◌, ℕ, ◌+◌, ◌<◌, ◌≤◌, List, length, true, Option, sym, ap, ◌∙◌, subst, arith, if◌then◌else◌, eq-eqb, ne_eqb}
 use Rattle.mv_history.specs.declared.Step.{Step}
 use Rattle.mv_core.proofs.Terms.{Config, dite, ℕ_discrete}
-use Rattle.mv_core.specs.declared.view.View.{View}
+use Rattle.mv_core.specs.declared.view.Knowledge.{Knowledge}
 use Rattle.seat_log.specs.declared.version.Note.{Note}
 use Rattle.log_reclaim.specs.Parts.{DiesFrom}
 use Rattle.log_reclaim.specs.Untimed.{StaysUntimed}
 use Rattle.log_reclaim.specs.Holders.{FindsLast}
-use Rattle.replay_rules.specs.declared.seats.Version.{Version}
+use Rattle.replay_rules.specs.declared.seats.NotedVersion.{NotedVersion}
 use Rattle.replay_rules.specs.declared.seats.Scanned.{Scanned}
 use Rattle.replay_rules.specs.declared.seats.Edit.TheVariants.{Retired, AboveNoted}
 use Rattle.replay_rules.specs.SeatNotes.{version_at, no_version, edited_from}
@@ -21,7 +21,7 @@ dies_now old m dead k none = record {
   once = λ some. (let same = k.once some in absurd (omega (arith, some, same, none)));
 }
 
-module _ (log : List Version) (at : ℕ) where
+module _ (log : List NotedVersion) (at : ℕ) where
   pub retired_here : (dead : ℕ) → at < length log → version_at (edited_from (Retired at dead) 0 log) at ≡ record (version_at log at) { dead = dead }
   retired_here dead lt =
       edited_at (Retired at dead) 0 at log no_version lt
@@ -43,7 +43,7 @@ module _ (log : List Version) (at : ℕ) where
       ∙ ap (λ b. if b then record (version_at log i) { above = seat } else version_at log i) (ne_eqb at (0 + i) (λ e. ne (omega (arith, e))))
 
 -- the versions of a log are as they were before the tidy, where one has a time of death now
-pub same_retired : (old log : List Version) (began freed at dead : ℕ) → AreSame old log began freed → at < length log → (version_at log at).dead ≡ 0
+pub same_retired : (old log : List NotedVersion) (began freed at dead : ℕ) → AreSame old log began freed → at < length log → (version_at log at).dead ≡ 0
     → AreSame old (edited_from (Retired at dead) 0 log) began freed
 same_retired old log began freed at dead k live none =
     let long = edited_long (Retired at dead) 0 log in
@@ -55,15 +55,15 @@ same_retired old log began freed at dead k live none =
           let inside : i < length log = omega (arith, lt, long) in
           dite (ℕ_discrete i at)
           (λ e.
-          subst (λ (x : Version). DiesFrom (note_in old i) (note_of i x))
+          subst (λ (x : NotedVersion). DiesFrom (note_in old i) (note_of i x))
           (sym (ap (λ p. version_at (edited_from (Retired at dead) 0 log) p) e ∙ retired_here log at dead live
           ∙ ap (λ p. record (version_at log p) { dead = dead }) (sym e)))
           (dies_now (note_in old i) (note_in log i) dead (k.each i low inside) (ap (λ p. (version_at log p).dead) e ∙ none)))
-          (λ ne. subst (λ (x : Version). DiesFrom (note_in old i) (note_of i x)) (sym (retired_else log at dead i inside ne)) (k.each i low inside));
+          (λ ne. subst (λ (x : NotedVersion). DiesFrom (note_in old i) (note_of i x)) (sym (retired_else log at dead i inside ne)) (k.each i low inside));
     }
 
 -- and where another seat was noted above one
-pub same_above : (old log : List Version) (began freed at : ℕ) (seat : Option ℕ) → AreSame old log began freed → at < length log
+pub same_above : (old log : List NotedVersion) (began freed at : ℕ) (seat : Option ℕ) → AreSame old log began freed → at < length log
     → AreSame old (edited_from (AboveNoted at seat) 0 log) began freed
 same_above old log began freed at seat k live =
     let long = edited_long (AboveNoted at seat) 0 log in
@@ -75,14 +75,15 @@ same_above old log began freed at seat k live =
           let inside : i < length log = omega (arith, lt, long) in
           dite (ℕ_discrete i at)
           (λ e.
-          subst (λ (x : Version). DiesFrom (note_in old i) (note_of i x))
+          subst (λ (x : NotedVersion). DiesFrom (note_in old i) (note_of i x))
           (sym (ap (λ p. version_at (edited_from (AboveNoted at seat) 0 log) p) e ∙ above_here log at seat live
           ∙ ap (λ p. record (version_at log p) { above = seat }) (sym e)))
           (k.each i low inside))
-          (λ ne. subst (λ (x : Version). DiesFrom (note_in old i) (note_of i x)) (sym (above_else log at seat i inside ne)) (k.each i low inside));
+          (λ ne. subst (λ (x : NotedVersion). DiesFrom (note_in old i) (note_of i x)) (sym (above_else log at seat i inside ne)) (k.each i low inside));
     }
 
-module _ (c : Config) (v0 v : View) (log : List Version) (freed from began : ℕ) (k : HasCome c v0 v log freed from began) (at : ℕ) (live : at < length log)
+module _ (c : Config) (v0 v : Knowledge) (log : List NotedVersion) (freed from began : ℕ) (k : HasCome c v0 v log freed from began) (at : ℕ)
+    (live : at < length log)
   where
     abbrev pub come_retired : (dead : ℕ) → (version_at log at).dead ≡ 0 → HasCome c v0 v (edited_from (Retired at dead) 0 log) freed from began
     come_retired dead none = record {
@@ -104,7 +105,7 @@ module _ (c : Config) (v0 v : View) (log : List Version) (freed from began : ℕ
       same = same_above k.old log began freed at seat k.same live;
     }
 
-module _ (c : Config) (v0 v : View) (made : List Step) (log : List Version) (freed : ℕ) (first : Scanned) (at : ℕ) (live : at < length log) where
+module _ (c : Config) (v0 v : Knowledge) (made : List Step) (log : List NotedVersion) (freed : ℕ) (first : Scanned) (at : ℕ) (live : at < length log) where
   -- a version has a time of death now, after the last time only where that was found
   pub tried_retired : (dead up then_up : ℕ) → 0 < dead → (35184372088831 < dead → FindsLast made)
       → ((i : ℕ) → i < then_up → i < length log → i ≢ at → i < up) → KnowsUntimed c v0 v made log freed up first
@@ -119,20 +120,20 @@ module _ (c : Config) (v0 v : View) (made : List Step) (log : List Version) (fre
             let inside : i < length log = omega (arith, lt, long) in
             dite (ℕ_discrete i at)
             (λ e.
-            late_found (subst (λ (x : Version). 35184372088831 < x.dead)
+            late_found (subst (λ (x : NotedVersion). 35184372088831 < x.dead)
             (ap (λ p. version_at (edited_from (Retired at dead) 0 log) p) e ∙ retired_here log at dead live) late))
-            (λ ne. k.ends i low inside (subst (λ (x : Version). 35184372088831 < x.dead) (retired_else log at dead i inside ne) late));
+            (λ ne. k.ends i low inside (subst (λ (x : NotedVersion). 35184372088831 < x.dead) (retired_else log at dead i inside ne) late));
         untimed = λ i low lt before none.
             let inside : i < length log = omega (arith, lt, long) in
             dite (ℕ_discrete i at)
             (λ e.
-            let is : dead ≡ 0 = subst (λ (x : Version). x.dead ≡ 0)
+            let is : dead ≡ 0 = subst (λ (x : NotedVersion). x.dead ≡ 0)
             (ap (λ p. version_at (edited_from (Retired at dead) 0 log) p) e ∙ retired_here log at dead live) none in
             absurd (omega (arith, is, some)))
             (λ ne.
             let is = retired_else log at dead i inside ne in
-            subst (λ (x : Version). StaysUntimed c v made (mark_of first) first.clock true (note_of i x) x.above) (sym is)
-            (k.untimed i low inside (further i before inside ne) (subst (λ (x : Version). x.dead ≡ 0) is none)));
+            subst (λ (x : NotedVersion). StaysUntimed c v made (mark_of first) first.clock true (note_of i x) x.above) (sym is)
+            (k.untimed i low inside (further i before inside ne) (subst (λ (x : NotedVersion). x.dead ≡ 0) is none)));
       }
 
   -- of a version it is known now why it has no time of death
@@ -149,21 +150,22 @@ module _ (c : Config) (v0 v : View) (made : List Step) (log : List Version) (fre
             dite (ℕ_discrete i at)
             (λ e.
             k.ends i low inside
-            (subst (λ (x : Version). 35184372088831 < x.dead)
+            (subst (λ (x : NotedVersion). 35184372088831 < x.dead)
             (ap (λ p. version_at (edited_from (AboveNoted at seat) 0 log) p) e ∙ above_here log at seat live
             ∙ ap (λ p. record (version_at log p) { above = seat }) (sym e)) late))
-            (λ ne. k.ends i low inside (subst (λ (x : Version). 35184372088831 < x.dead) (above_else log at seat i inside ne) late));
+            (λ ne. k.ends i low inside (subst (λ (x : NotedVersion). 35184372088831 < x.dead) (above_else log at seat i inside ne) late));
         untimed = λ i low lt before none.
             let inside : i < length log = omega (arith, lt, long) in
             dite (ℕ_discrete i at)
             (λ e.
             subst (λ p. StaysUntimed c v made (mark_of first) first.clock true (note_in (edited_from (AboveNoted at seat) 0 log) p)
             (version_at (edited_from (AboveNoted at seat) 0 log) p).above) (sym e)
-            (subst (λ (x : Version). StaysUntimed c v made (mark_of first) first.clock true (note_of at x) x.above) (sym (above_here log at seat live)) stays))
+            (subst (λ (x : NotedVersion). StaysUntimed c v made (mark_of first) first.clock true (note_of at x) x.above)
+            (sym (above_here log at seat live)) stays))
             (λ ne.
             let is = above_else log at seat i inside ne in
-            subst (λ (x : Version). StaysUntimed c v made (mark_of first) first.clock true (note_of i x) x.above) (sym is)
-            (k.untimed i low inside (omega (arith, before, ne)) (subst (λ (x : Version). x.dead ≡ 0) is none)));
+            subst (λ (x : NotedVersion). StaysUntimed c v made (mark_of first) first.clock true (note_of i x) x.above) (sym is)
+            (k.untimed i low inside (omega (arith, before, ne)) (subst (λ (x : NotedVersion). x.dead ≡ 0) is none)));
       }
 
   -- of those before it nothing changes where something is noted of it
@@ -180,28 +182,28 @@ module _ (c : Config) (v0 v : View) (made : List Step) (log : List Version) (fre
             dite (ℕ_discrete i at)
             (λ e.
             k.ends i low inside
-            (subst (λ (x : Version). 35184372088831 < x.dead)
+            (subst (λ (x : NotedVersion). 35184372088831 < x.dead)
             (ap (λ p. version_at (edited_from (AboveNoted at seat) 0 log) p) e ∙ above_here log at seat live
             ∙ ap (λ p. record (version_at log p) { above = seat }) (sym e)) late))
-            (λ ne. k.ends i low inside (subst (λ (x : Version). 35184372088831 < x.dead) (above_else log at seat i inside ne) late));
+            (λ ne. k.ends i low inside (subst (λ (x : NotedVersion). 35184372088831 < x.dead) (above_else log at seat i inside ne) late));
         untimed = λ i low lt before none.
             let inside : i < length log = omega (arith, lt, long) in
             let is = above_else log at seat i inside (λ e. omega (arith, e, before)) in
-            subst (λ (x : Version). StaysUntimed c v made (mark_of first) first.clock true (note_of i x) x.above) (sym is)
-            (k.untimed i low inside before (subst (λ (x : Version). x.dead ≡ 0) is none));
+            subst (λ (x : NotedVersion). StaysUntimed c v made (mark_of first) first.clock true (note_of i x) x.above) (sym is)
+            (k.untimed i low inside before (subst (λ (x : NotedVersion). x.dead ≡ 0) is none));
       }
 
 -- a time of death that was seen is noted
-pub deaths_retired : (v : View) (log : List Version) (freed at dead : ℕ) → at < length log → dead ≤ v.base + length v.past.seen
+pub deaths_retired : (v : Knowledge) (log : List NotedVersion) (freed at dead : ℕ) → at < length log → dead ≤ v.base + length v.past.seen
     → DeathsAreSeen v log freed → DeathsAreSeen v (edited_from (Retired at dead) 0 log) freed
 deaths_retired v log freed at dead live seen k i low lt in_time =
     let long = edited_long (Retired at dead) 0 log in
     let inside : i < length log = omega (arith, lt, long) in
     dite (ℕ_discrete i at)
     (λ e.
-    subst (λ (x : Version). x.dead ≤ v.base + length v.past.seen)
+    subst (λ (x : NotedVersion). x.dead ≤ v.base + length v.past.seen)
     (sym (ap (λ p. version_at (edited_from (Retired at dead) 0 log) p) e ∙ retired_here log at dead live)) seen)
     (λ ne.
     let is = retired_else log at dead i inside ne in
-    subst (λ (x : Version). x.dead ≤ v.base + length v.past.seen) (sym is)
-    (k i low inside (subst (λ (x : Version). x.dead ≤ 35184372088831) is in_time)))
+    subst (λ (x : NotedVersion). x.dead ≤ v.base + length v.past.seen) (sym is)
+    (k i low inside (subst (λ (x : NotedVersion). x.dead ≤ 35184372088831) is in_time)))

@@ -6,14 +6,14 @@ use Rattle.mv_history.specs.declared.Step.{Step}
 use Rattle.mv_history.specs.declared.StepKind.{StepKind}
 use Rattle.mv_history.specs.declared.StepKind.TheVariants.{LockHead, UnlockHead, NameCommit}
 use Rattle.mv_core.proofs.Terms.{Config}
-use Rattle.mv_core.specs.declared.view.View.{View}
+use Rattle.mv_core.specs.declared.view.Knowledge.{Knowledge}
 use Rattle.mv_core.specs.Known.{Known}
 use Rattle.seat_log.specs.Notes.{Noted}
 use Rattle.seat_log.specs.Stands.{Stands, is_lock_kind, is_unlock_kind, is_won_lock, is_unlock}
 use Rattle.seat_log.proofs.StepCounts.{keeps_more}
 use Rattle.log_reclaim.specs.Parts.{IsReclaimKind, Reclaims, Shrinks, DiesFrom}
 use Rattle.log_reclaim.proofs.Idle.{still_of}
-use Rattle.replay_rules.specs.declared.seats.Version.{Version}
+use Rattle.replay_rules.specs.declared.seats.NotedVersion.{NotedVersion}
 use Rattle.replay_rules.specs.States.{any_commit, any_start}
 use Rattle.replay_rules.proofs.runs.Sections.{RestsAt}
 use Rattle.replay_rules.proofs.runs.LogFacts.{noted_long, noted_at}
@@ -28,7 +28,7 @@ reclaim_kind LockHead is = absurd is
 reclaim_kind UnlockHead is = absurd is
 reclaim_kind _ is = (refl, refl)
 
-module _ (c : Config) (v0 w : View) (log : List Version) (freed from began : ℕ) (k : HasCome c v0 w log freed from began)
+module _ (c : Config) (v0 w : Knowledge) (log : List NotedVersion) (freed from began : ℕ) (k : HasCome c v0 w log freed from began)
     (rests : RestsAt c w log freed from None) where
   abbrev pub before_noted : Noted
   before_noted = k.rests.2.noted

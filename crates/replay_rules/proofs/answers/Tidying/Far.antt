@@ -4,7 +4,7 @@ use Rattle.mv_history.specs.declared.Step.{Step}
 use Rattle.mv_history.specs.Trail.{clock_exchanges}
 use Rattle.mv_layout.specs.Words.{clock_time_of}
 use Rattle.mv_core.proofs.Terms.{Config}
-use Rattle.mv_core.specs.declared.view.View.{View}
+use Rattle.mv_core.specs.declared.view.Knowledge.{Knowledge}
 use Rattle.mv_core.specs.HistoryFacts.{BeginsWith}
 use Rattle.mv_core.specs.ReclaimSteps.{FoundEmpty}
 use Rattle.mv_core.specs.Known.{Known}
@@ -15,18 +15,18 @@ use Rattle.log_reclaim.specs.Parts.{BeginsNoScan, DiesFrom, super_step}
 use Rattle.log_reclaim.specs.Untimed.{TriedSo, StaysUntimed}
 use Rattle.log_reclaim.specs.Holders.{ReadsMark, FindsLast}
 use Rattle.log_reclaim.specs.Tidies.{RestsOnce}
-use Rattle.replay_rules.specs.declared.seats.Version.{Version}
+use Rattle.replay_rules.specs.declared.seats.NotedVersion.{NotedVersion}
 use Rattle.replay_rules.specs.declared.seats.Scanned.{Scanned}
 use Rattle.replay_rules.specs.declared.seats.Sweep.{Sweep}
 use Rattle.replay_rules.specs.declared.seats.State.{State}
 use Rattle.replay_rules.specs.declared.seats.Ending.{Ending}
 use Rattle.replay_rules.specs.declared.seats.Ending.TheVariants.{LoadNow}
-use Rattle.replay_rules.specs.declared.seats.Back.{Back}
-use Rattle.replay_rules.specs.declared.seats.Back.TheVariants.{WasCut, WasGone, WasAbove}
+use Rattle.replay_rules.specs.declared.seats.WriteBackEnd.{WriteBackEnd}
+use Rattle.replay_rules.specs.declared.seats.WriteBackEnd.TheVariants.{WasCut, WasGone, WasAbove}
 use Rattle.replay_rules.specs.declared.seats.Sweeping.{Sweeping}
 use Rattle.replay_rules.specs.declared.seats.Sweeping.TheVariants.{LoadGrace, Free, LoadScan, LoadMark, RaiseGrace, LoadSuper, LoadTop, StoreMaster}
 use Rattle.replay_rules.specs.declared.seats.Sweeping.TheVariants.{CutHead, LoadCutDeath, LeaveBack, LoadSuperAgain, NameRest}
-use Rattle.replay_rules.specs.declared.seats.Task.TheVariants.{Enters, Helps, Walks, Locks, Writes, EndsSection, Tidies}
+use Rattle.replay_rules.specs.declared.seats.NextStep.TheVariants.{Enters, Helps, Walks, Locks, Writes, EndsSection, Tidies}
 use Rattle.replay_rules.specs.SeatNotes.{version_at}
 use Rattle.replay_rules.specs.States.{any_commit, any_start}
 use Rattle.replay_rules.proofs.runs.Notes.{note_of}
@@ -35,7 +35,7 @@ use Rattle.replay_rules.proofs.answers.Progress.{FarOf}
 use Rattle.replay_rules.proofs.answers.Tidying.Further.{Further}
 
 -- the version at a position, as a note
-abbrev pub note_in : List Version → ℕ → Note
+abbrev pub note_in : List NotedVersion → ℕ → Note
 note_in log i = note_of i (version_at log i)
 
 -- what a scan found, as the watermark that it answers
@@ -43,14 +43,14 @@ abbrev pub mark_of : Scanned → Watermark
 mark_of s = record { time = s.time; low = s.low; marked = true; seat = s.seat }
 
 -- of the versions that are left nothing has changed but times of death, where there was none
-pub record AreSame (old log : List Version) (began freed : ℕ) : Type 0 where
+pub record AreSame (old log : List NotedVersion) (began freed : ℕ) : Type 0 where
   pub long : length log ≡ length old
   pub low : began ≤ freed
   pub each : (i : ℕ) → freed ≤ i → i < length log → DiesFrom (note_in old i) (note_in log i)
 
 -- the seat was at rest before the tidy, which has made these steps since
-pub record HasCome (c : Config) (v0 v : View) (log : List Version) (freed from began : ℕ) : Type 0 where
-  pub old : List Version
+pub record HasCome (c : Config) (v0 v : Knowledge) (log : List NotedVersion) (freed from began : ℕ) : Type 0 where
+  pub old : List NotedVersion
   pub rests : RestsAt c v0 old began from None
   pub known : Known any_start any_commit v0
   pub made : List Step
@@ -58,7 +58,7 @@ pub record HasCome (c : Config) (v0 v : View) (log : List Version) (freed from b
   pub same : AreSame old log began freed
 
 -- a scan among the steps found this low time, not above its time of CLOCK; one below is that of a mark that it read
-pub record HasMarks (c : Config) (v : View) (made : List Step) (scan : Scanned) : Type 0 where
+pub record HasMarks (c : Config) (v : Knowledge) (made : List Step) (scan : Scanned) : Type 0 where
   pub low : scan.low ≤ scan.clock
   pub marked : scan.low < scan.clock → ReadsMark c v.number made scan.seat scan.low
   pub within : scan.clock ≤ v.base + length v.past.seen
@@ -73,16 +73,16 @@ pub record HasBegun (c : Config) (made : List Step) (clock : ℕ) : Type 0 where
   pub clock_is : clock ≡ clock_time_of word
 
 -- a version is dead only after the last time where a step found that time in CLOCK
-abbrev pub EndIsFound : List Step → List Version → ℕ → Type 0
+abbrev pub EndIsFound : List Step → List NotedVersion → ℕ → Type 0
 EndIsFound made log freed = (i : ℕ) → freed ≤ i → i < length log → 35184372088831 < (version_at log i).dead → FindsLast made
 
 -- each time of death up to the last time was seen
-abbrev pub DeathsAreSeen : View → List Version → ℕ → Type 0
+abbrev pub DeathsAreSeen : Knowledge → List NotedVersion → ℕ → Type 0
 DeathsAreSeen v log freed =
     (i : ℕ) → freed ≤ i → i < length log → (version_at log i).dead ≤ 35184372088831 → (version_at log i).dead ≤ v.base + length v.past.seen
 
 -- The first scan was made; and of each version before a position that has no time of death it is known why its write-back left it so.
-pub record KnowsUntimed (c : Config) (v0 v : View) (made : List Step) (log : List Version) (freed up : ℕ) (first : Scanned) : Type 0 where
+pub record KnowsUntimed (c : Config) (v0 v : Knowledge) (made : List Step) (log : List NotedVersion) (freed up : ℕ) (first : Scanned) : Type 0 where
   pub read : HasMarks c v made first
   pub known : first.low ≤ first.time
   pub after : v0.base + length v0.past.seen ≤ first.clock
@@ -91,21 +91,21 @@ pub record KnowsUntimed (c : Config) (v0 v : View) (made : List Step) (log : Lis
       → StaysUntimed c v made (mark_of first) first.clock true (note_in log i) (version_at log i).above
 
 -- no rest was tried yet
-abbrev pub AreUnrested : View → View → List Step → Type 0
+abbrev pub AreUnrested : Knowledge → Knowledge → List Step → Type 0
 AreUnrested v0 v made = (v.past.rests ≡ v0.past.rests) × (clock_exchanges made ≡ [])
 
 -- at most one was
-abbrev pub AreRested : View → View → List Step → Type 0
+abbrev pub AreRested : Knowledge → Knowledge → List Step → Type 0
 AreRested v0 v made = RestsOnce v0 v × (length (clock_exchanges made) ≤ 1)
 
 -- the first round hasn't scanned yet
-pub record IsOpening (v0 v : View) (made : List Step) (old log : List Version) (latest : ℕ) : Type 0 where
+pub record IsOpening (v0 v : Knowledge) (made : List Step) (old log : List NotedVersion) (latest : ℕ) : Type 0 where
   pub log_is : log ≡ old
   pub unrested : AreUnrested v0 v made
   pub within : latest ≤ v.base + length v.past.seen
 
 -- the first round has scanned, and looked at the versions before a position
-pub record IsFirst (c : Config) (v0 v : View) (made : List Step) (log : List Version) (freed up : ℕ) (sweep : Sweep) : Type 0 where
+pub record IsFirst (c : Config) (v0 v : Knowledge) (made : List Step) (log : List NotedVersion) (freed up : ℕ) (sweep : Sweep) : Type 0 where
   pub again : sweep.again ≡ false
   pub swept : sweep.swept ≡ true
   pub tried : KnowsUntimed c v0 v made log freed up sweep.first
@@ -114,13 +114,13 @@ pub record IsFirst (c : Config) (v0 v : View) (made : List Step) (log : List Ver
   pub same : sweep.last ≡ sweep.first
 
 -- the second round has versions left
-pub record IsSecond (c : Config) (v0 v : View) (made : List Step) (log : List Version) (freed : ℕ) (first : Scanned) : Type 0 where
+pub record IsSecond (c : Config) (v0 v : Knowledge) (made : List Step) (log : List NotedVersion) (freed : ℕ) (first : Scanned) : Type 0 where
   pub tried : KnowsUntimed c v0 v made log freed (length log) first
   pub deaths : DeathsAreSeen v log freed
 
 -- its scan has begun, before which the seat had this view; it has made no entry since
-pub record IsScanning (c : Config) (v : View) (made : List Step) (scan : Scanned) : Type 0 where
-  pub before : View
+pub record IsScanning (c : Config) (v : Knowledge) (made : List Step) (scan : Scanned) : Type 0 where
+  pub before : Knowledge
   pub known : Known any_start any_commit before
   pub number : v.number ≡ before.number
   pub base : v.base ≡ before.base
@@ -132,13 +132,13 @@ pub record IsScanning (c : Config) (v : View) (made : List Step) (scan : Scanned
   pub begun : HasBegun c made scan.clock
 
 -- and is whole
-pub record ScanIsWhole (c : Config) (v : View) (made : List Step) (last : Scanned) (bound : ℕ) : Type 0 where
+pub record ScanIsWhole (c : Config) (v : Knowledge) (made : List Step) (last : Scanned) (bound : ℕ) : Type 0 where
   pub scan : IsScanning c v made last
   pub known : last.low ≤ last.time
   pub bound_is : bound ≡ last.time
 
 -- SUPER was found 0 in the version at a position, which is old enough to be written back
-pub record LookedAt (c : Config) (v : View) (made : List Step) (log : List Version) (freed : ℕ) (first : Scanned) (at : ℕ) : Type 0 where
+pub record LookedAt (c : Config) (v : Knowledge) (made : List Step) (log : List NotedVersion) (freed : ℕ) (first : Scanned) (at : ℕ) : Type 0 where
   pub low : freed ≤ at
   pub live : at < length log
   pub still : StaysUntimed c v made (mark_of first) first.clock false (note_in log at) None
@@ -146,7 +146,7 @@ pub record LookedAt (c : Config) (v : View) (made : List Step) (log : List Versi
   pub later : List Step
   pub made_is : made ≡ before ++ super_step c v.number (note_in log at) ∷ later
 
-module _ (c : Config) (v0 v : View) (made : List Step) (old log : List Version) (freed : ℕ) (sweep : Sweep) where
+module _ (c : Config) (v0 v : Knowledge) (made : List Step) (old log : List NotedVersion) (freed : ℕ) (sweep : Sweep) where
   -- a round that frees, by which it is, and whether it has scanned
   abbrev pub Frees : Bool → Bool → Type 0
   Frees false false = IsOpening v0 v made old log sweep.latest
@@ -170,7 +170,7 @@ module _ (c : Config) (v0 v : View) (made : List Step) (old log : List Version) 
   Backs at = IsFirst c v0 v made log freed at sweep × LookedAt c v made log freed sweep.first at
 
   -- what it has come to when its section is left
-  abbrev pub Leaves : ℕ → Back → Type 0
+  abbrev pub Leaves : ℕ → WriteBackEnd → Type 0
   Leaves at (WasCut dead) = 35184372088831 < dead → FindsLast made
   Leaves at WasGone = FoundEmpty v (version_at log at).object (version_at log at).time
   Leaves at (WasAbove above) = TriedSo c v made (mark_of sweep.first) sweep.first.clock (note_in log at) above
@@ -190,9 +190,9 @@ module _ (c : Config) (v0 v : View) (made : List Step) (old log : List Version) 
   HelpsIn (Some time) word = Backs sweep.at × (v0.base + length v0.past.seen ≤ time)
   HelpsIn None word = Rests word
 
-module _ (c : Config) (v0 v : View) (log : List Version) (s : State) where
+module _ (c : Config) (v0 v : Knowledge) (log : List NotedVersion) (s : State) where
   -- what it has come to so far, and what holds of its steps besides
-  abbrev Come : (List Step → List Version → Type 0) → Type 0
+  abbrev Come : (List Step → List NotedVersion → Type 0) → Type 0
   Come P = (k : HasCome c v0 v log s.freed s.from s.sweep.began) × P k.made k.old
 
   abbrev pub SweepsFar : Sweeping → Type 0

@@ -2,14 +2,14 @@
 use Rattle.std.proofs.Common.{◌≡◌, ◌≤◌, List, [], ◌∷◌, ◌++◌, length, All, refl, sym, ap, ◌∙◌, arith, append_assoc, append-nil}
 use Rattle.std.proofs.lemmas.List.Elements.{All-nil, All-cons, All-append}
 use Rattle.mv_history.specs.declared.Step.{Step}
-use Rattle.mv_core.specs.declared.view.View.{View}
+use Rattle.mv_core.specs.declared.view.Knowledge.{Knowledge}
 use Rattle.mv_core.specs.HistoryFacts.{BeginsWith}
 use Rattle.mv_core.proofs.history.Fronts.{begins_by, begins_long}
 use Rattle.log_reclaim.specs.Parts.{IsReclaimKind}
 
 -- A view came from another one by these steps, none of which names a commit: what was seen is only longer, the own commits are as before, the
 -- watermark isn't lower, and nothing else has changed but where the seat is and its log.
-pub record Further (v w : View) (made : List Step) : Type 0 where
+pub record Further (v w : Knowledge) (made : List Step) : Type 0 where
   pub seen : BeginsWith w.past.seen v.past.seen
   pub mine : w.past.mine ≡ v.past.mine
   pub grace : v.grace ≤ w.grace
@@ -29,7 +29,7 @@ pub record Further (v w : View) (made : List Step) : Type 0 where
   }
 
 -- no step was made
-pub further_none : (v : View) → Further v v []
+pub further_none : (v : Knowledge) → Further v v []
 further_none v = record {
   seen = ([], sym (append-nil v.past.seen));
   mine = refl;
@@ -40,7 +40,7 @@ further_none v = record {
 }
 
 -- more steps were made
-pub further_on : (u v w : View) (made more : List Step) → Further u v made → Further v w more → Further u w (made ++ more)
+pub further_on : (u v w : Knowledge) (made more : List Step) → Further u v made → Further v w more → Further u w (made ++ more)
 further_on u v w made more a b = record {
   seen = begins_by w.past.seen v.past.seen u.past.seen b.seen a.seen;
   mine = b.mine ∙ a.mine;
@@ -49,7 +49,7 @@ further_on u v w made more a b = record {
   kinds = All-append (λ s. IsReclaimKind s.kind) made more a.kinds b.kinds;
   rest = b.rest
       ∙ ap
-      (λ (x : View).
+      (λ (x : Knowledge).
       record x {
         past = w.past;
         phase = w.phase;
@@ -66,7 +66,7 @@ further_on u v w made more a b = record {
 }
 
 -- one step was made
-pub further_one : (v w : View) (s : Step) → BeginsWith w.past.seen v.past.seen → w.past.mine ≡ v.past.mine → v.grace ≤ w.grace
+pub further_one : (v w : Knowledge) (s : Step) → BeginsWith w.past.seen v.past.seen → w.past.mine ≡ v.past.mine → v.grace ≤ w.grace
     → w.trail ≡ v.trail ++ s ∷ [] → IsReclaimKind s.kind
     → w ≡ record v {
       past = w.past;
@@ -95,15 +95,15 @@ pub one_all : (P : Step → Type 0) (s : Step) → P s → All P (s ∷ [])
 one_all P s is = All-cons P s [] is (All-nil P)
 
 -- what was seen begins with itself
-pub begins_same : (v : View) → BeginsWith v.past.seen v.past.seen
+pub begins_same : (v : Knowledge) → BeginsWith v.past.seen v.past.seen
 begins_same v = ([], sym (append-nil v.past.seen))
 
-module _ (v w : View) (made : List Step) (f : Further v w made) where
+module _ (v w : Knowledge) (made : List Step) (f : Further v w made) where
   pub further_number : w.number ≡ v.number
-  further_number = ap (λ (x : View). x.number) f.rest
+  further_number = ap (λ (x : Knowledge). x.number) f.rest
 
   pub further_base : w.base ≡ v.base
-  further_base = ap (λ (x : View). x.base) f.rest
+  further_base = ap (λ (x : Knowledge). x.base) f.rest
 
   pub further_long : length v.past.seen ≤ length w.past.seen
   further_long = begins_long w.past.seen v.past.seen f.seen

@@ -5,7 +5,7 @@ use Rattle.std.proofs.lemmas.List.Elements.{All-append, Contains-append_left}
 use Rattle.mv_history.specs.declared.Step.{Step}
 use Rattle.mv_history.specs.Trail.{clock_exchanges}
 use Rattle.mv_core.proofs.Terms.{Config}
-use Rattle.mv_core.specs.declared.view.View.{View}
+use Rattle.mv_core.specs.declared.view.Knowledge.{Knowledge}
 use Rattle.mv_core.specs.Times.{latest, latest_at}
 use Rattle.mv_core.proofs.history.Fronts.{begins_by, latest_at-more, latest-more}
 use Rattle.reader_marks.specs.declared.scanning.Watermark.{Watermark}
@@ -15,7 +15,7 @@ use Rattle.log_reclaim.specs.Parts.{BeginsNoScan, super_step, FindsNewer, FindsA
 use Rattle.log_reclaim.specs.Untimed.{TriedSo, StaysUntimed}
 use Rattle.log_reclaim.specs.Holders.{ReadsMark, FindsLast}
 use Rattle.log_reclaim.proofs.rests.Exchanges.{none_in_both, one_between}
-use Rattle.replay_rules.specs.declared.seats.Version.{Version}
+use Rattle.replay_rules.specs.declared.seats.NotedVersion.{NotedVersion}
 use Rattle.replay_rules.specs.declared.seats.Scanned.{Scanned}
 use Rattle.replay_rules.specs.SeatNotes.{version_at}
 use Rattle.replay_rules.proofs.answers.Tidying.Further.{Further, further_on, further_number, further_base, further_long}
@@ -33,7 +33,7 @@ last_found_on made more k = record {
   last = k.last;
 }
 
-module _ (c : Config) (v w : View) (made more : List Step) (f : Further v w more) where
+module _ (c : Config) (v w : Knowledge) (made more : List Step) (f : Further v w more) where
   newer_on : (n : Note) (seat : ℕ) (s : Step) → FindsNewer c v n seat s → FindsNewer c w n seat s
   newer_on n seat s k = record {
     top = record {
@@ -110,7 +110,7 @@ module _ (c : Config) (v w : View) (made more : List Step) (f : Further v w more
     clock_is = k.clock_is;
   }
 
-  pub tries_on : (v0 : View) (log : List Version) (freed up : ℕ) (first : Scanned) → KnowsUntimed c v0 v made log freed up first
+  pub tries_on : (v0 : Knowledge) (log : List NotedVersion) (freed up : ℕ) (first : Scanned) → KnowsUntimed c v0 v made log freed up first
       → KnowsUntimed c v0 w (made ++ more) log freed up first
   tries_on v0 log freed up first k = record {
     read = read_on first k.read;
@@ -122,10 +122,10 @@ module _ (c : Config) (v w : View) (made more : List Step) (f : Further v w more
         (let below = k.read.low in let in_time = k.read.within in omega (arith, below, in_time)) (k.untimed i low lt before none);
   }
 
-  pub deaths_on : (log : List Version) (freed : ℕ) → DeathsAreSeen v log freed → DeathsAreSeen w log freed
+  pub deaths_on : (log : List NotedVersion) (freed : ℕ) → DeathsAreSeen v log freed → DeathsAreSeen w log freed
   deaths_on log freed k i low lt in_time = within_on (version_at log i).dead (k i low lt in_time)
 
-  pub second_on : (v0 : View) (log : List Version) (freed : ℕ) (first : Scanned) → IsSecond c v0 v made log freed first
+  pub second_on : (v0 : Knowledge) (log : List NotedVersion) (freed : ℕ) (first : Scanned) → IsSecond c v0 v made log freed first
       → IsSecond c v0 w (made ++ more) log freed first
   second_on v0 log freed first k = record { tried = tries_on v0 log freed (length log) first k.tried; deaths = deaths_on log freed k.deaths }
 
@@ -148,7 +148,7 @@ module _ (c : Config) (v w : View) (made more : List Step) (f : Further v w more
       → ScanIsWhole c v made scan bound → ScanIsWhole c w (made ++ more) scan bound
   scanned_on scan bound rests none k = record { scan = scan_on scan rests none k.scan; known = k.known; bound_is = k.bound_is }
 
-  pub looked_on : (log : List Version) (freed : ℕ) (first : Scanned) (at : ℕ) → first.low ≤ v.base + length v.past.seen
+  pub looked_on : (log : List NotedVersion) (freed : ℕ) (first : Scanned) (at : ℕ) → first.low ≤ v.base + length v.past.seen
       → LookedAt c v made log freed first at → LookedAt c w (made ++ more) log freed first at
   looked_on log freed first at seen k = record {
     low = k.low;
@@ -160,21 +160,21 @@ module _ (c : Config) (v w : View) (made more : List Step) (f : Further v w more
         ∙ ap (λ own. k.before ++ super_step c own (note_in log at) ∷ (k.later ++ more)) (sym (further_number v w more f));
   }
 
-  pub unrested_on : (v0 : View) → w.past.rests ≡ v.past.rests → clock_exchanges more ≡ [] → AreUnrested v0 v made → AreUnrested v0 w (made ++ more)
+  pub unrested_on : (v0 : Knowledge) → w.past.rests ≡ v.past.rests → clock_exchanges more ≡ [] → AreUnrested v0 v made → AreUnrested v0 w (made ++ more)
   unrested_on v0 rests none k = (rests ∙ k.0, none_in_both made more k.1 none)
 
-  pub rested_on : (v0 : View) → w.past.rests ≡ v.past.rests → clock_exchanges more ≡ [] → AreRested v0 v made → AreRested v0 w (made ++ more)
+  pub rested_on : (v0 : Knowledge) → w.past.rests ≡ v.past.rests → clock_exchanges more ≡ [] → AreRested v0 v made → AreRested v0 w (made ++ more)
   rested_on v0 rests none k = (
     ⊎_elim (λ e. inl (rests ∙ e)) (λ e. inr (rests ∙ e)) k.0,
     one_between [] made more refl k.1 none,
   )
 
-  pub opens_on : (v0 : View) (old log : List Version) (latest : ℕ) → w.past.rests ≡ v.past.rests → clock_exchanges more ≡ []
+  pub opens_on : (v0 : Knowledge) (old log : List NotedVersion) (latest : ℕ) → w.past.rests ≡ v.past.rests → clock_exchanges more ≡ []
       → IsOpening v0 v made old log latest → IsOpening v0 w (made ++ more) old log latest
   opens_on v0 old log latest rests none k =
       record { log_is = k.log_is; unrested = unrested_on v0 rests none k.unrested; within = within_on latest k.within }
 
-  abbrev pub come_on : (v0 : View) (log : List Version) (freed from began : ℕ) → (k : HasCome c v0 v log freed from began) → k.made ≡ made
+  abbrev pub come_on : (v0 : Knowledge) (log : List NotedVersion) (freed from began : ℕ) → (k : HasCome c v0 v log freed from began) → k.made ≡ made
       → HasCome c v0 w log freed from began
   come_on v0 log freed from began k is = record {
     old = k.old;

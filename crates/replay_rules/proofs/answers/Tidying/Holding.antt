@@ -4,14 +4,14 @@ use Rattle.std.proofs.Common.{if◌then◌else◌, refl, sym, ap, ◌∙◌, ari
 use Rattle.mv_history.specs.declared.answers.Holder.{Holder}
 use Rattle.mv_history.specs.declared.answers.Holder.TheVariants as holders
 use Rattle.mv_core.proofs.Terms.{Config}
-use Rattle.mv_core.specs.declared.view.View.{View}
+use Rattle.mv_core.specs.declared.view.Knowledge.{Knowledge}
 use Rattle.mv_core.specs.Known.{Known}
 use Rattle.seat_log.specs.Notes.{IsNoteAt}
 use Rattle.log_reclaim.specs.Untimed.{StaysUntimed}
 use Rattle.log_reclaim.specs.Holders.{TidyHolds}
 use Rattle.log_reclaim.proofs.Needed.{needs_of_note, needs_more_timed, needs_more_untimed}
 use Rattle.log_reclaim.proofs.Others.{others_meanwhile}
-use Rattle.replay_rules.specs.declared.seats.Version.{Version}
+use Rattle.replay_rules.specs.declared.seats.NotedVersion.{NotedVersion}
 use Rattle.replay_rules.specs.declared.seats.Sweep.{Sweep}
 use Rattle.replay_rules.specs.declared.seats.Test.TheVariants.{EndsSet}
 use Rattle.replay_rules.specs.SeatNotes.{version_at, first_from}
@@ -25,13 +25,14 @@ use Rattle.replay_rules.proofs.answers.Tidying.Far.{HasCome, ScanIsWhole, IsSeco
 use Rattle.replay_rules.proofs.answers.Tidying.Ended.{after_noted, after_stands}
 
 -- the version at a place is of the oldest write set, and isn't dead by a time
-pub record IsDueAt (log : List Version) (freed time at : ℕ) : Type 0 where
+pub record IsDueAt (log : List NotedVersion) (freed time at : ℕ) : Type 0 where
   pub low : freed ≤ at
   pub live : at < length log
   pub oldest : (version_at log at).first ≡ freed
   pub alive : ((version_at log at).dead ≡ 0) ⊎ (time < (version_at log at).dead)
 
-module _ (c : Config) (w : View) (log : List Version) (freed from : ℕ) (rests : RestsAt c w log freed from None) (some : freed < length log) (time : ℕ) where
+module _ (c : Config) (w : Knowledge) (log : List NotedVersion) (freed from : ℕ) (rests : RestsAt c w log freed from None) (some : freed < length log)
+    (time : ℕ) where
   abbrev end : ℕ
   end = first_from log freed (EndsSet freed time)
 
@@ -83,7 +84,7 @@ module _ (c : Config) (w : View) (log : List Version) (freed from : ℕ) (rests 
           let here : first_from log freed (EndsSet freed time) ≡ freed = omega (arith, z, after) in
           there (omega (arith, here, some)) (ap (λ p. (version_at log p).first) here ∙ first_oldest)
 
-module _ (c : Config) (v0 w : View) (log : List Version) (freed from began : ℕ) (sweep : Sweep) (k : HasCome c v0 w log freed from began)
+module _ (c : Config) (v0 w : Knowledge) (log : List NotedVersion) (freed from began : ℕ) (sweep : Sweep) (k : HasCome c v0 w log freed from began)
     (rests : RestsAt c w log freed from None) (known : Known any_start any_commit w)
     (second : IsSecond c v0 w k.made log freed sweep.first) (again : ScanIsWhole c w k.made sweep.last sweep.bound) where
   abbrev Holds : Holder → Type 0

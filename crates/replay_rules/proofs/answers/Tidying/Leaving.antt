@@ -4,23 +4,23 @@ use Rattle.std.proofs.Common.{if◌then◌else◌, refl, sym, ap, ◌∙◌, sub
 use Rattle.std.proofs.lemmas.List.Elements.{Contains-push}
 use Rattle.mv_history.specs.declared.Step.{Step}
 use Rattle.mv_history.specs.declared.StepKind.TheVariants as steps
-use Rattle.mv_layout.specs.declared.Place.TheVariants.{Clock, Mark}
+use Rattle.mv_layout.specs.declared.SharedWord.TheVariants.{Clock, Mark}
 use Rattle.mv_layout.specs.Places.{place_of}
 use Rattle.mv_layout.specs.Words.{clock_time_of}
 use Rattle.mv_core.proofs.Terms.{Config, Checked, Super}
-use Rattle.mv_core.specs.declared.view.View.{View}
+use Rattle.mv_core.specs.declared.view.Knowledge.{Knowledge}
 use Rattle.mv_core.specs.Known.{Known}
 use Rattle.mv_core.specs.Rings.{index_of}
 use Rattle.mv_core.specs.ReclaimSteps.{FoundEmpty}
 use Rattle.mv_core.specs.Moves.{Moment, load_death, clear_mark}
 use Rattle.log_reclaim.specs.Holders.{FindsLast}
 use Rattle.log_reclaim.specs.Untimed.{TriedSo, StaysUntimed}
-use Rattle.replay_rules.specs.declared.seats.Version.{Version}
+use Rattle.replay_rules.specs.declared.seats.NotedVersion.{NotedVersion}
 use Rattle.replay_rules.specs.declared.seats.Sweep.{Sweep}
 use Rattle.replay_rules.specs.declared.seats.Edit.TheVariants.{Kept, Retired, AboveNoted}
-use Rattle.replay_rules.specs.declared.seats.Back.{Back}
+use Rattle.replay_rules.specs.declared.seats.WriteBackEnd.{WriteBackEnd}
 use Rattle.replay_rules.specs.declared.seats.Sweeping.TheVariants.{LoadCutDeath, LeaveBack, LoadSuperAgain}
-use Rattle.replay_rules.specs.declared.seats.Task.TheVariants.{Tidies}
+use Rattle.replay_rules.specs.declared.seats.NextStep.TheVariants.{Tidies}
 use Rattle.replay_rules.specs.SeatNotes.{version_at, edited_from, applied}
 use Rattle.replay_rules.specs.Sweeps.{settle_behind}
 use Rattle.replay_rules.specs.NextSteps.{IsStepOf}
@@ -40,7 +40,8 @@ use Rattle.replay_rules.proofs.answers.Tidying.Rounds.{settle_so}
 use Rattle.replay_rules.proofs.answers.Tidying.Stepping.{tidying, ComesSo, front, clock_long, known_by, GoesBy}
 
 -- a first round goes on behind a version that has a time of death now
-first_retired : (c : Config) (v0 v : View) (made : List Step) (log : List Version) (freed : ℕ) (sweep : Sweep) (at dead : ℕ) → at < length log → 0 < dead
+first_retired : (c : Config) (v0 v : Knowledge) (made : List Step) (log : List NotedVersion) (freed : ℕ) (sweep : Sweep) (at dead : ℕ)
+    → at < length log → 0 < dead
     → (35184372088831 < dead → FindsLast made) → IsFirst c v0 v made log freed at sweep
     → IsFirst c v0 v made (edited_from (Retired at dead) 0 log) freed (at + 1) sweep
 first_retired c v0 v made log freed sweep at dead live some late x = record {
@@ -52,12 +53,12 @@ first_retired c v0 v made log freed sweep at dead live some late x = record {
   same = x.same;
 }
 
-module _ (c : Config) (k : Checked c) (n : ℕ) (lt : n < c.seats) (made : List Made) (each : AreMade c made) (log : List Version) (freed from : ℕ)
-    (sweep : Sweep) (no_scan : ((state_of c made).seats n).scan ≡ None) (v0 : View) (at : ℕ) where
+module _ (c : Config) (k : Checked c) (n : ℕ) (lt : n < c.seats) (made : List Made) (each : AreMade c made) (log : List NotedVersion) (freed from : ℕ)
+    (sweep : Sweep) (no_scan : ((state_of c made).seats n).scan ≡ None) (v0 : Knowledge) (at : ℕ) where
   abbrev s : Moment
   s = state_of c made
 
-  abbrev v : View
+  abbrev v : Knowledge
   v = s.seats n
 
   -- the time of death is loaded
@@ -88,9 +89,9 @@ module _ (c : Config) (k : Checked c) (n : ℕ) (lt : n < c.seats) (made : List 
 
   -- the section is left
   module _ (time : Option ℕ) (low : freed ≤ at) (live : at < length log) (alive : (version_at log at).dead ≡ 0)
-      (back : Back) (next : IsStepOf c made (step_of n clear_mark) n (Tidies (LeaveBack at back)))
+      (back : WriteBackEnd) (next : IsStepOf c made (step_of n clear_mark) n (Tidies (LeaveBack at back)))
       (far : TidyFar c n v0 ((state_of c made).seats n) log (tidying n time from freed sweep) (Tidies (LeaveBack at back))) where
-    abbrev u : View
+    abbrev u : Knowledge
     u = view_by c (state_of c made) n clear_mark
 
     abbrev one : Step
@@ -162,7 +163,7 @@ module _ (c : Config) (k : Checked c) (n : ℕ) (lt : n < c.seats) (made : List 
     same_found : found c k n lt made each log freed from rests no_scan at low live alive ≡ there
     same_found = ap (λ p. (state_of c made).memory (Super p (index_of c at))) (number_is c k n made each)
 
-    abbrev again : View
+    abbrev again : Knowledge
     again = w c k n lt made each log freed from rests no_scan at low live alive
 
     abbrev load : Step

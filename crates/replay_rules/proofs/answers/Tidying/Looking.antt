@@ -4,12 +4,12 @@ use Rattle.mv_history.specs.declared.Step.{Step}
 use Rattle.mv_core.proofs.Terms.{Config, Checked, Super}
 use Rattle.mv_core.specs.declared.ring.CommitNote.{CommitNote}
 use Rattle.mv_core.specs.declared.ring.Version as core
-use Rattle.mv_core.specs.declared.ring.Status.TheVariants.{Committed}
-use Rattle.mv_core.specs.declared.view.View.{View}
+use Rattle.mv_core.specs.declared.ring.WriteSetStatus.TheVariants.{Committed}
+use Rattle.mv_core.specs.declared.view.Knowledge.{Knowledge}
 use Rattle.mv_core.specs.Rings.{slot_at, index_of}
 use Rattle.mv_core.specs.ReclaimSteps.{MayLoadSuper, SeesSuper, FoundEmpty}
 use Rattle.mv_core.specs.Times.{latest_at}
-use Rattle.mv_core.specs.Moves.{Moment, Kind, load_super, seen_to}
+use Rattle.mv_core.specs.Moves.{Moment, MoveKind, load_super, seen_to}
 use Rattle.mv_core.proofs.kinds.reclaiming.LoadSuper.{super_loads}
 use Rattle.mv_core.proofs.moves.Grown.{sees_now, seen_to_is}
 use Rattle.mv_core.proofs.logs.Links.{live_once}
@@ -21,7 +21,7 @@ use Rattle.log_reclaim.specs.Parts.{super_load}
 use Rattle.log_reclaim.specs.Tries.{IsUntimed}
 use Rattle.log_reclaim.proofs.looks.OneNote.{committed}
 use Rattle.log_reclaim.proofs.looks.Supers.{loads_none}
-use Rattle.replay_rules.specs.declared.seats.Version.{Version}
+use Rattle.replay_rules.specs.declared.seats.NotedVersion.{NotedVersion}
 use Rattle.replay_rules.specs.States.{any_commit, any_start, zeros, Made, state_of, AreMade}
 use Rattle.replay_rules.specs.SeatNotes.{version_at}
 use Rattle.replay_rules.proofs.runs.Sections.{RestsAt}
@@ -33,13 +33,13 @@ use Rattle.replay_rules.proofs.answers.Tidying.Further.{Further, further_one}
 use Rattle.replay_rules.proofs.answers.Tidying.Far.{note_in}
 use Rattle.replay_rules.proofs.answers.Tidying.Stepping.{base_is}
 
-module _ (c : Config) (k : Checked c) (n : ℕ) (lt : n < c.seats) (made : List Made) (each : AreMade c made) (log : List Version) (freed from : ℕ)
+module _ (c : Config) (k : Checked c) (n : ℕ) (lt : n < c.seats) (made : List Made) (each : AreMade c made) (log : List NotedVersion) (freed from : ℕ)
     (rests : RestsAt c ((state_of c made).seats n) log freed from None) (no_scan : ((state_of c made).seats n).scan ≡ None) (at : ℕ) (low : freed ≤ at)
     (live : at < length log) (alive : (version_at log at).dead ≡ 0) where
   abbrev s : Moment
   s = state_of c made
 
-  abbrev v : View
+  abbrev v : Knowledge
   v = s.seats n
 
   abbrev m : Note
@@ -72,13 +72,13 @@ module _ (c : Config) (k : Checked c) (n : ℕ) (lt : n < c.seats) (made : List 
       let one = live_once (slot_at v.ring (index_of c at)) x (version_of m) (Committed note) (Committed u.0) may.own u.1 in
       (one.0, ap builds.note_in (sym may.own))
 
-  abbrev pub kind : Kind
+  abbrev pub kind : MoveKind
   kind = load_super at (version_of (note_in log at)) own
 
   abbrev pub found : ℕ
   found = (state_of c made).memory (Super ((state_of c made).seats n).number (index_of c at))
 
-  abbrev pub w : View
+  abbrev pub w : Knowledge
   w = view_by c (state_of c made) n kind
 
   abbrev pub step : Step

@@ -4,7 +4,7 @@ use Rattle.std.proofs.Common.{None, if◌then◌else◌, refl, sym, ap, ◌∙�
 use Rattle.std.proofs.lemmas.List.Elements.{Contains-append_left, Contains-push}
 use Rattle.mv_history.specs.declared.Step.{Step}
 use Rattle.mv_core.proofs.Terms.{Config, Checked, Clock, Mark}
-use Rattle.mv_core.specs.declared.view.View.{View}
+use Rattle.mv_core.specs.declared.view.Knowledge.{Knowledge}
 use Rattle.mv_core.specs.declared.view.Scan.{Scan}
 use Rattle.mv_core.specs.declared.view.Phase.TheVariants.{Outside}
 use Rattle.mv_core.specs.SectionFacts.{MarkedAs}
@@ -12,11 +12,11 @@ use Rattle.mv_core.specs.ReclaimSteps.{other_from, least_with}
 use Rattle.mv_core.specs.Moves.{Moment, load_mark}
 use Rattle.reader_marks.specs.Scans.{mark_step}
 use Rattle.log_reclaim.specs.Parts.{BeginsNoScan}
-use Rattle.replay_rules.specs.declared.seats.Version.{Version}
+use Rattle.replay_rules.specs.declared.seats.NotedVersion.{NotedVersion}
 use Rattle.replay_rules.specs.declared.seats.Scanned.{Scanned}
 use Rattle.replay_rules.specs.declared.seats.Sweep.{Sweep}
 use Rattle.replay_rules.specs.declared.seats.Sweeping.TheVariants.{LoadMark}
-use Rattle.replay_rules.specs.declared.seats.Task.TheVariants.{Tidies}
+use Rattle.replay_rules.specs.declared.seats.NextStep.TheVariants.{Tidies}
 use Rattle.replay_rules.specs.Learns.{lowered}
 use Rattle.replay_rules.specs.NextSteps.{IsStepOf}
 use Rattle.replay_rules.specs.States.{Made, state_of, AreMade}
@@ -30,12 +30,13 @@ use Rattle.replay_rules.proofs.answers.Tidying.Grown.{last_found_on, come_on, op
 use Rattle.replay_rules.proofs.answers.Tidying.Scanning.{risen, look_far}
 use Rattle.replay_rules.proofs.answers.Tidying.Stepping.{tidying, GoesBy}
 
-module _ (c : Config) (k : Checked c) (n : ℕ) (made : List Made) (each : AreMade c made) (log : List Version) (freed from : ℕ) (sweep : Sweep) (v0 : View)
+module _ (c : Config) (k : Checked c) (n : ℕ) (made : List Made) (each : AreMade c made) (log : List NotedVersion) (freed from : ℕ) (sweep : Sweep)
+    (v0 : Knowledge)
   where
     abbrev s : Moment
     s = state_of c made
 
-    abbrev v : View
+    abbrev v : Knowledge
     v = s.seats n
 
     -- the mark of a seat is loaded
@@ -44,7 +45,7 @@ module _ (c : Config) (k : Checked c) (n : ℕ) (made : List Made) (each : AreMa
       abbrev mark : ℕ
       mark = (state_of c made).memory (Mark seat)
 
-      abbrev w : View
+      abbrev w : Knowledge
       w = view_by c (state_of c made) n (load_mark seat scan)
 
       abbrev step : Step

@@ -3,21 +3,21 @@ use Rattle.std.proofs.Common.{◌≡◌, ℕ, ◌+◌, ◌-◌, ◌<◌, leb, Li
 use Rattle.std.proofs.Common.{if◌then◌else◌, refl, sym, subst, arith, lt-ltb}
 use Rattle.mv_history.specs.declared.Step.{Step}
 use Rattle.mv_history.specs.declared.StepKind.TheVariants as steps
-use Rattle.mv_layout.specs.declared.Place.TheVariants.{Grace, Stamp}
+use Rattle.mv_layout.specs.declared.SharedWord.TheVariants.{Grace, Stamp}
 use Rattle.mv_layout.specs.Places.{place_of}
 use Rattle.mv_core.proofs.Terms.{Config, Checked}
-use Rattle.mv_core.specs.declared.view.View.{View}
+use Rattle.mv_core.specs.declared.view.Knowledge.{Knowledge}
 use Rattle.mv_core.specs.Rings.{index_of}
 use Rattle.mv_core.specs.Moves.{Moment, load_grace, store_free}
 use Rattle.seat_log.proofs.FreedLogs.{few_freed}
 use Rattle.mv_history.specs.Trail.{clock_exchanges}
 use Rattle.log_reclaim.specs.Parts.{BeginsNoScan, grace_load}
 use Rattle.replay_rules.specs.declared.seats.Scanned.{Scanned}
-use Rattle.replay_rules.specs.declared.seats.Version.{Version}
+use Rattle.replay_rules.specs.declared.seats.NotedVersion.{NotedVersion}
 use Rattle.replay_rules.specs.declared.seats.Sweep.{Sweep}
 use Rattle.replay_rules.specs.declared.seats.State.{State}
 use Rattle.replay_rules.specs.declared.seats.Sweeping.TheVariants.{LoadGrace, Free}
-use Rattle.replay_rules.specs.declared.seats.Task.TheVariants.{Tidies}
+use Rattle.replay_rules.specs.declared.seats.NextStep.TheVariants.{Tidies}
 use Rattle.replay_rules.specs.declared.seats.Then.TheVariants.{Goes}
 use Rattle.replay_rules.specs.Sweeps.{free, after_free}
 use Rattle.replay_rules.specs.NextSteps.{IsStepOf}
@@ -34,7 +34,7 @@ use Rattle.replay_rules.proofs.answers.Tidying.Rounds.{free_so}
 use Rattle.replay_rules.proofs.answers.Tidying.Stepping.{tidying, ComesSo, known_by, GoesBy}
 
 -- fewer versions are left
-abbrev pub freed_more : (c : Config) (v0 v : View) (log : List Version) (freed from began : ℕ) → HasCome c v0 v log freed from began
+abbrev pub freed_more : (c : Config) (v0 v : Knowledge) (log : List NotedVersion) (freed from began : ℕ) → HasCome c v0 v log freed from began
     → HasCome c v0 v log (freed + 1) from began
 freed_more c v0 v log freed from began k = record {
   old = k.old;
@@ -49,7 +49,8 @@ freed_more c v0 v log freed from began k = record {
   };
 }
 
-tried_more : (c : Config) (v0 v : View) (made : List Step) (log : List Version) (freed up : ℕ) (first : Scanned) → KnowsUntimed c v0 v made log freed up first
+tried_more : (c : Config) (v0 v : Knowledge) (made : List Step) (log : List NotedVersion) (freed up : ℕ) (first : Scanned)
+    → KnowsUntimed c v0 v made log freed up first
     → KnowsUntimed c v0 v made log (freed + 1) up first
 tried_more c v0 v made log freed up first k = record {
   read = k.read;
@@ -60,7 +61,7 @@ tried_more c v0 v made log freed up first k = record {
 }
 
 -- what is known of a round that frees
-pub frees_more : (c : Config) (v0 v : View) (made : List Step) (old log : List Version) (freed : ℕ) (sweep : Sweep) (again swept : Bool)
+pub frees_more : (c : Config) (v0 v : Knowledge) (made : List Step) (old log : List NotedVersion) (freed : ℕ) (sweep : Sweep) (again swept : Bool)
     → Frees c v0 v made old log freed sweep again swept → Frees c v0 v made old log (freed + 1) sweep again swept
 frees_more c v0 v made old log freed sweep false false k = k
 frees_more c v0 v made old log freed sweep false true k = record {
@@ -86,10 +87,10 @@ frees_more c v0 v made old log freed sweep true true k = (
       ),
 )
 
-module _ (c : Config) (v w : View) (step : Step) (f : Further v w (step ∷ [])) (rests : w.past.rests ≡ v.past.rests) where
+module _ (c : Config) (v w : Knowledge) (step : Step) (f : Further v w (step ∷ [])) (rests : w.past.rests ≡ v.past.rests) where
   -- and behind a step that makes no rest and begins no scan
-  pub frees_on : All (λ s. BeginsNoScan s.kind) (step ∷ []) → clock_exchanges (step ∷ []) ≡ [] → (v0 : View) (made : List Step)
-      → (old log : List Version) (freed : ℕ) (sweep : Sweep) (again swept : Bool)
+  pub frees_on : All (λ s. BeginsNoScan s.kind) (step ∷ []) → clock_exchanges (step ∷ []) ≡ [] → (v0 : Knowledge) (made : List Step)
+      → (old log : List NotedVersion) (freed : ℕ) (sweep : Sweep) (again swept : Bool)
       → Frees c v0 v made old log freed sweep again swept → Frees c v0 w (made ++ step ∷ []) old log freed sweep again swept
   frees_on none exchanges v0 made old log freed sweep false false k = opens_on c v w made (step ∷ []) f v0 old log sweep.latest rests exchanges k
   frees_on none exchanges v0 made old log freed sweep false true k = record {
@@ -112,12 +113,12 @@ module _ (c : Config) (v w : View) (step : Step) (f : Further v w (step ∷ []))
     ),
   )
 
-module _ (c : Config) (k : Checked c) (n : ℕ) (made : List Made) (each : AreMade c made) (log : List Version) (freed from : ℕ) (sweep : Sweep)
-    (no_scan : ((state_of c made).seats n).scan ≡ None) (v0 : View) where
+module _ (c : Config) (k : Checked c) (n : ℕ) (made : List Made) (each : AreMade c made) (log : List NotedVersion) (freed from : ℕ) (sweep : Sweep)
+    (no_scan : ((state_of c made).seats n).scan ≡ None) (v0 : Knowledge) where
   abbrev s : Moment
   s = state_of c made
 
-  abbrev v : View
+  abbrev v : Knowledge
   v = s.seats n
 
   -- GRACE is loaded, with which a round begins

@@ -2,14 +2,14 @@
 use Rattle.std.proofs.Common.{◌≡◌, ℕ, List, [], ◌∷◌, ◌++◌, Bool, true, false, None, if◌then◌else◌, refl, sym, ap, subst, arith}
 use Rattle.mv_history.specs.declared.Step.{Step}
 use Rattle.mv_core.proofs.Terms.{Config, Checked, Grace}
-use Rattle.mv_core.specs.declared.view.View.{View}
+use Rattle.mv_core.specs.declared.view.Knowledge.{Knowledge}
 use Rattle.mv_core.specs.Moves.{Moment, raise_grace}
 use Rattle.reader_marks.specs.Scans.{grace_step}
 use Rattle.log_reclaim.specs.Parts.{BeginsNoScan}
-use Rattle.replay_rules.specs.declared.seats.Version.{Version}
+use Rattle.replay_rules.specs.declared.seats.NotedVersion.{NotedVersion}
 use Rattle.replay_rules.specs.declared.seats.Sweep.{Sweep}
 use Rattle.replay_rules.specs.declared.seats.Sweeping.TheVariants.{RaiseGrace}
-use Rattle.replay_rules.specs.declared.seats.Task.TheVariants.{Tidies}
+use Rattle.replay_rules.specs.declared.seats.NextStep.TheVariants.{Tidies}
 use Rattle.replay_rules.specs.Learns.{scanned_to, scanned}
 use Rattle.replay_rules.specs.NextSteps.{IsStepOf}
 use Rattle.replay_rules.specs.States.{Made, state_of, AreMade}
@@ -23,12 +23,13 @@ use Rattle.replay_rules.proofs.answers.Tidying.Grown.{last_found_on, come_on, op
 use Rattle.replay_rules.proofs.answers.Tidying.Rounds.{settle_so}
 use Rattle.replay_rules.proofs.answers.Tidying.Stepping.{tidying, known_by, GoesBy}
 
-module _ (c : Config) (k : Checked c) (n : ℕ) (made : List Made) (each : AreMade c made) (log : List Version) (freed from : ℕ) (sweep : Sweep) (v0 : View)
+module _ (c : Config) (k : Checked c) (n : ℕ) (made : List Made) (each : AreMade c made) (log : List NotedVersion) (freed from : ℕ) (sweep : Sweep)
+    (v0 : Knowledge)
   where
     abbrev s : Moment
     s = state_of c made
 
-    abbrev v : View
+    abbrev v : Knowledge
     v = s.seats n
 
     -- GRACE is raised, and the scan is whole
@@ -37,7 +38,7 @@ module _ (c : Config) (k : Checked c) (n : ℕ) (made : List Made) (each : AreMa
       abbrev found : ℕ
       found = (state_of c made).memory Grace
 
-      abbrev w : View
+      abbrev w : Knowledge
       w = view_by c (state_of c made) n (raise_grace low)
 
       abbrev step : Step

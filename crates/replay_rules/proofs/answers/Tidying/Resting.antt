@@ -5,11 +5,11 @@ use Rattle.mv_history.specs.declared.Entry.TheVariants.{Rest}
 use Rattle.mv_history.specs.declared.Step.{Step}
 use Rattle.mv_history.specs.declared.StepKind.TheVariants as steps
 use Rattle.mv_history.specs.Trail.{clock_exchanges}
-use Rattle.mv_layout.specs.declared.Place.TheVariants.{Clock}
+use Rattle.mv_layout.specs.declared.SharedWord.TheVariants.{Clock}
 use Rattle.mv_layout.specs.Places.{place_of}
 use Rattle.mv_layout.specs.Words.{clock_time_of, clock_slot_of}
 use Rattle.mv_core.proofs.Terms.{Config, Checked}
-use Rattle.mv_core.specs.declared.view.View.{View}
+use Rattle.mv_core.specs.declared.view.Knowledge.{Knowledge}
 use Rattle.mv_core.specs.EnterSteps.{stamp_place, stamp_swapped, stored_if}
 use Rattle.mv_core.specs.NameSteps.{rest_word, rest_named, rest_lost}
 use Rattle.mv_core.specs.Moves.{Moment, load_named, load_check, stamp, name_rest}
@@ -17,12 +17,12 @@ use Rattle.mv_core.proofs.history.Fronts.{begins_by, begins_long}
 use Rattle.mv_core.proofs.kinds.naming.LostClock.{lost_overtaken}
 use Rattle.log_reclaim.proofs.rests.Exchanges.{one_last}
 use Rattle.log_reclaim.proofs.Needed.{death_known}
-use Rattle.replay_rules.specs.declared.seats.Version.{Version}
+use Rattle.replay_rules.specs.declared.seats.NotedVersion.{NotedVersion}
 use Rattle.replay_rules.specs.declared.seats.Sweep.{Sweep}
 use Rattle.replay_rules.specs.declared.seats.Helping.TheVariants.{LoadNamed, LoadCheck, SwapStamp}
 use Rattle.replay_rules.specs.declared.seats.Ending.TheVariants.{LoadNow}
 use Rattle.replay_rules.specs.declared.seats.Sweeping.TheVariants.{LoadGrace, NameRest}
-use Rattle.replay_rules.specs.declared.seats.Task.TheVariants.{Helps, EndsSection, Tidies}
+use Rattle.replay_rules.specs.declared.seats.NextStep.TheVariants.{Helps, EndsSection, Tidies}
 use Rattle.replay_rules.specs.declared.seats.Then.TheVariants.{Goes}
 use Rattle.replay_rules.specs.GoesOn.{is_unset, helped_in_tidy}
 use Rattle.replay_rules.specs.NextSteps.{IsStepOf}
@@ -38,8 +38,9 @@ use Rattle.replay_rules.proofs.answers.Tidying.Grown.{come_on, tries_on, within_
 use Rattle.replay_rules.proofs.answers.Tidying.Backing.{first_goes, first_later, backs_goes, backs_later, helped_far}
 use Rattle.replay_rules.proofs.answers.Tidying.Stepping.{tidying, ComesSo, front, clock_long, GoesBy}
 
-module _ (c : Config) (v w : View) (step : Step) (f : Further v w (step ∷ [])) (rests : w.past.rests ≡ v.past.rests)
-    (exchanges : clock_exchanges (step ∷ []) ≡ []) (v0 : View) (made : List Step) (old log : List Version) (freed : ℕ) (sweep : Sweep) (word : ℕ) where
+module _ (c : Config) (v w : Knowledge) (step : Step) (f : Further v w (step ∷ [])) (rests : w.past.rests ≡ v.past.rests)
+    (exchanges : clock_exchanges (step ∷ []) ≡ []) (v0 : Knowledge) (made : List Step) (old log : List NotedVersion) (freed : ℕ) (sweep : Sweep)
+    (word : ℕ) where
   -- a help goes on behind a step that leaves the log alone
   helps_goes : (time : Option ℕ) → HelpsIn c v0 v made old log freed sweep time word → HelpsIn c v0 w (made ++ step ∷ []) old log freed sweep time word
   helps_goes (Some time) x = (backs_goes c v w step f rests exchanges v0 made old log freed sweep sweep.at x.0, x.1)
@@ -60,12 +61,13 @@ module _ (c : Config) (v w : View) (step : Step) (f : Further v w (step ∷ []))
     x.2,
   )
 
-module _ (c : Config) (k : Checked c) (n : ℕ) (made : List Made) (each : AreMade c made) (log : List Version) (freed from : ℕ) (sweep : Sweep) (v0 : View)
+module _ (c : Config) (k : Checked c) (n : ℕ) (made : List Made) (each : AreMade c made) (log : List NotedVersion) (freed from : ℕ) (sweep : Sweep)
+    (v0 : Knowledge)
   where
     abbrev s : Moment
     s = state_of c made
 
-    abbrev v : View
+    abbrev v : Knowledge
     v = s.seats n
 
     pub named_goes : (time : Option ℕ) (word : ℕ) → TidyFar c n v0 v log (tidying n time from freed sweep) (Helps (LoadNamed word))
@@ -149,7 +151,7 @@ module _ (c : Config) (k : Checked c) (n : ℕ) (made : List Made) (each : AreMa
       found = (state_of c made).memory Clock
 
       -- behind either the second round begins
-      second : (u : View) (step : Step) → Further v u (step ∷ []) → AreRested v0 u (far.0.made ++ step ∷ [])
+      second : (u : Knowledge) (step : Step) → Further v u (step ∷ []) → AreRested v0 u (far.0.made ++ step ∷ [])
           → clock_time_of word + 1 ≤ u.base + length u.past.seen
           → ComesSo c n v0 u log (tidying n None from freed sweep) (Goes (Tidies (LoadGrace true)))
       second u step f rested reached stands = (

@@ -4,16 +4,16 @@ use Rattle.std.proofs.Common.{if◌then◌else◌, refl, sym, ap, ◌∙◌, sub
 use Rattle.std.proofs.lemmas.Bool.{cases_lt}
 use Rattle.mv_history.specs.Trail.{clock_exchanges}
 use Rattle.mv_core.proofs.Terms.{Config}
-use Rattle.mv_core.specs.declared.view.View.{View}
+use Rattle.mv_core.specs.declared.view.Knowledge.{Knowledge}
 use Rattle.mv_core.specs.Known.{Known}
 use Rattle.log_reclaim.specs.Holders.{TidyHolds, HeldSo}
 use Rattle.replay_rules.specs.declared.plan.Call.TheVariants.{Tidy}
-use Rattle.replay_rules.specs.declared.seats.Version.{Version}
+use Rattle.replay_rules.specs.declared.seats.NotedVersion.{NotedVersion}
 use Rattle.replay_rules.specs.declared.seats.Sweep.{Sweep}
 use Rattle.replay_rules.specs.declared.seats.State.{State}
 use Rattle.replay_rules.specs.declared.seats.Ending.TheVariants.{LoadNow}
 use Rattle.replay_rules.specs.declared.seats.Sweeping.TheVariants.{LoadGrace, Free, LoadScan, LoadSuper}
-use Rattle.replay_rules.specs.declared.seats.Task.TheVariants.{EndsSection, Tidies}
+use Rattle.replay_rules.specs.declared.seats.NextStep.TheVariants.{EndsSection, Tidies}
 use Rattle.replay_rules.specs.declared.seats.Then.{Then}
 use Rattle.replay_rules.specs.declared.seats.Then.TheVariants.{Goes}
 use Rattle.replay_rules.specs.declared.seats.Test.TheVariants.{IsUntimed, IsDeadAbove, EndsSet}
@@ -34,10 +34,10 @@ use Rattle.replay_rules.proofs.answers.Tidying.Ended.{before_noted, after_noted,
 use Rattle.replay_rules.proofs.answers.Tidying.Holding.{is_due, holds_so}
 
 -- where no rest was tried at most one was
-pub rested_of : (v0 v : View) (made : List _) → AreUnrested v0 v made → AreRested v0 v made
+pub rested_of : (v0 v : Knowledge) (made : List _) → AreUnrested v0 v made → AreRested v0 v made
 rested_of v0 v made k = (inl k.0, (let none = ap length k.1 in let le : length (clock_exchanges made) ≤ 1 = omega (arith, none) in le))
 
-module _ (c : Config) (n : ℕ) (v0 v : View) (log : List Version) (freed from : ℕ) (sweep : Sweep) (k : HasCome c v0 v log freed from sweep.began)
+module _ (c : Config) (n : ℕ) (v0 v : Knowledge) (log : List NotedVersion) (freed from : ℕ) (sweep : Sweep) (k : HasCome c v0 v log freed from sweep.began)
     (known : Known any_start any_commit v) (no_scan : v.scan ≡ None) where
   abbrev state : State
   state = record { seat = n; time = None; from = from; freed = freed; call = Tidy; sweep = sweep }

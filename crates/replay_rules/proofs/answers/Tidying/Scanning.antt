@@ -5,16 +5,16 @@ use Rattle.std.proofs.lemmas.List.Elements.{All-nil, Contains-push}
 use Rattle.mv_history.specs.declared.Step.{Step}
 use Rattle.mv_layout.specs.Words.{clock_time_of}
 use Rattle.mv_core.proofs.Terms.{Config, Checked, Clock}
-use Rattle.mv_core.specs.declared.view.View.{View}
+use Rattle.mv_core.specs.declared.view.Knowledge.{Knowledge}
 use Rattle.mv_core.specs.ReclaimSteps.{other_from}
 use Rattle.mv_core.specs.Moves.{Moment, load_scan}
 use Rattle.reader_marks.specs.Scans.{scan_step}
 use Rattle.log_reclaim.specs.Parts.{BeginsNoScan}
 use Rattle.log_reclaim.proofs.Needed.{death_known}
-use Rattle.replay_rules.specs.declared.seats.Version.{Version}
+use Rattle.replay_rules.specs.declared.seats.NotedVersion.{NotedVersion}
 use Rattle.replay_rules.specs.declared.seats.Sweep.{Sweep}
 use Rattle.replay_rules.specs.declared.seats.Sweeping.TheVariants.{LoadScan, LoadMark, RaiseGrace}
-use Rattle.replay_rules.specs.declared.seats.Task.TheVariants.{Tidies}
+use Rattle.replay_rules.specs.declared.seats.NextStep.TheVariants.{Tidies}
 use Rattle.replay_rules.specs.declared.seats.Then.TheVariants.{Goes}
 use Rattle.replay_rules.specs.Learns.{scan_begun}
 use Rattle.replay_rules.specs.Sweeps.{look_at}
@@ -38,7 +38,8 @@ risen true g least = omega arith
 risen false g least = omega arith
 
 -- which mark is loaded next is nothing to what the scan has found
-pub look_far : (c : Config) (n : ℕ) (v0 w : View) (log : List Version) (freed from : ℕ) (sweep : Sweep) (k : HasCome c v0 w log freed from sweep.began)
+pub look_far : (c : Config) (n : ℕ) (v0 w : Knowledge) (log : List NotedVersion) (freed from : ℕ) (sweep : Sweep)
+    (k : HasCome c v0 w log freed from sweep.began)
     → Scans c v0 w k.made k.old log freed sweep sweep.again → (seat : ℕ)
     → ComesSo c n v0 w log (tidying n None from freed sweep) (look_at c (tidying n None from freed sweep) seat)
 look_far c n v0 w log freed from sweep k scans seat =
@@ -50,7 +51,7 @@ look_far c n v0 w log freed from sweep k scans seat =
     (λ e. λ stands. (k, scans)) (λ e. λ stands. (k, scans)))
 
 -- a time of death that was noted before a tidy, and is after the last time, is the one after what was seen then
-late_before : (c : Config) (v0 v : View) (log : List Version) (freed from began : ℕ) → (k : HasCome c v0 v log freed from began) → log ≡ k.old
+late_before : (c : Config) (v0 v : Knowledge) (log : List NotedVersion) (freed from began : ℕ) → (k : HasCome c v0 v log freed from began) → log ≡ k.old
     → (i : ℕ) → freed ≤ i → i < length log → 35184372088831 < (version_at log i).dead → 35184372088831 ≤ v0.base + length v0.past.seen
 late_before c v0 v log freed from began k same i low lt late =
     let l = k.rests.2.noted in
@@ -58,15 +59,16 @@ late_before c v0 v log freed from began k same i low lt late =
     let long = k.same.long in
     let at = noted_at c l k.old began from i k.rests.2.is (omega (arith, low, first)) (omega (arith, lt, long)) in
     let most = death_known c v0 l (i - began) (note_in k.old i) k.rests.2.stands at any_start any_commit ∣ k.known ∣₁ in
-    let is : (version_at log i).dead ≡ (version_at k.old i).dead = ap (λ (x : List Version). (version_at x i).dead) same in
+    let is : (version_at log i).dead ≡ (version_at k.old i).dead = ap (λ (x : List NotedVersion). (version_at x i).dead) same in
     omega (arith, most, late, is)
 
-module _ (c : Config) (k : Checked c) (n : ℕ) (made : List Made) (each : AreMade c made) (log : List Version) (freed from : ℕ) (sweep : Sweep) (v0 : View)
+module _ (c : Config) (k : Checked c) (n : ℕ) (made : List Made) (each : AreMade c made) (log : List NotedVersion) (freed from : ℕ) (sweep : Sweep)
+    (v0 : Knowledge)
   where
     abbrev s : Moment
     s = state_of c made
 
-    abbrev v : View
+    abbrev v : Knowledge
     v = s.seats n
 
     -- CLOCK is loaded
@@ -74,7 +76,7 @@ module _ (c : Config) (k : Checked c) (n : ℕ) (made : List Made) (each : AreMa
       abbrev word : ℕ
       word = (state_of c made).memory Clock
 
-      abbrev w : View
+      abbrev w : Knowledge
       w = view_by c (state_of c made) n load_scan
 
       abbrev step : Step

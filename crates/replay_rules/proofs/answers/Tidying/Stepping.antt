@@ -2,16 +2,16 @@
 use Rattle.std.proofs.Common.{◌≡◌, ℕ, ◌+◌, List, ◌∷◌, length, Option, subst, arith}
 use Rattle.mv_layout.specs.Words.{clock_time_of}
 use Rattle.mv_core.proofs.Terms.{Config, Checked, Clock}
-use Rattle.mv_core.specs.declared.view.View.{View}
+use Rattle.mv_core.specs.declared.view.Knowledge.{Knowledge}
 use Rattle.mv_core.specs.HistoryFacts.{BeginsWith}
 use Rattle.mv_core.specs.Known.{Known}
-use Rattle.mv_core.specs.Moves.{Moment, Kind}
+use Rattle.mv_core.specs.Moves.{Moment, MoveKind}
 use Rattle.mv_core.proofs.frames.FrameLaw.{set_at_here}
 use Rattle.replay_rules.specs.declared.plan.Call.TheVariants.{Tidy}
-use Rattle.replay_rules.specs.declared.seats.Version.{Version}
+use Rattle.replay_rules.specs.declared.seats.NotedVersion.{NotedVersion}
 use Rattle.replay_rules.specs.declared.seats.Sweep.{Sweep}
 use Rattle.replay_rules.specs.declared.seats.State.{State}
-use Rattle.replay_rules.specs.declared.seats.Task.{Task}
+use Rattle.replay_rules.specs.declared.seats.NextStep.{NextStep}
 use Rattle.replay_rules.specs.declared.seats.Then.{Then}
 use Rattle.replay_rules.specs.Tasks.{place_in_task}
 use Rattle.replay_rules.specs.SeatNotes.{applied}
@@ -32,7 +32,7 @@ abbrev pub tidying : ℕ → Option ℕ → ℕ → ℕ → Sweep → State
 tidying n time from freed sweep = record { seat = n; time = time; from = from; freed = freed; call = Tidy; sweep = sweep }
 
 -- the tidy goes on, or has its answer, where the seat stands so
-abbrev pub ComesSo : Config → ℕ → View → View → List Version → State → Then → Type 0
+abbrev pub ComesSo : Config → ℕ → Knowledge → Knowledge → List NotedVersion → State → Then → Type 0
 ComesSo c n v0 w log s x = StandsThen c n w log s x → Comes (TidyFar c n v0 w log s) (AnswersSo c Tidy v0 w) x
 
 module _ (c : Config) (k : Checked c) (n : ℕ) (made : List Made) (each : AreMade c made) where
@@ -50,13 +50,13 @@ module _ (c : Config) (k : Checked c) (n : ℕ) (made : List Made) (each : AreMa
   clock_long = let long = (facts c k n made each).history.long in let base = base_is in omega (arith, long, base)
 
   -- the seat is at a state of the rule behind the step too
-  pub known_by : (kind : Kind) (task : Task) → IsStepOf c made (step_of n kind) n task → Known any_start any_commit (view_by c (state_of c made) n kind)
+  pub known_by : (kind : MoveKind) (task : NextStep) → IsStepOf c made (step_of n kind) n task → Known any_start any_commit (view_by c (state_of c made) n kind)
   known_by kind task next =
       subst (Known any_start any_commit) (set_at_here (state_of c made).seats n (view_by c (state_of c made) n kind))
       (knows c k n (step_of n kind ∷ made) (next.may, each))
 
   -- how the tidy goes on behind a step of this kind
-  abbrev pub GoesBy : View → List Version → State → Task → Kind → Type 0
+  abbrev pub GoesBy : Knowledge → List NotedVersion → State → NextStep → MoveKind → Type 0
   GoesBy v0 log state task kind =
       ComesSo c n v0 (view_by c (state_of c made) n kind)
       (applied (edit_of task state ((state_of c made).memory (place_in_task c n task))) log)

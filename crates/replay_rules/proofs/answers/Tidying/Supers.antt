@@ -4,19 +4,19 @@ use Rattle.std.proofs.Common.{None, if◌then◌else◌, refl, sym, ap, ◌∙�
 use Rattle.std.proofs.lemmas.List.Elements.{Contains-push}
 use Rattle.mv_history.specs.declared.Step.{Step}
 use Rattle.mv_core.proofs.Terms.{Config, Checked, Super}
-use Rattle.mv_core.specs.declared.view.View.{View}
+use Rattle.mv_core.specs.declared.view.Knowledge.{Knowledge}
 use Rattle.mv_core.specs.Rings.{index_of}
 use Rattle.mv_core.proofs.history.Latest.{latest_at-mono}
 use Rattle.log_reclaim.specs.Parts.{BeginsNoScan, super_step, super_load}
 use Rattle.log_reclaim.specs.Untimed.{TriedSo, StaysUntimed}
-use Rattle.replay_rules.specs.declared.seats.Version.{Version}
+use Rattle.replay_rules.specs.declared.seats.NotedVersion.{NotedVersion}
 use Rattle.replay_rules.specs.declared.seats.Edit.TheVariants.{Kept, Retired, AboveNoted}
 use Rattle.mv_core.specs.Known.{Known}
 use Rattle.replay_rules.specs.declared.seats.Scanned.{Scanned}
 use Rattle.replay_rules.specs.declared.seats.Sweep.{Sweep}
 use Rattle.replay_rules.specs.declared.seats.Entering.TheVariants.{LoadLow}
 use Rattle.replay_rules.specs.declared.seats.Sweeping.TheVariants.{LoadSuper}
-use Rattle.replay_rules.specs.declared.seats.Task.TheVariants.{Enters, Tidies}
+use Rattle.replay_rules.specs.declared.seats.NextStep.TheVariants.{Enters, Tidies}
 use Rattle.replay_rules.specs.declared.seats.Then.TheVariants.{Goes}
 use Rattle.replay_rules.specs.SeatNotes.{version_at, edited_from, applied}
 use Rattle.replay_rules.specs.Sweeps.{settle_behind}
@@ -38,7 +38,7 @@ use Rattle.replay_rules.proofs.answers.Tidying.Rounds.{settle_so}
 use Rattle.replay_rules.proofs.answers.Tidying.Stepping.{tidying, ComesSo, known_by, GoesBy}
 
 -- the time of an own version was seen before the tidy
-pub old_time : (c : Config) (v0 v : View) (log : List Version) (freed from began : ℕ) → HasCome c v0 v log freed from began → (i : ℕ) → freed ≤ i
+pub old_time : (c : Config) (v0 v : Knowledge) (log : List NotedVersion) (freed from began : ℕ) → HasCome c v0 v log freed from began → (i : ℕ) → freed ≤ i
     → i < length log → (version_at log i).time ≤ v0.base + length v0.past.seen
 old_time c v0 v log freed from began k i low lt =
     let l = k.rests.2.noted in
@@ -49,14 +49,14 @@ old_time c v0 v log freed from began k i low lt =
     let same = ap (λ x. x.time) (k.same.each i low lt).same in
     omega (arith, seen, same)
 
-module _ (c : Config) (k : Checked c) (n : ℕ) (lt : n < c.seats) (made : List Made) (each : AreMade c made) (log : List Version) (freed from : ℕ)
+module _ (c : Config) (k : Checked c) (n : ℕ) (lt : n < c.seats) (made : List Made) (each : AreMade c made) (log : List NotedVersion) (freed from : ℕ)
     (rests : RestsAt c ((state_of c made).seats n) log freed from None) (no_scan : ((state_of c made).seats n).scan ≡ None) (at : ℕ) (low : freed ≤ at)
-    (live : at < length log) (alive : (version_at log at).dead ≡ 0) (sweep : Sweep) (swept : IsSwept ((state_of c made).seats n).grace sweep) (v0 : View)
+    (live : at < length log) (alive : (version_at log at).dead ≡ 0) (sweep : Sweep) (swept : IsSwept ((state_of c made).seats n).grace sweep) (v0 : Knowledge)
     (next : IsStepOf c made (step_of n (kind c k n lt made each log freed from rests no_scan at low live alive)) n (Tidies (LoadSuper at))) where
-  abbrev v : View
+  abbrev v : Knowledge
   v = (state_of c made).seats n
 
-  abbrev u : View
+  abbrev u : Knowledge
   u = w c k n lt made each log freed from rests no_scan at low live alive
 
   abbrev there : ℕ
@@ -94,7 +94,7 @@ module _ (c : Config) (k : Checked c) (n : ℕ) (lt : n < c.seats) (made : List 
 
   -- a time was found: the version is dead from it on
   module _ (some : there ≢ 0) where
-    abbrev log2 : List Version
+    abbrev log2 : List NotedVersion
     log2 = edited_from (Retired at there) 0 log
 
     looks_retired : (again : Bool) → (k0 : HasCome c v0 v log freed from sweep.began) → Looks c v0 v k0.made k0.old log freed sweep again at
@@ -158,7 +158,7 @@ module _ (c : Config) (k : Checked c) (n : ℕ) (lt : n < c.seats) (made : List 
         ))
 
     -- in the first round it is known why
-    abbrev log3 : List Version
+    abbrev log3 : List NotedVersion
     log3 = edited_from (AboveNoted at None) 0 log
 
     stays : (k0 : HasCome c v0 v log freed from sweep.began) → IsFirst c v0 v k0.made log freed at sweep → (back : Bool)
@@ -222,12 +222,12 @@ module _ (c : Config) (k : Checked c) (n : ℕ) (lt : n < c.seats) (made : List 
             record {
               low = low;
               live = omega (arith, live, long);
-              still = subst (λ (x : Version). StaysUntimed c u (k0.made ++ one ∷ []) (mark_of sweep.first) sweep.first.clock false (note_of at x) None)
+              still = subst (λ (x : NotedVersion). StaysUntimed c u (k0.made ++ one ∷ []) (mark_of sweep.first) sweep.first.clock false (note_of at x) None)
                   (sym is) still;
               before = k0.made;
               later = [];
               made_is = ap (λ s. k0.made ++ s ∷ [])
-                  (zero_step ∙ ap (λ (x : Version). super_step c u.number (note_of at x)) (sym is));
+                  (zero_step ∙ ap (λ (x : NotedVersion). super_step c u.number (note_of at x)) (sym is));
             },
           ),
         )
@@ -256,7 +256,7 @@ module _ (c : Config) (k : Checked c) (n : ℕ) (lt : n < c.seats) (made : List 
           let none = eqb-true there 0 e in
           let x = subst (λ b. Looks c v0 v far.0.made far.0.old log freed sweep b at) is far.1 in
           let log4 = edited_from (AboveNoted at None) 0 log in
-          let same_time : (version_at log4 at).time ≡ (version_at log at).time = ap (λ (y : Version). y.time) (above_here log at None live) in
+          let same_time : (version_at log4 at).time ≡ (version_at log at).time = ap (λ (y : NotedVersion). y.time) (above_here log at None live) in
           if_so (ComesSo c n v0 u log4 (tidying n None from freed sweep2)) (ltb sweep.last.time (version_at log4 at).time)
           (settle_behind log4 (tidying n None from freed sweep2) at) (Goes (Enters LoadLow))
           (λ young. goes_young none far.0 is x (let late = ltb_lt _ _ young in omega (arith, late, same_time)))

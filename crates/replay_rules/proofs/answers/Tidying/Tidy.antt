@@ -1,11 +1,11 @@
 -- A tidy comes to its answer: it begins so, and goes on so behind each of its steps.
 use Rattle.std.proofs.Common.{◌≡◌, ℕ, ◌<◌, ◌≤◌, List, [], length, true, false, not, Option, Some, None, refl, sym, ◌∙◌, subst, arith, inl, inr, is_some}
 use Rattle.mv_core.proofs.Terms.{Config, Checked}
-use Rattle.mv_core.specs.declared.view.View.{View}
-use Rattle.mv_core.specs.Moves.{Moment, Kind, load_low, store_mark, load_time, clear_mark, load_named, load_check, stamp, load_head, load_death, name_rest}
+use Rattle.mv_core.specs.declared.view.Knowledge.{Knowledge}
+use Rattle.mv_core.specs.Moves.{Moment, MoveKind, load_low, store_mark, load_time, clear_mark, load_named, load_check, stamp, load_head, load_death, name_rest}
 use Rattle.mv_core.specs.Moves.{load_scan, load_mark, load_grace, raise_grace, load_super, cut_head, store_free}
 use Rattle.replay_rules.specs.declared.plan.Call.TheVariants.{Tidy}
-use Rattle.replay_rules.specs.declared.seats.Version.{Version}
+use Rattle.replay_rules.specs.declared.seats.NotedVersion.{NotedVersion}
 use Rattle.replay_rules.specs.declared.seats.Sweep.{Sweep}
 use Rattle.replay_rules.specs.declared.seats.Entering.{Entering}
 use Rattle.replay_rules.specs.declared.seats.Entering.TheVariants.{LoadLow, StoreMark, LoadTime}
@@ -13,12 +13,12 @@ use Rattle.replay_rules.specs.declared.seats.Helping.{Helping}
 use Rattle.replay_rules.specs.declared.seats.Helping.TheVariants.{LoadNamed, LoadCheck, SwapStamp}
 use Rattle.replay_rules.specs.declared.seats.Ending.{Ending}
 use Rattle.replay_rules.specs.declared.seats.Ending.TheVariants.{LoadNow, Name, StampOwn, StoreSuper, Unlock, LoadDeath, Leave}
-use Rattle.replay_rules.specs.declared.seats.Back.TheVariants.{WasCut, WasGone, WasAbove}
+use Rattle.replay_rules.specs.declared.seats.WriteBackEnd.TheVariants.{WasCut, WasGone, WasAbove}
 use Rattle.replay_rules.specs.declared.seats.Sweeping.{Sweeping}
 use Rattle.replay_rules.specs.declared.seats.Sweeping.TheVariants.{LoadGrace, Free, LoadScan, LoadMark, RaiseGrace, LoadSuper, LoadTop, StoreMaster}
 use Rattle.replay_rules.specs.declared.seats.Sweeping.TheVariants.{CutHead, LoadCutDeath, LeaveBack, LoadSuperAgain, NameRest}
-use Rattle.replay_rules.specs.declared.seats.Task.{Task}
-use Rattle.replay_rules.specs.declared.seats.Task.TheVariants.{Enters, Helps, Walks, Locks, Writes, EndsSection, Tidies}
+use Rattle.replay_rules.specs.declared.seats.NextStep.{NextStep}
+use Rattle.replay_rules.specs.declared.seats.NextStep.TheVariants.{Enters, Helps, Walks, Locks, Writes, EndsSection, Tidies}
 use Rattle.replay_rules.specs.Begins.{new_sweep}
 use Rattle.replay_rules.specs.SeatNotes.{version_at}
 use Rattle.replay_rules.specs.NextSteps.{IsStepOf}
@@ -65,32 +65,32 @@ tidy_begins c k fit n lt made each log freed from time rests may = by time rests
       record { log_is = refl; unrested = (refl, refl); within = omega arith },
     )
 
-module _ (c : Config) (k : Checked c) (n : ℕ) (lt : n < c.seats) (made : List Made) (each : AreMade c made) (log : List Version) (freed from : ℕ)
-    (time : Option ℕ) (sweep : Sweep) (v0 : View) where
+module _ (c : Config) (k : Checked c) (n : ℕ) (lt : n < c.seats) (made : List Made) (each : AreMade c made) (log : List NotedVersion) (freed from : ℕ)
+    (time : Option ℕ) (sweep : Sweep) (v0 : Knowledge) where
   abbrev s : Moment
   s = state_of c made
 
-  abbrev v : View
+  abbrev v : Knowledge
   v = s.seats n
 
   -- it goes on so behind a step of this kind
-  abbrev Goes : Option ℕ → Task → Kind → Type 0
+  abbrev Goes : Option ℕ → NextStep → MoveKind → Type 0
   Goes t task kind = IsStepOf c made (step_of n kind) n task → TidyFar c n v0 v log (tidying n t from freed sweep) task
       → GoesBy c k n made each v0 log (tidying n t from freed sweep) task kind
 
-  of_kind : (t : Option ℕ) (task : Task) (this other : Kind) → other ≡ this → Goes t task this → Goes t task other
+  of_kind : (t : Option ℕ) (task : NextStep) (this other : MoveKind) → other ≡ this → Goes t task this → Goes t task other
   of_kind t task this other is goes = subst (Goes t task) (sym is) goes
 
-  at_rest : (task : Task) (kind : Kind) → time ≡ None → Goes None task kind → Goes time task kind
+  at_rest : (task : NextStep) (kind : MoveKind) → time ≡ None → Goes None task kind → Goes time task kind
   at_rest task kind none goes = subst (λ t. Goes t task kind) (sym none) goes
 
-  enters_go : (no_scan : v.scan ≡ None) (step : Entering) (kind : Kind) → IsKindOf (Enters step) kind → Goes None (Enters step) kind
+  enters_go : (no_scan : v.scan ≡ None) (step : Entering) (kind : MoveKind) → IsKindOf (Enters step) kind → Goes None (Enters step) kind
   enters_go no_scan LoadLow kind is = of_kind None _ load_low kind is (λ next far. backing.low_goes c k n made each log freed from sweep v0 far)
   enters_go no_scan (StoreMark mark) kind is =
       of_kind None _ (store_mark is.0) kind is.1 (λ next far. backing.mark_goes c k n made each log freed from sweep v0 mark is.0 far)
   enters_go no_scan LoadTime kind is = of_kind None _ load_time kind is (λ next far. backing.time_goes c k n made each log freed from sweep v0 far)
 
-  helps_go : (step : Helping) (kind : Kind) → IsKindOf (Helps step) kind → Goes time (Helps step) kind
+  helps_go : (step : Helping) (kind : MoveKind) → IsKindOf (Helps step) kind → Goes time (Helps step) kind
   helps_go (LoadNamed word) kind is =
       of_kind time _ (load_named word) kind is (λ next far. named_goes c k n made each log freed from sweep v0 time word far)
   helps_go (LoadCheck word unset) kind is =
@@ -98,7 +98,8 @@ module _ (c : Config) (k : Checked c) (n : ℕ) (lt : n < c.seats) (made : List 
   helps_go (SwapStamp word unset) kind is =
       of_kind time _ (stamp word unset) kind is (λ next far. stamp_goes c k n made each log freed from sweep v0 time word unset far)
 
-  ends_go : (step : Ending) (kind : Kind) → EndsAt c n v log freed from time Tidy step → IsKindOf (EndsSection step) kind → Goes time (EndsSection step) kind
+  ends_go : (step : Ending) (kind : MoveKind) → EndsAt c n v log freed from time Tidy step → IsKindOf (EndsSection step) kind
+      → Goes time (EndsSection step) kind
   ends_go LoadNow kind (inl at) is = let f = at.2 in absurd (cc)
   ends_go LoadNow kind (inr at) is =
       at_rest _ kind at.1 (of_kind None _ load_check kind is (λ next far. now_goes c k n made each log freed from sweep v0 at.0 far))
@@ -111,16 +112,16 @@ module _ (c : Config) (k : Checked c) (n : ℕ) (lt : n < c.seats) (made : List 
 
   -- SUPER of a version without a time of death
   supers_go : (no_scan : ((state_of c made).seats n).scan ≡ None) (place : ℕ) (rests : RestsAt c v log freed from None) (low : freed ≤ place)
-      (live : place < length log) (alive : (version_at log place).dead ≡ 0) (task : Task) (this : Kind) → IsKindOf (Tidies (LoadSuper place)) this
+      (live : place < length log) (alive : (version_at log place).dead ≡ 0) (task : NextStep) (this : MoveKind) → IsKindOf (Tidies (LoadSuper place)) this
       → Goes None task (kind c k n lt made each log freed from rests no_scan place low live alive) → Goes None task this
   supers_go no_scan place rests low live alive task this is goes next far =
       let same = same_kind c k n lt made each log freed from rests no_scan place low live alive is.0 is.1
-      (subst (λ (x : Kind). IsStepOf c made (step_of n x) n task) is.2 next).may.may in
+      (subst (λ (x : MoveKind). IsStepOf c made (step_of n x) n task) is.2 next).may.may in
       of_kind None task (kind c k n lt made each log freed from rests no_scan place low live alive) this
       (is.2 ∙ (λ i. load_super place (same.0 i) (same.1 i))) goes next far
 
   module _ (no_scan : ((state_of c made).seats n).scan ≡ None) where
-    tidies_go : (step : Sweeping) (this : Kind) → TidiesAt c n v log freed from time sweep step → IsKindOf (Tidies step) this → Goes time (Tidies step) this
+    tidies_go : (step : Sweeping) (this : MoveKind) → TidiesAt c n v log freed from time sweep step → IsKindOf (Tidies step) this → Goes time (Tidies step) this
     tidies_go (LoadGrace again) this at is =
         at_rest _ this at.1
         (of_kind None _ load_grace this is (λ next far. grace_goes c k n made each log freed from sweep no_scan v0 again at.0 next far))
@@ -177,7 +178,7 @@ module _ (c : Config) (k : Checked c) (n : ℕ) (lt : n < c.seats) (made : List 
         at_rest _ this at.1
         (of_kind None _ (name_rest word) this is (λ next far. rest_goes c k n made each log freed from sweep v0 word new next far))
 
-  quiet_goes : v.scan ≡ None → (task : Task) (this : Kind) → StandsFor c n v log freed from time Tidy sweep (Some task) → IsKindOf task this
+  quiet_goes : v.scan ≡ None → (task : NextStep) (this : MoveKind) → StandsFor c n v log freed from time Tidy sweep (Some task) → IsKindOf task this
       → Goes time task this
   quiet_goes no_scan (Enters step) this at is = at_rest _ this at.2 (enters_go no_scan step this is)
   quiet_goes no_scan (Helps step) this at is = helps_go step this is
@@ -187,20 +188,21 @@ module _ (c : Config) (k : Checked c) (n : ℕ) (lt : n < c.seats) (made : List 
   quiet_goes no_scan (EndsSection step) this at is = ends_go step this at is
   quiet_goes no_scan (Tidies step) this at is = tidies_go no_scan step this at.0 is
 
-  marks_go : (seat : ℕ) (this : Kind) → StandsFor c n v log freed from time Tidy sweep (Some (Tidies (LoadMark seat))) → IsKindOf (Tidies (LoadMark seat)) this
+  marks_go : (seat : ℕ) (this : MoveKind) → StandsFor c n v log freed from time Tidy sweep (Some (Tidies (LoadMark seat)))
+      → IsKindOf (Tidies (LoadMark seat)) this
       → Goes time (Tidies (LoadMark seat)) this
   marks_go seat this at is =
       at_rest _ this at.0.1
       (of_kind None _ (load_mark seat is.0) this is.1
       (λ next far. marking.mark_goes c k n made each log freed from sweep v0 at.0.0.0 seat is.0 next far))
 
-  task_goes : (task : Task) (this : Kind) → ScanAt v (Some task) → StandsFor c n v log freed from time Tidy sweep (Some task) → IsKindOf task this
+  task_goes : (task : NextStep) (this : MoveKind) → ScanAt v (Some task) → StandsFor c n v log freed from time Tidy sweep (Some task) → IsKindOf task this
       → Goes time task this
   task_goes task this (inl no_scan) at is = quiet_goes no_scan task this at is
   task_goes task this (inr scan) at is =
       let one : Some task ≡ Some (Tidies (LoadMark scan.0)) = scan.1 in
       let same : task ≡ Tidies (LoadMark scan.0) = cc in
-      subst (λ (x : Task). StandsFor c n v log freed from time Tidy sweep (Some x) → IsKindOf x this → Goes time x this) (sym same)
+      subst (λ (x : NextStep). StandsFor c n v log freed from time Tidy sweep (Some x) → IsKindOf x this → Goes time x this) (sym same)
       (marks_go scan.0 this) at is
 
 -- and goes on so behind each of its steps

@@ -9,8 +9,8 @@ use Rattle.mv_core.proofs.Terms.{Config}
 use Rattle.mv_core.specs.declared.ring.CommitNote.{CommitNote}
 use Rattle.mv_core.specs.declared.ring.Version as core
 use Rattle.mv_core.specs.declared.ring.Slot.TheVariants.{Live}
-use Rattle.mv_core.specs.declared.ring.Status.TheVariants.{Committed}
-use Rattle.mv_core.specs.declared.view.View.{View}
+use Rattle.mv_core.specs.declared.ring.WriteSetStatus.TheVariants.{Committed}
+use Rattle.mv_core.specs.declared.view.Knowledge.{Knowledge}
 use Rattle.mv_core.specs.Rings.{slot_at, index_of}
 use Rattle.mv_core.specs.Times.{latest, latest_at}
 use Rattle.mv_core.specs.Chains.{IsLater}
@@ -23,7 +23,7 @@ use Rattle.seat_log.specs.Stands.{version_of}
 use Rattle.seat_log.proofs.NotedSlots.{noted_in}
 use Rattle.log_reclaim.specs.Parts.{FindsSeat, super_step}
 use Rattle.log_reclaim.specs.Untimed.{TriedSo}
-use Rattle.replay_rules.specs.declared.seats.Version.{Version}
+use Rattle.replay_rules.specs.declared.seats.NotedVersion.{NotedVersion}
 use Rattle.replay_rules.specs.declared.seats.Scanned.{Scanned}
 use Rattle.replay_rules.specs.SeatNotes.{version_at}
 use Rattle.replay_rules.specs.States.{any_commit, any_start}
@@ -34,7 +34,8 @@ use Rattle.replay_rules.proofs.answers.Tidying.Further.{Further, further_number}
 use Rattle.replay_rules.proofs.answers.Tidying.Far.{HasCome, KnowsUntimed, LookedAt, note_in, mark_of}
 use Rattle.replay_rules.proofs.answers.Tidying.Supers.{old_time}
 
-module _ (c : Config) (v0 v : View) (log : List Version) (freed from began : ℕ) (k : HasCome c v0 v log freed from began) (logs : Logs c v log freed from)
+module _ (c : Config) (v0 v : Knowledge) (log : List NotedVersion) (freed from began : ℕ) (k : HasCome c v0 v log freed from began)
+    (logs : Logs c v log freed from)
     (nothing : from ≡ length log) (first : Scanned) (up : ℕ) (tried : KnowsUntimed c v0 v k.made log freed up first) (at : ℕ)
     (looked : LookedAt c v k.made log freed first at) (alive : (version_at log at).dead ≡ 0) where
   abbrev note_own : (note : CommitNote) × (slot_at v.ring (index_of c at) ≡ Live (version_of (note_in log at)) (Committed note))
@@ -81,7 +82,7 @@ module _ (c : Config) (v0 v : View) (log : List Version) (freed from began : ℕ
         there.4
 
   -- it is that of another seat's version, which is newer, and was found by a step of the write-back
-  module _ (w : View) (s : Step) (f : Further v w (s ∷ [])) (seat : ℕ) (finds : FindsSeat c (version_at log at).object seat s)
+  module _ (w : Knowledge) (s : Step) (f : Further v w (s ∷ [])) (seat : ℕ) (finds : FindsSeat c (version_at log at).object seat s)
       (names : NamesNewer c v (version_at log at).object finds.link) (not_own : seat ≢ v.number) (in_range : seat < c.seats) where
     pub others_newer : TriedSo c w (k.made ++ s ∷ []) (mark_of first) first.clock (note_in log at) (Some seat)
     others_newer =

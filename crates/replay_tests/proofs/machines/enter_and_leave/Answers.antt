@@ -1,5 +1,5 @@
 use Rattle.std.proofs.Common.{◌≡◌, ◌<◌, sym, ap, ◌∙◌, subst}
-use Rattle.mv_layout.specs.declared.Place.TheVariants.{Clock}
+use Rattle.mv_layout.specs.declared.SharedWord.TheVariants.{Clock}
 use Rattle.mv_layout.specs.declared.Config.{Config}
 use Rattle.mv_layout.specs.Words.{clock_time_of}
 use Rattle.replay_rules.specs.States.{opened}

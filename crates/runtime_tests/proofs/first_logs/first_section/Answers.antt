@@ -1,5 +1,5 @@
 use Rattle.std.proofs.Common.{◌≡◌, sym, ◌∙◌, subst, arith, ap}
-use Rattle.mv_core.specs.declared.view.View.{View}
+use Rattle.mv_core.specs.declared.view.Knowledge.{Knowledge}
 use Rattle.mv_core.specs.Passes.{view, config_of, start_of}
 use Rattle.mv_core.proofs.kinds.opening.NewPasses.{new_is_of, new_view_is, new_may_enter}
 use Rattle.mv_layout.specs.declared.Config.{Config}
@@ -34,4 +34,4 @@ build_again-built-requires-clause-stands g c =
     let slots : d.slots ≡ 64 = ap (λ (e : Config). e.slots) about in
     let log : c.in_ok-log.log ≡ nothing_noted 0 64 = c.in_ok-log.ensures in
     subst (λ (m : Noted). Stands d (view p) m) (ap (nothing_noted 0) slots ∙ sym log)
-    (subst (λ (v : View). Stands d v (nothing_noted 0 d.slots)) (sym is) (stands_new d (start_of c.in_ok-shared.shared) 0 checked (omega arith)))
+    (subst (λ (v : Knowledge). Stands d v (nothing_noted 0 d.slots)) (sym is) (stands_new d (start_of c.in_ok-shared.shared) 0 checked (omega arith)))

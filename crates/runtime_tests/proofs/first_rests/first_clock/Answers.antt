@@ -1,5 +1,5 @@
 use Rattle.std.proofs.Common.{sym, subst}
-use Rattle.mv_core.specs.declared.view.View.{View}
+use Rattle.mv_core.specs.declared.view.Knowledge.{Knowledge}
 use Rattle.mv_core.specs.EnterSteps.{MayLoadCheck}
 use Rattle.seat_log.proofs.OwnSlots.{of_still}
 use Rattle.runtime_tests.proofs.first_rests.first_clock.Goals as goal
@@ -13,4 +13,4 @@ help_clock-loaded-requires-clause-of g c =
 
 pub help_clock-loaded-requires-clause-may : goal.help_clock-loaded-requires-clause-may
 help_clock-loaded-requires-clause-may g c =
-    subst (λ (v : View). MayLoadCheck v.phase) (sym c.now-word.ensures.view.2) (subst MayLoadCheck (sym c.in_ok-shared.ensures.other.1.outside) tt)
+    subst (λ (v : Knowledge). MayLoadCheck v.phase) (sym c.now-word.ensures.view.2) (subst MayLoadCheck (sym c.in_ok-shared.ensures.other.1.outside) tt)

@@ -1,6 +1,6 @@
 use Rattle.std.proofs.Common.{rules, ap, arith}
 use Rattle.mv_core.specs.Passes.{view, config_of}
-use Rattle.log_reclaim.specs.declared.writing_back.Back.{Back}
+use Rattle.log_reclaim.specs.declared.writing_back.StartedWriteBack.{StartedWriteBack}
 use Rattle.runtime_tests.proofs.Marked.{scanned}
 use Rattle.runtime_tests.proofs.Reclaimed.{may_start, back_started, back_not_started}
 use Rattle.runtime_tests.proofs.Stages.{at_outside, still_outside}
@@ -43,7 +43,7 @@ returns-in-Ok g c =
     record {
       ready = (
         (search rules, back_started config w (view c.back_start.new.pass) l _ _ c.in-Ok.back o a.1 a.2),
-        (a.2, ap (λ (b : Back). b.stored) a.3),
+        (a.2, ap (λ (b : StartedWriteBack). b.stored) a.3),
       );
     }
 

@@ -1,7 +1,7 @@
 use Rattle.std.proofs.Common.{◌+◌, sym, ap, ◌∙◌, subst}
 use Rattle.mv_core.specs.Passes.{view, config_of}
 use Rattle.seat_log.proofs.OwnSlots.{of_still}
-use Rattle.log_reclaim.specs.declared.writing_back.Back.{Back}
+use Rattle.log_reclaim.specs.declared.writing_back.StartedWriteBack.{StartedWriteBack}
 use Rattle.runtime_tests.specs.Clients.{IsUnderWay}
 use Rattle.runtime_tests.proofs.Reclaimed.{back_stored}
 use Rattle.runtime_tests.proofs.Stages.{at_writing_back, still_writing_back}
@@ -20,6 +20,6 @@ returns-in-BackWord g c =
           of_still c.args.shared.now c.args.client.now.pass c.back_word.new.pass e.same c.requires.ready.0.0,
           still_writing_back _ _ _ _ c.in-WritingBack.is (back_stored _ _ _ _ _ _ k e.writing e.stores),
         ),
-        (e.writing, ap (λ (b : Back). b.stored) is ∙ ap (λ n. n + 1) u.1),
+        (e.writing, ap (λ (b : StartedWriteBack). b.stored) is ∙ ap (λ n. n + 1) u.1),
       );
     }

@@ -1,5 +1,5 @@
 use Rattle.std.proofs.Common.{◌≡◌, ◌==◌, ℕ, ◌+◌, ◌-◌, ◌<◌, ◌^◌, length, sym, ap, ◌∙◌, subst, arith}
-use Rattle.reader_marks.specs.mv_core.declared.view.View.{View}
+use Rattle.reader_marks.specs.mv_core.declared.view.Knowledge.{Knowledge}
 use Rattle.reader_marks.specs.mv_core.Passes.{view, config_of}
 use Rattle.seat_log.specs.Notes.{Noted, next_of, first_of, built_noted, next_note}
 use Rattle.seat_log.proofs.OwnSlots.{of_still, same_on}
@@ -65,7 +65,7 @@ returns-clause-view g c = view_is g c
 
 pub returns-clause-rest : goal.returns-clause-rest
 returns-clause-rest g c =
-    subst (λ (w : View). ChangesLog (view c.args.pass.now) w) (sym (view_is g c))
+    subst (λ (w : Knowledge). ChangesLog (view c.args.pass.now) w) (sym (view_is g c))
     (slot_changes (config_of c.args.shared.now) (view c.args.pass.now) (next_of c.args.log.now) (first_of c.args.log.now) c.args.previous c.args.words)
 
 pub link_slot-requires-clause-first : goal.link_slot-requires-clause-first

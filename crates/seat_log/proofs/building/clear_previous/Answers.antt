@@ -1,5 +1,5 @@
 use Rattle.std.proofs.Common.{sym, subst, Option}
-use Rattle.reader_marks.specs.mv_core.declared.view.View.{View}
+use Rattle.reader_marks.specs.mv_core.declared.view.Knowledge.{Knowledge}
 use Rattle.reader_marks.specs.mv_core.Passes.{view, config_of}
 use Rattle.seat_log.specs.declared.version.Note.{Note}
 use Rattle.seat_log.specs.Notes.{Noted, IsBuilt, cleared}
@@ -29,5 +29,5 @@ returns-clause-stands g c = stands g c
 
 pub returns-clause-rest : goal.returns-clause-rest
 returns-clause-rest g c =
-    subst (λ (w : View). ChangesLog (view c.args.pass.now) w) (sym c.store_next.ensures.view)
+    subst (λ (w : Knowledge). ChangesLog (view c.args.pass.now) w) (sym c.store_next.ensures.view)
     (next_changes (config_of c.args.shared.now) (view c.args.pass.now) c.args.position 2 0)

@@ -1,5 +1,5 @@
 use Rattle.std.proofs.Common.{◌≡◌, ◌⊎◌, ℕ, ◌+◌, ◌-◌, List, slice_set, sym, ap, ◌∙◌, subst, ⊎_elim, arith, Option, Some}
-use Rattle.reader_marks.specs.mv_core.declared.view.View.{View}
+use Rattle.reader_marks.specs.mv_core.declared.view.Knowledge.{Knowledge}
 use Rattle.reader_marks.specs.mv_core.Passes.{view, config_of}
 use Rattle.seat_log.specs.declared.version.Note.{Note}
 use Rattle.seat_log.specs.Notes.{Noted, next_of, IsBuilt, IsHeld, with_word, at_place, built_word, built_word_noted, word_noted}
@@ -96,12 +96,12 @@ returns-clause-held g c = λ h. (
 
 pub returns-in-Some-clause-rest : goal.returns-in-Some-clause-rest
 returns-in-Some-clause-rest g c =
-    subst (λ (w : View). ChangesLog (view c.args.pass.now) w) (sym c.store_next.ensures.view)
+    subst (λ (w : Knowledge). ChangesLog (view c.args.pass.now) w) (sym c.store_next.ensures.view)
     (next_changes (config_of c.args.shared.now) (view c.args.pass.now) c.args.position (4 + c.args.word) c.args.value)
 
 pub returns-clause-rest : goal.returns-clause-rest
 returns-clause-rest g c =
-    subst (λ (w : View). ChangesLog (view c.args.pass.now) w) (sym c.store_data.ensures.view)
+    subst (λ (w : Knowledge). ChangesLog (view c.args.pass.now) w) (sym c.store_data.ensures.view)
     (word_changes (config_of c.args.shared.now) (view c.args.pass.now) c.args.position c.args.word c.args.value)
 
 -- no version is built there and none is held: this does not happen

@@ -1,5 +1,5 @@
 use Rattle.std.proofs.Common.{ℕ, ◌+◌, ◌<◌, ◌≤◌, List, sym, subst}
-use Rattle.reader_marks.specs.mv_core.declared.view.View.{View}
+use Rattle.reader_marks.specs.mv_core.declared.view.Knowledge.{Knowledge}
 use Rattle.reader_marks.specs.mv_core.ReclaimSteps.{MayStoreFree}
 use Rattle.reader_marks.specs.mv_core.Passes.{view, config_of}
 use Rattle.seat_log.specs.declared.version.Note.{Note}
@@ -30,7 +30,7 @@ stands g c =
     let frees : FreesSet l c.args.mark.now.time k = subst (λ (m : Noted). FreesSet m c.args.mark.now.time k) (sym c.log.view_is) c.oldest_dead-count.ensures in
     let before : Stands (config_of c.args.shared.now) (view c.args.pass.now) l =
     subst (λ (m : Noted). Stands (config_of c.args.shared.now) (view c.args.pass.now) m) (sym c.log.view_is) c.requires.stands in
-    subst (λ (u : View). Stands (config_of c.args.shared.now) u (freed_noted l k)) (sym c.free_slots.ensures.view)
+    subst (λ (u : Knowledge). Stands (config_of c.args.shared.now) u (freed_noted l k)) (sym c.free_slots.ensures.view)
     (stands_freed (config_of c.args.shared.now) (view c.args.pass.now) l c.args.mark.now.time k before frees)
 
 pub invariant_of-log : goal.invariant_of-log

@@ -1,5 +1,5 @@
 use Rattle.std.proofs.Common.{◌≡◌, ◌-◌, List, length, slice_set, sym, ap, ◌∙◌, subst, arith}
-use Rattle.reader_marks.specs.mv_core.declared.view.View.{View}
+use Rattle.reader_marks.specs.mv_core.declared.view.Knowledge.{Knowledge}
 use Rattle.reader_marks.specs.mv_core.Passes.{view, config_of}
 use Rattle.seat_log.specs.declared.version.Note.{Note}
 use Rattle.seat_log.specs.Notes.{Noted, IsHeld, at_place, with_words, some_noted, words_noted}
@@ -56,5 +56,5 @@ returns-clause-log g c =
 
 pub returns-clause-rest : goal.returns-clause-rest
 returns-clause-rest g c =
-    subst (λ (w : View). ChangesLog (view c.args.pass.now) w) (sym c.store_held.ensures.view)
+    subst (λ (w : Knowledge). ChangesLog (view c.args.pass.now) w) (sym c.store_held.ensures.view)
     (puts_change (config_of c.args.shared.now) (view c.args.pass.now) c.args.position c.args.words 6)

@@ -1,6 +1,6 @@
 use Rattle.std.proofs.Common.{◌≡◌, refl, ◌∙◌, arith}
 use Rattle.mv_history.specs.declared.StepKind.TheVariants.{LoadMaster}
-use Rattle.mv_core.specs.declared.view.View.{View}
+use Rattle.mv_core.specs.declared.view.Knowledge.{Knowledge}
 use Rattle.mv_core.specs.Passes.{view, config_of}
 use Rattle.version_chain.specs.Reads.{words_in}
 use Rattle.version_chain.proofs.Going.{may_read_on}
@@ -13,7 +13,7 @@ loop-word-preserved g c =
     let b = c.load_master.ensures.same in (
       (b.0 ∙ a.0, b.1 ∙ a.1, b.2 ∙ a.2, b.3 ∙ a.3, b.4 ∙ a.4, b.5 ∙ a.5),
       read_one LoadMaster (view c.args.pass.now) _ _ (view c.loop-word.pass) _ _ _ _ _ _ _
-          (λ (u : View). words_in (config_of c.args.shared.now) u c.args.object) (λ t. refl) c.loop-word.invariant.1
+          (λ (u : Knowledge). words_in (config_of c.args.shared.now) u c.args.object) (λ t. refl) c.loop-word.invariant.1
           c.load_master.ensures.view refl c.load_master.ensures.word c.load_master.ensures.wide c.loop-word-test.true c.load_master.ensures.step,
     )
 

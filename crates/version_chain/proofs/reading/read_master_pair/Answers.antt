@@ -1,6 +1,6 @@
 use Rattle.std.proofs.Common.{◌+◌, refl, ◌∙◌, arith, slice_index}
 use Rattle.mv_history.specs.declared.StepKind.TheVariants.{LoadMaster}
-use Rattle.mv_core.specs.declared.view.View.{View}
+use Rattle.mv_core.specs.declared.view.Knowledge.{Knowledge}
 use Rattle.mv_core.specs.Passes.{view, config_of}
 use Rattle.version_chain.specs.Reads.{words_in}
 use Rattle.version_chain.proofs.Going.{same_on, may_loaded, reads_two, read_still}
@@ -24,7 +24,7 @@ returns-clause-reads g c =
 pub returns-clause-second : goal.returns-clause-second
 returns-clause-second g c =
     c.load_master.ensures.word
-    ∙ read_still (λ (u : View). slice_index (words_in (config_of c.args.shared.now) u c.args.object) (c.args.place + 1)) (view c.args.pass.now)
+    ∙ read_still (λ (u : Knowledge). slice_index (words_in (config_of c.args.shared.now) u c.args.object) (c.args.place + 1)) (view c.args.pass.now)
     (view c.load_master-first.new.pass) _ (λ t. refl) c.load_master-first.ensures.view
 
 pub returns-clause-first : goal.returns-clause-first

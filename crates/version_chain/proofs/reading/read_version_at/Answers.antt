@@ -1,6 +1,6 @@
 use Rattle.std.proofs.Common.{◌≡◌, refl, ◌∙◌, arith}
 use Rattle.mv_history.specs.declared.StepKind.TheVariants.{LoadData}
-use Rattle.mv_core.specs.declared.view.View.{View}
+use Rattle.mv_core.specs.declared.view.Knowledge.{Knowledge}
 use Rattle.mv_core.specs.Passes.{view, config_of}
 use Rattle.version_chain.specs.Walks.{stand_in}
 use Rattle.version_chain.specs.Reads.{words_in}
@@ -15,7 +15,7 @@ loop-word-preserved g c =
     let b = c.load_data.ensures.same in (
       (b.0 ∙ a.0, b.1 ∙ a.1, b.2 ∙ a.2, b.3 ∙ a.3, b.4 ∙ a.4, b.5 ∙ a.5),
       read_one LoadData (view c.args.pass.now) _ _ (view c.loop-word.pass) _ _ _ _ _ _ _
-          (λ (u : View). words_in (config_of c.args.shared.now) u (stand_in u).object) (λ t. refl) c.loop-word.invariant.1
+          (λ (u : Knowledge). words_in (config_of c.args.shared.now) u (stand_in u).object) (λ t. refl) c.loop-word.invariant.1
           c.load_data.ensures.view refl c.load_data.ensures.word c.load_data.ensures.wide c.loop-word-test.true c.load_data.ensures.step,
     )
 

@@ -1,6 +1,6 @@
 use Rattle.std.proofs.Common.{◌+◌, refl, ◌∙◌, arith, slice_index}
 use Rattle.mv_history.specs.declared.StepKind.TheVariants.{LoadData}
-use Rattle.mv_core.specs.declared.view.View.{View}
+use Rattle.mv_core.specs.declared.view.Knowledge.{Knowledge}
 use Rattle.mv_core.specs.Passes.{view, config_of}
 use Rattle.version_chain.specs.Reads.{words_in}
 use Rattle.version_chain.specs.Walks.{stand_in}
@@ -67,7 +67,7 @@ returns-clause-reads g c =
 pub returns-clause-second : goal.returns-clause-second
 returns-clause-second g c =
     c.load_data.ensures.word
-    ∙ read_still (λ (u : View). slice_index (words_in (config_of c.args.shared.now) u (stand_in u).object) (c.args.place + 1)) (view c.args.pass.now)
+    ∙ read_still (λ (u : Knowledge). slice_index (words_in (config_of c.args.shared.now) u (stand_in u).object) (c.args.place + 1)) (view c.args.pass.now)
     (view c.load_data-first.new.pass) _ (λ t. refl) c.load_data-first.ensures.view
 
 pub returns-clause-first : goal.returns-clause-first

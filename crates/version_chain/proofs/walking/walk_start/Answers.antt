@@ -2,7 +2,7 @@ use Rattle.mv_core.specs.Passes.{view, config_of}
 use Rattle.version_chain.specs.Walks.{section_in}
 use Rattle.mv_core.specs.declared.view.Passed.TheVariants.{Nothing}
 use Rattle.std.proofs.Common.{ap}
-use Rattle.mv_core.specs.declared.view.View.{View}
+use Rattle.mv_core.specs.declared.view.Knowledge.{Knowledge}
 use Rattle.version_chain.proofs.Going.{may_started}
 use Rattle.version_chain.proofs.Looking.{stands_at, walks_started}
 use Rattle.version_chain.proofs.walking.walk_start.Goals as goal
@@ -19,7 +19,7 @@ returns-clause-same g c = c.load_head-link.ensures.same
 pub returns-clause-stands : goal.returns-clause-stands
 returns-clause-stands g c =
     stands_at (config_of c.args.shared.now) (view c.load_head-link.new.pass) c.args.object c.load_head-link.result Nothing c.load_head-link.ensures.link
-    (ap (λ (u : View). u.walk) c.load_head-link.ensures.view)
+    (ap (λ (u : Knowledge). u.walk) c.load_head-link.ensures.view)
 
 pub returns-clause-walks : goal.returns-clause-walks
 returns-clause-walks g c =

@@ -1,6 +1,6 @@
 use Rattle.std.proofs.Common.{◌⊎◌, ℕ, ◌<◌, ap, inl, inr, refl, subst}
 use Rattle.mv_layout.specs.Words.{IsUnset}
-use Rattle.mv_core.specs.declared.view.Walk as core
+use Rattle.mv_core.specs.declared.view.WalkStage as core
 use Rattle.mv_core.specs.Passes.{view, config_of}
 use Rattle.version_chain.specs.Walks.{section_in, stand_of, time_at}
 use Rattle.version_chain.proofs.Going.{same_on, of_still, may_looked, may_passed}
@@ -89,7 +89,7 @@ returns-then-is_unset-clause-put g c =
     c.load_first_at-first.ensures.view (view c.load_stamp_at-stamp.new.pass) c.load_stamp_at-stamp.result c.load_stamp_at-stamp.ensures.view
     c.load_stamp_at-stamp.ensures.says (view c.load_prev_at-link.new.pass) c.load_prev_at-link.result c.load_prev_at-link.ensures.view
     c.args.walk.object
-    (ap (λ (k : core.Walk). (stand_of k).object)
+    (ap (λ (k : core.WalkStage). (stand_of k).object)
     (stands_here (view c.args.pass.now) c.args.walk.object c.args.walk.link _ c.if-link-eq0.false c.requires.stands.stands))
     c.load_prev_at-link.ensures.link
 

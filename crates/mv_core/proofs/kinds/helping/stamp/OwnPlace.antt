@@ -1,11 +1,11 @@
 -- Where the stamp of the own commit stands, and what is stored there, by the commit's clock word.
 use Rattle.std.proofs.Common.{◌≡◌, ℕ, ◌<◌, ◌≤◌, arith}
-use Rattle.mv_core.proofs.Terms.{Checked, Config, Stamp, View, clock_time_of, index_of}
+use Rattle.mv_core.proofs.Terms.{Checked, Config, Stamp, Knowledge, clock_time_of, index_of}
 use Rattle.mv_layout.proofs.Unpacking.{time_back, seat_back, slot_back}
 use Rattle.mv_core.specs.EnterSteps.{stamp_place, own_word}
 use Rattle.mv_core.proofs.frames.ClocksLoaded.{slot_in}
 
-module _ (c : Config) (v : View) (first time : ℕ) (checked : Checked c) (range : v.number < c.seats) where
+module _ (c : Config) (v : Knowledge) (first time : ℕ) (checked : Checked c) (range : v.number < c.seats) where
   few_seats : v.number < 64
   few_seats = let seats = checked.seats.1 in omega arith
 

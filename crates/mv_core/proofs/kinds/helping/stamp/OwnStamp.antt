@@ -2,9 +2,9 @@
 use Rattle.std.proofs.Common.{◌≡◌, ◌≢◌, ℕ, ◌≤◌, true, false, List, sym, refl, ap, ◌∙◌, subst, Option, Some}
 use Rattle.std.specs.Prelude.{Contains}
 use Rattle.mv_core.proofs.Terms.{dite, ℕ_discrete, Entry, State, Writes, Config, Clock, Mark, Master, Stamp, Super, Memory, Version, Committed}
-use Rattle.mv_core.proofs.Terms.{CommitNote, Outside, Inside, Section, Mode, Open, Named, Naming, Scan, index_of, Lives, last_own, IsNextWrite}
+use Rattle.mv_core.proofs.Terms.{CommitNote, Outside, Inside, OwnSection, Mode, Open, Named, Naming, Scan, index_of, Lives, last_own, IsNextWrite}
 use Rattle.mv_core.proofs.Terms.{time_in, IsUnnamed, ViewParts}
-use Rattle.mv_core.specs.declared.view.Walk.TheVariants.{Nowhere}
+use Rattle.mv_core.specs.declared.view.WalkStage.TheVariants.{Nowhere}
 use Rattle.mv_core.proofs.FactTerms.{IsNaming, UnstampedIsUnfinished, MarkedAs, Marks, IsPastHelp, WasClock, LoadedWords, NamedIs, NamedCommit}
 use Rattle.mv_core.proofs.FactTerms.{OpenSection, SuccessorFlag, WriteBacks, Facts}
 use Rattle.mv_core.proofs.frames.FrameLaw.{set_at_here, set_at_else, set_at_all, unchanged, changed}
@@ -12,7 +12,7 @@ use Rattle.mv_core.proofs.frames.ClocksLoaded.{clock_small, past_help}
 
 module _ {starts : State → Type 0} {allows : List ℕ → State → Writes → Type 0} {c : Config} {start : State} {m : Memory} {h : List Entry} {f : ViewParts}
     (k : Facts starts allows c start m h f)
-    (n : ℕ) (inside : Section) (naming : Naming) (phase_is : f.phase n ≡ Inside inside) (section_is : f.section n ≡ Some inside)
+    (n : ℕ) (inside : OwnSection) (naming : Naming) (phase_is : f.phase n ≡ Inside inside) (section_is : f.section n ≡ Some inside)
     (mode_is : inside.mode ≡ Named naming) (made : m (Stamp n (index_of c naming.first)) ≡ naming.time) where
   abbrev stamp : ℕ → ℕ → ℕ
   stamp s i = m (Stamp s i)
@@ -20,27 +20,27 @@ module _ {starts : State → Type 0} {allows : List ℕ → State → Writes →
   abbrev naming' : Naming
   naming' = record naming { stamped = true }
 
-  abbrev inside' : Section
+  abbrev inside' : OwnSection
   inside' = record inside { mode = Named naming' }
 
   abbrev t : ViewParts
   t = changed f n (record unchanged { phase = Some (Inside inside'); section = Some (Some inside') })
 
   -- what holds of the section that names the commit holds after the step of it as it is then
-  sections : (P : ℕ → Option Section → Type 0) → P n (Some inside') → ((s : ℕ) → s ≢ n → P s (f.section s)) → (s : ℕ) → P s (t.section s)
+  sections : (P : ℕ → Option OwnSection → Type 0) → P n (Some inside') → ((s : ℕ) → s ≢ n → P s (f.section s)) → (s : ℕ) → P s (t.section s)
   sections P = set_at_all P f.section n (Some inside')
 
   -- the sections that are as they seem, afterwards
-  same_section : {i : Section} → Some inside' ≡ Some i → inside' ≡ i
+  same_section : {i : OwnSection} → Some inside' ≡ Some i → inside' ≡ i
   same_section {i = i} e = let whole : Some inside' ≡ Some i = e in cc
 
-  same_naming : {i : Section} {d : Naming} → Some inside' ≡ Some i → i.mode ≡ Named d → naming' ≡ d
-  same_naming {i = i} {d = d} e mode = let one : Named naming' ≡ Named d = ap (λ (j : Section). j.mode) (same_section e) ∙ mode in cc
+  same_naming : {i : OwnSection} {d : Naming} → Some inside' ≡ Some i → i.mode ≡ Named d → naming' ≡ d
+  same_naming {i = i} {d = d} e mode = let one : Named naming' ≡ Named d = ap (λ (j : OwnSection). j.mode) (same_section e) ∙ mode in cc
 
   -- no other mode was there
-  only_named : {i : Section} {d : Mode} → f.section n ≡ Some i → i.mode ≡ d → Named naming ≡ d
+  only_named : {i : OwnSection} {d : Mode} → f.section n ≡ Some i → i.mode ≡ d → Named naming ≡ d
   only_named {i = i} {d = d} at mode = let one : Some inside ≡ Some i = sym section_is ∙ at in let same : inside ≡ i =
-      cc in sym mode_is ∙ ap (λ (j : Section). j.mode) same ∙ mode
+      cc in sym mode_is ∙ ap (λ (j : OwnSection). j.mode) same ∙ mode
 
   named : NamedIs c h stamp f.ring n inside naming
   named = k.named_commit n inside naming section_is mode_is
@@ -53,8 +53,8 @@ module _ {starts : State → Type 0} {allows : List ℕ → State → Writes →
 
   words_after : LoadedWords c (m Clock) t.section f.clocks
   words_after =
-      let inside = sections (λ s o. (i : Section) → o ≡ Some i → WasClock c (m Clock) i.word)
-      (λ i e. subst (λ (j : Section). WasClock c (m Clock) j.word) (same_section e) (k.loaded_words.inside n inside section_is))
+      let inside = sections (λ s o. (i : OwnSection) → o ≡ Some i → WasClock c (m Clock) i.word)
+      (λ i e. subst (λ (j : OwnSection). WasClock c (m Clock) j.word) (same_section e) (k.loaded_words.inside n inside section_is))
       (λ s ne. k.loaded_words.inside s) in
       assumption (inside, k.loaded_words)
 
@@ -103,7 +103,7 @@ module _ {starts : State → Type 0} {allows : List ℕ → State → Writes →
 
   named_after : NamedCommit c h stamp t.section f.ring
   named_after =
-      sections (λ s o. (i : Section) (d : Naming) → o ≡ Some i → i.mode ≡ Named d → NamedIs c h stamp f.ring s i d)
+      sections (λ s o. (i : OwnSection) (d : Naming) → o ≡ Some i → i.mode ≡ Named d → NamedIs c h stamp f.ring s i d)
       (λ i d e mode.
       let new : NamedIs c h stamp f.ring n inside' naming' = record {
         later = named.later;
@@ -117,13 +117,13 @@ module _ {starts : State → Type 0} {allows : List ℕ → State → Writes →
         time_is = named.time_is;
         stamped = λ _. made;
       } in
-      subst (λ (p : Section × Naming). NamedIs c h stamp f.ring n p.0 p.1) (λ z. (same_section e z, same_naming e mode z)) new)
+      subst (λ (p : OwnSection × Naming). NamedIs c h stamp f.ring n p.0 p.1) (λ z. (same_section e z, same_naming e mode z)) new)
       (λ s ne. k.named_commit s)
 
   open_after : OpenSection c h t.section f.ring
   open_after = record {
-    own = sections (λ s o. (i : Section) → o ≡ Some i → IsUnnamed i.mode → last_own c.base h s ≤ time_in i)
-        (λ i e free. let none : IsUnnamed (Named naming') = subst (λ (j : Section). IsUnnamed j.mode) (sym (same_section e)) free in absurd none)
+    own = sections (λ s o. (i : OwnSection) → o ≡ Some i → IsUnnamed i.mode → last_own c.base h s ≤ time_in i)
+        (λ i e free. let none : IsUnnamed (Named naming') = subst (λ (j : OwnSection). IsUnnamed j.mode) (sym (same_section e)) free in absurd none)
         (λ s ne. k.open_section.own s);
     held = λ s j x lives.
         let r = k.open_section.held s j x lives in
@@ -137,7 +137,7 @@ module _ {starts : State → Type 0} {allows : List ℕ → State → Writes →
         dite (ℕ_discrete s n)
         (λ e.
         let here : Some inside' ≡ Some i = sym (set_at_here f.section n (Some inside')) ∙ subst (λ (u : ℕ). t.section u ≡ Some i) e at in
-        let none : Named naming' ≡ Open = ap (λ (j : Section). j.mode) (same_section here) ∙ mode in absurd (cc))
+        let none : Named naming' ≡ Open = ap (λ (j : OwnSection). j.mode) (same_section here) ∙ mode in absurd (cc))
         (λ other. k.open_section.whole s j x i lives (sym (set_at_else f.section n (Some inside') s other) ∙ at) mode);
   }
 
@@ -167,10 +167,10 @@ module _ {starts : State → Type 0} {allows : List ℕ → State → Writes →
       (λ running e. let out : Inside inside ≡ Outside = sym phase_is ∙ k.phases_and_scan.scanning n running e in absurd (cc))
       (λ s ne. k.phases_and_scan.scanning s)
 
-  knows_after : (s : ℕ) (i : Section) → t.section s ≡ Some i → f.walk s ≢ Nowhere → IsPastHelp (f.clocks s) i
+  knows_after : (s : ℕ) (i : OwnSection) → t.section s ≡ Some i → f.walk s ≢ Nowhere → IsPastHelp (f.clocks s) i
   knows_after =
-      sections (λ s o. (i : Section) → o ≡ Some i → f.walk s ≢ Nowhere → IsPastHelp (f.clocks s) i)
-      (λ i e walks. subst (λ (j : Section). IsPastHelp (f.clocks n) j) (same_section e) (let old : Contains (f.clocks n).helped inside.word =
+      sections (λ s o. (i : OwnSection) → o ≡ Some i → f.walk s ≢ Nowhere → IsPastHelp (f.clocks s) i)
+      (λ i e walks. subst (λ (j : OwnSection). IsPastHelp (f.clocks n) j) (same_section e) (let old : Contains (f.clocks n).helped inside.word =
       k.walker_knowledge.helped n inside section_is walks in old))
       (λ s ne. k.walker_knowledge.helped s)
 

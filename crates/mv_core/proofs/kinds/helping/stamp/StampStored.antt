@@ -2,7 +2,7 @@
 use Rattle.std.proofs.Common.{◌≡◌, ℕ, ◌<◌, ◌==◌, ◌&&◌, Bool, true, false, cond, List, sym}
 use Rattle.std.proofs.Common.{refl, ap, ap₂, ◌∙◌, subst, ⊎_elim, inl, inr, eq-eqb, eqb-true, arith, Some}
 use Rattle.mv_core.proofs.Terms.{dite, ℕ_discrete, Entry, State, Writes, Config, Clock, Stamp, Super, Memory, put, clock_time_of, clock_seat_of}
-use Rattle.mv_core.proofs.Terms.{clock_slot_of, unset_of, Slot, Free, Built, Live, Freeing, Version, Status, Held, Aborted, Committed, CommitNote}
+use Rattle.mv_core.proofs.Terms.{clock_slot_of, unset_of, Slot, Free, Built, Live, Freeing, Version, WriteSetStatus, Held, Aborted, Committed, CommitNote}
 use Rattle.mv_core.proofs.Terms.{FoundStamp, slot_at, index_of, Lives, ViewParts}
 use Rattle.mv_core.proofs.FactTerms.{IsStored, StampedAs, stamp_of, Stamps, IsHeldOrAborted, BelowIsStamped, UnstampedIsUnfinished, WasClock, IsDone}
 use Rattle.mv_core.proofs.FactTerms.{HelpedWords, IsFound, NamedCommit, WalkerFalls, Facts}
@@ -78,7 +78,7 @@ module _ {starts : State → Type 0} {allows : List ℕ → State → Writes →
   unset_is = is.found.unset_is
 
   -- every version whose set has that stamp is of that commit
-  same_set : (s j : ℕ) (y : Version) (st : Status) → Lives f.ring s j y st → s ≡ s0 → index_of c y.first ≡ k0 → y.first ≡ is.found.position
+  same_set : (s j : ℕ) (y : Version) (st : WriteSetStatus) → Lives f.ring s j y st → s ≡ s0 → index_of c y.first ≡ k0 → y.first ≡ is.found.position
   same_set s j y st lives e g =
       let first = k.write_sets.first s j y st lives in
       let there : Lives f.ring s0 k0 first.version first.status =
@@ -101,7 +101,7 @@ module _ {starts : State → Type 0} {allows : List ℕ → State → Writes →
       sym a.1 ∙ b.1 ∙ it.time_is
 
   -- it isn't held or aborted
-  not_else : (s j : ℕ) (y : Version) (st : Status) → Lives f.ring s j y st → s ≡ s0 → index_of c y.first ≡ k0 → ¬ (IsHeldOrAborted st)
+  not_else : (s j : ℕ) (y : Version) (st : WriteSetStatus) → Lives f.ring s j y st → s ≡ s0 → index_of c y.first ≡ k0 → ¬ (IsHeldOrAborted st)
   not_else s j y st lives e g fate =
       k.write_sets.apart s0 j k0 y it.version st it.note (subst (λ (u : ℕ). Lives f.ring u j y st) e lives) fate it.lives
       (same_set s j y st lives e g ∙ sym it.first_is)
@@ -114,14 +114,15 @@ module _ {starts : State → Type 0} {allows : List ℕ → State → Writes →
       (λ e. after_here s (index_of c y.first) e.0 e.1 ∙ sym (same_time s j y note lives e.0 e.1))
       (λ ne. after_else s (index_of c y.first) ne ∙ made)
 
-  stamped_after : (s j : ℕ) (y : Version) (st : Status) → Lives f.ring s j y st → StampedAs (m Clock) s (index_of c y.first) (stamp_of c after s y) y.first st
+  stamped_after : (s j : ℕ) (y : Version) (st : WriteSetStatus) → Lives f.ring s j y st
+      → StampedAs (m Clock) s (index_of c y.first) (stamp_of c after s y) y.first st
   stamped_after s j y st lives =
       dite (here? s (index_of c y.first))
       (λ e. go st lives (not_else s j y st lives e.0 e.1) (λ note l. after_here s (index_of c y.first) e.0 e.1 ∙ sym (same_time s j y note l e.0 e.1)))
       (λ ne. subst (λ (n : ℕ). StampedAs (m Clock) s (index_of c y.first) n y.first st) (sym (after_else s (index_of c y.first) ne))
       (k.stamps.live s j y st lives))
     where
-      go : (st : Status) → Lives f.ring s j y st → ¬ (IsHeldOrAborted st)
+      go : (st : WriteSetStatus) → Lives f.ring s j y st → ¬ (IsHeldOrAborted st)
           → ((note : CommitNote) → Lives f.ring s j y (Committed note) → stamp_of c after s y ≡ note.time)
           → StampedAs (m Clock) s (index_of c y.first) (stamp_of c after s y) y.first st
       go Held l out made = absurd (out tt)

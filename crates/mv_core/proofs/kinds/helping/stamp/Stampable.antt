@@ -1,7 +1,7 @@
 -- What is known where the exchange of a stamp is allowed, whether the unset stamp was found for a clock word or is that of the own commit.
 use Rattle.std.proofs.Common.{◌≡◌, ◌≢◌, ℕ, true, sym, refl, ap, ◌∙◌, subst, ⊎_elim, arith, List, Some}
 use Rattle.mv_core.proofs.Terms.{Entry, State, Writes, Config, Clock, Stamp, Memory, clock_of, clock_time_of, clock_seat_of, clock_slot_of, unset_of}
-use Rattle.mv_core.proofs.Terms.{Ring, Committed, View, Inside, Section, Named, Naming, index_of, Lives, parts_of}
+use Rattle.mv_core.proofs.Terms.{Ring, Committed, Knowledge, Inside, OwnSection, Named, Naming, index_of, Lives, parts_of}
 use Rattle.mv_core.proofs.FactTerms.{WasClock, IsNamedCommit, IsFound, NamedIs, Facts}
 use Rattle.mv_core.specs.EnterSteps.{IsOwnNaming, MayStamp}
 use Rattle.mv_core.proofs.frames.ClocksLoaded.{slot_in}
@@ -16,8 +16,9 @@ pub record IsStampable (c : Config) (clock : ℕ) (stamp : ℕ → ℕ → ℕ) 
   pub found : IsFound c stamp rings (record { word = word; unset = unset; checked = true })
   pub now : clock ≡ word → IsNamedCommit rings word unset
 
-module _ {starts : State → Type 0} {allows : List ℕ → State → Writes → Type 0} {c : Config} {start : State} (v : View)
-    {m : Memory} {h : List Entry} (seats : ℕ → View) (k : Facts starts allows c start m h (parts_of seats)) (is : seats v.number ≡ v) (word unset : ℕ) where
+module _ {starts : State → Type 0} {allows : List ℕ → State → Writes → Type 0} {c : Config} {start : State} (v : Knowledge)
+    {m : Memory} {h : List Entry} (seats : ℕ → Knowledge) (k : Facts starts allows c start m h (parts_of seats)) (is : seats v.number ≡ v)
+    (word unset : ℕ) where
   abbrev stamp : ℕ → ℕ → ℕ
   stamp s i = m (Stamp s i)
 
@@ -26,7 +27,7 @@ module _ {starts : State → Type 0} {allows : List ℕ → State → Writes →
 
   by_found : v.clocks.found ≡ Some (record { word = word; unset = unset; checked = true }) → IsStampable c (m Clock) stamp rings word unset
   by_found e =
-      let here : (seats v.number).clocks.found ≡ Some (record { word = word; unset = unset; checked = true }) = ap (λ (u : View). u.clocks.found) is ∙ e in
+      let here : (seats v.number).clocks.found ≡ Some (record { word = word; unset = unset; checked = true }) = ap (λ (u : Knowledge). u.clocks.found) is ∙ e in
       let w = k.loaded_words.found v.number (record { word = word; unset = unset; checked = true }) here in record {
         was = w.0;
         names = w.1;
@@ -35,7 +36,7 @@ module _ {starts : State → Type 0} {allows : List ℕ → State → Writes →
       }
 
   -- what the section's own commit is
-  pub own_is : (inside : Section) (n : Naming) → v.phase ≡ Inside inside → inside.mode ≡ Named n → NamedIs c h stamp rings v.number inside n
+  pub own_is : (inside : OwnSection) (n : Naming) → v.phase ≡ Inside inside → inside.mode ≡ Named n → NamedIs c h stamp rings v.number inside n
   own_is inside n phase mode = k.named_commit v.number inside n (section_is seats v inside k is phase) mode
 
   module _ (own : IsOwnNaming c v word unset) where

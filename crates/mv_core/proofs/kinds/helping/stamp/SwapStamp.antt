@@ -3,7 +3,7 @@ use Rattle.std.proofs.Common.{◌≡◌, ◌≢◌, ◌⊎◌, ℕ, ◌<◌, ◌
 use Rattle.std.proofs.Common.{inl, inr, arith, eqb-true, Some}
 use Rattle.std.proofs.Math.Bool.{or-true}
 use Rattle.mv_core.proofs.Terms.{dite, ℕ_discrete, Entry, State, Writes, Config, Clock, Stamp, Memory, put, clock_of, clock_time_of, clock_seat_of}
-use Rattle.mv_core.proofs.Terms.{clock_slot_of, unset_of, Committed, View, Phase, Outside, Lowered, Marked, Inside, Section, Mode, Open, Aborting}
+use Rattle.mv_core.proofs.Terms.{clock_slot_of, unset_of, Committed, Knowledge, Phase, Outside, Lowered, Marked, Inside, OwnSection, Mode, Open, Aborting}
 use Rattle.mv_core.proofs.Terms.{Checked, FoundStamp, Named, Naming, LoadedClocks, index_of, time_in, section_of, time_of, ViewParts, parts_of, set_at}
 use Rattle.mv_core.proofs.FactTerms.{IsWord, stamp_of, WasClock, IsDone, IsNamedCommit, RunsOn, Facts, Swaps, IsKept}
 use Rattle.mv_layout.proofs.Unpacking.{seat_back, slot_back}
@@ -16,7 +16,7 @@ use Rattle.mv_core.proofs.kinds.helping.stamp.StampStored.{after_here, done_now,
 use Rattle.mv_core.proofs.kinds.helping.stamp.OwnStamp.{own_stamped}
 
 -- the word of a stamp that was found, or of the own commit, names a commit
-pub names_commit : (c : Config) (v : View) (word unset : ℕ) → Checked c → v.number < c.seats
+pub names_commit : (c : Config) (v : Knowledge) (word unset : ℕ) → Checked c → v.number < c.seats
     → ((f : FoundStamp) → v.clocks.found ≡ Some f → clock_slot_of f.word ≢ 8191) → MayStamp c v word unset → clock_slot_of word ≢ 8191
 names_commit c v word unset checked range found =
     ⊎_elim
@@ -31,7 +31,7 @@ names_commit c v word unset checked range found =
     omega arith)
 
 -- and it is a packed clock word of the domain
-pub is_packed : (c : Config) (v : View) (word unset : ℕ) → Checked c → v.number < c.seats
+pub is_packed : (c : Config) (v : Knowledge) (word unset : ℕ) → Checked c → v.number < c.seats
     → ((f : FoundStamp) → v.clocks.found ≡ Some f → IsWord c f.word) → MayStamp c v word unset → IsWord c word
 is_packed c v word unset checked range found =
     ⊎_elim
@@ -47,13 +47,13 @@ is_packed c v word unset checked range found =
     (omega arith, omega arith))
 
 -- the section after the own exchange
-abbrev pub own_made : Section → Naming → Section
+abbrev pub own_made : OwnSection → Naming → OwnSection
 own_made inside naming = record inside { mode = Named (record naming { stamped = true }) }
 
 module _ (c : Config) (seat word unset : ℕ) where
   -- the section's own exchange: the phase changes
   pub record IsOwn (p : Phase) : Type 0 where
-    pub inside : Section
+    pub inside : OwnSection
     pub naming : Naming
     pub phase_is : p ≡ Inside inside
     pub mode_is : inside.mode ≡ Named naming
@@ -105,27 +105,27 @@ module _ (c : Config) (seat word unset : ℕ) where
       both true false e = absurd (cc)
       both false y e = absurd (cc)
 
-module _ (starts : State → Type 0) (allows : List ℕ → State → Writes → Type 0) (c : Config) (start : State) (v : View) (word unset : ℕ)
-    (h : List Entry) (seats : ℕ → View) (is : seats v.number ≡ v) where
+module _ (starts : State → Type 0) (allows : List ℕ → State → Writes → Type 0) (c : Config) (start : State) (v : Knowledge) (word unset : ℕ)
+    (h : List Entry) (seats : ℕ → Knowledge) (is : seats v.number ≡ v) where
   abbrev f : ViewParts
   f = parts_of seats
 
   -- that the word is helped, and that the own exchange was made, is noted over the memory after the exchange
   noted : (m : Memory) → (k : Facts starts allows c start m h f) → WasClock c (m Clock) word → IsDone (m Clock) (λ s i. m (Stamp s i)) word
-      → ((inside : Section) (n : Naming) → v.phase ≡ Inside inside → inside.mode ≡ Named n → is_own c v.number n word unset ≡ true
+      → ((inside : OwnSection) (n : Naming) → v.phase ≡ Inside inside → inside.mode ≡ Named n → is_own c v.number n word unset ≡ true
       → m (Stamp v.number (index_of c n.first)) ≡ n.time)
       → (found : ℕ) → Facts starts allows c start m h (parts_of (set_at seats v.number (stamp_swapped c v word unset found)))
       × RunsOn v (stamp_swapped c v word unset found)
   noted m k was done made found = ⊎_elim stays own (phase_after c v.number word unset v.phase)
     where
-      w : View
+      w : Knowledge
       w = stamp_swapped c v word unset found
 
       x : LoadedClocks
       x = helped_too (seats v.number).clocks word
 
       x_is : helped_too v.clocks word ≡ x
-      x_is = ap (λ (u : View). helped_too u.clocks word) (sym is)
+      x_is = ap (λ (u : Knowledge). helped_too u.clocks word) (sym is)
 
       helps : Facts starts allows c start m h (changed f v.number (record unchanged { clocks = Some x }))
       helps = clocks_facts k v.number x (helped_one c (m Clock) (λ s i. m (Stamp s i)) f.ring (seats v.number).clocks word (clocks_was k v.number) was done)
@@ -139,9 +139,9 @@ module _ (starts : State → Type 0) (allows : List ℕ → State → Writes →
 
       own : IsOwn c v.number word unset v.phase → Facts starts allows c start m h (parts_of (set_at seats v.number w)) × RunsOn v w
       own o =
-          let inside' : Section = own_made o.inside o.naming in
+          let inside' : OwnSection = own_made o.inside o.naming in
           let there = section_is seats v o.inside k is o.phase_is in
-          let facts = own_stamped helps v.number o.inside o.naming (ap (λ (u : View). u.phase) is ∙ o.phase_is) there o.mode_is
+          let facts = own_stamped helps v.number o.inside o.naming (ap (λ (u : Knowledge). u.phase) is ∙ o.phase_is) there o.mode_is
           (made o.inside o.naming o.phase_is o.mode_is o.own) in (
             settle starts allows c start m h seats v.number v w is
                 (record unchanged { phase = Some (Inside inside'); section = Some (Some inside'); clocks = Some x })
@@ -150,7 +150,7 @@ module _ (starts : State → Type 0) (allows : List ℕ → State → Writes →
             (λ time first a b. (
               (λ s e. let whole : Inside inside' ≡ Inside s = sym o.after_is ∙ e in let same : inside' ≡ s = cc in a o.inside o.phase_is ∙ ap time_in same),
               (λ s e open_is. let whole : Inside inside' ≡ Inside s = sym o.after_is ∙ e in let same : inside' ≡ s = cc in
-                  let none : Named (record o.naming { stamped = true }) ≡ Open = ap (λ (i : Section). i.mode) same ∙ open_is in absurd (cc)),
+                  let none : Named (record o.naming { stamped = true }) ≡ Open = ap (λ (i : OwnSection). i.mode) same ∙ open_is in absurd (cc)),
             )),
           )
 
@@ -159,7 +159,7 @@ module _ (starts : State → Type 0) (allows : List ℕ → State → Writes →
     can = stampable v seats k is word unset may
 
     -- where the test says so, these are of the own commit
-    abbrev own_one : (inside : Section) (n : Naming) → v.phase ≡ Inside inside → inside.mode ≡ Named n → is_own c v.number n word unset ≡ true
+    abbrev own_one : (inside : OwnSection) (n : Naming) → v.phase ≡ Inside inside → inside.mode ≡ Named n → is_own c v.number n word unset ≡ true
         → IsOwnNaming c v word unset
     own_one inside n phase mode own = let s = own_says c v.number word unset n own in (inside, n, phase, mode, s.0, s.1)
 
@@ -197,7 +197,7 @@ module _ (starts : State → Type 0) (allows : List ℕ → State → Writes →
         (λ i. m (Stamp (seat_is i) (slot_is i))) ∙ lost_made (own_commit v seats k is word unset o) lost ∙ u.0)
         (m (stamp_place word))
 
-module _ (starts : State → Type 0) (allows : List ℕ → State → Writes → Type 0) (c : Config) (start : State) (v : View) (word unset : ℕ)
+module _ (starts : State → Type 0) (allows : List ℕ → State → Writes → Type 0) (c : Config) (start : State) (v : Knowledge) (word unset : ℕ)
     (may : MayStamp c v word unset) where
   stamp_swaps_to : Swaps starts allows c start v (stamp_place word) unset (clock_time_of word)
       (λ n w. ((w ≡ stamp_swapped c v word unset n) × RunsOn v w) × IsKept v w)

@@ -1,6 +1,6 @@
 -- compare_exchange HEAD (lock), won and lost.
 use Rattle.std.proofs.Common.{◌≡◌, ◌≢◌, ℕ, true, List, sym, refl, subst, None}
-use Rattle.mv_core.proofs.Terms.{State, Writes, Config, Head, link_of, link_seat_of, Build, View, Section}
+use Rattle.mv_core.proofs.Terms.{State, Writes, Config, Head, link_of, link_seat_of, Build, Knowledge, OwnSection}
 use Rattle.mv_core.specs.declared.view.Passed.TheVariants.{Nothing}
 use Rattle.mv_core.specs.WalkSteps.{IsLinkOf, stand_at}
 use Rattle.mv_core.specs.LockSteps.{MayLock, head_locked, lock_lost, LockTold, OneMoreWrite}
@@ -13,8 +13,9 @@ use Rattle.mv_core.proofs.history.SectionWords.{time_is}
 use Rattle.mv_core.proofs.kinds.walking.WalkOn.{head_link}
 use Rattle.mv_core.proofs.kinds.walking.Walks.{walked}
 
-module _ (starts : State → Type 0) (allows : List ℕ → State → Writes → Type 0) (c : Config) (start : State) (v : View) (write_max object previous position : ℕ)
-    (words : List ℕ) (b : Build) (inside : Section) (may : MayLock c write_max v object previous position words b inside) where
+module _ (starts : State → Type 0) (allows : List ℕ → State → Writes → Type 0) (c : Config) (start : State) (v : Knowledge)
+    (write_max object previous position : ℕ)
+    (words : List ℕ) (b : Build) (inside : OwnSection) (may : MayLock c write_max v object previous position words b inside) where
   lock_swaps_to : Swaps starts allows c start v (Head object) previous (link_of v.number position) (λ n w. (LockTold c v object previous position words n w
       × (n ≡ previous → OneMoreWrite c v object words w) × (n ≢ previous → IsLinkOf c n × (n ≢ 0 → link_seat_of n ≢ v.number))) × IsKept v w)
   lock_swaps_to = (

@@ -2,10 +2,11 @@
 use Rattle.std.proofs.Common.{◌≡◌, ◌≢◌, ◌⊎◌, ℕ, ◌+◌, ◌<◌, ◌≤◌, cond, List, length, refl, sym}
 use Rattle.std.proofs.Common.{ap, ◌∙◌, subst, ⊎_elim, inl, inr, le_trans, eq-eqb, ne_eqb, arith, Option, Some, None}
 use Rattle.mv_core.proofs.Terms.{dite, ℕ_discrete, Entry, State, Writes, Config, Clock, Head, Master, Stamp, Super, link_of, clock_time_of}
-use Rattle.mv_core.proofs.Terms.{clock_seat_of, clock_slot_of, Memory, put, Ring, Build, Version, Status, Held, Aborted, Committed, CommitNote, View}
-use Rattle.mv_core.proofs.Terms.{Section, Open, Named, Naming, Walk, Stand, slot_at, index_of, HoldsNothing, Lives, Names, IsGone, NoneHolds, IsTop}
+use Rattle.mv_core.proofs.Terms.{clock_seat_of, clock_slot_of, Memory, put, Ring, Build, Version, WriteSetStatus, Held, Aborted, Committed, CommitNote}
+use Rattle.mv_core.proofs.Terms.{Knowledge}
+use Rattle.mv_core.proofs.Terms.{OwnSection, Open, Named, Naming, WalkStage, Stand, slot_at, index_of, HoldsNothing, Lives, Names, IsGone, NoneHolds, IsTop}
 use Rattle.mv_core.proofs.Terms.{Live, latest, section_of, time_of, time_in, IsUnnamed, parts_of, set_at}
-use Rattle.mv_core.specs.declared.view.Walk.TheVariants as walk
+use Rattle.mv_core.specs.declared.view.WalkStage.TheVariants as walk
 use Rattle.mv_core.proofs.FactTerms.{stamp_of, IsHeldOrAborted, Successors, BelowIsStamped, UnstampedIsUnfinished, Positions, LockFreshness}
 use Rattle.mv_core.proofs.FactTerms.{FoundStamps, OpenSection, HeadIsTop, HeldLink, AbortedLink, MayStandAt, StandsRight, IsBeforeDeath, WalkerPlace}
 use Rattle.mv_core.proofs.FactTerms.{WalkerBeforeDeath, WalkerKnowledge, WalkerFalls, WalkerLate, Deaths, DeathSeen, DeathAfterWrite, CutIsOld, Facts}
@@ -27,9 +28,11 @@ put_head m a n P here rest b =
     (λ e. subst (λ (t : ℕ). P t (put m (Head a) n (Head t))) (sym e) (subst (P a) (sym (ap (λ t. cond t n (m (Head a))) (eq-eqb a a refl))) here))
     (λ ne. subst (P b) (sym (ap (λ t. cond t n (m (Head b))) (ne_eqb a b (λ e. ne (sym e))))) (rest b ne))
 
-module _ {starts : State → Type 0} {allows : List ℕ → State → Writes → Type 0} {c : Config} {start : State} {m : Memory} {h : List Entry} (seats : ℕ → View)
+module _ {starts : State → Type 0} {allows : List ℕ → State → Writes → Type 0} {c : Config} {start : State} {m : Memory} {h : List Entry}
+    (seats : ℕ → Knowledge)
     (k : Facts starts allows c start m h (parts_of seats))
-    (v : View) (is : seats v.number ≡ v) (own : v.number < c.seats) (write_max object previous position : ℕ) (words : List ℕ) (b : Build) (inside : Section)
+    (v : Knowledge) (is : seats v.number ≡ v) (own : v.number < c.seats) (write_max object previous position : ℕ) (words : List ℕ) (b : Build)
+    (inside : OwnSection)
     (may : MayLock c write_max v object previous position words b inside)
     (won : m (Head object) ≡ previous) where
   abbrev rings : ℕ → Ring
@@ -47,7 +50,7 @@ module _ {starts : State → Type 0} {allows : List ℕ → State → Writes →
   abbrev later : ℕ → Ring
   later = log.later seats k v is own write_max object previous position words b inside may
 
-  abbrev section : ℕ → Option Section
+  abbrev section : ℕ → Option OwnSection
   section s = section_of (seats s).phase
 
   abbrev time : ℕ → Option ℕ
@@ -65,11 +68,12 @@ module _ {starts : State → Type 0} {allows : List ℕ → State → Writes →
   kept : KeepsCommitted rings later
   kept = log.kept seats k v is own write_max object previous position words b inside may
 
-  each_live : (P : ℕ → ℕ → Version → Status → Type 0) → P n slot x Held → ((s j : ℕ) (y : Version) (st : Status) → Lives rings s j y st → P s j y st)
-      → (s j : ℕ) (y : Version) (st : Status) → Lives later s j y st → P s j y st
+  each_live : (P : ℕ → ℕ → Version → WriteSetStatus → Type 0) → P n slot x Held
+      → ((s j : ℕ) (y : Version) (st : WriteSetStatus) → Lives rings s j y st → P s j y st)
+      → (s j : ℕ) (y : Version) (st : WriteSetStatus) → Lives later s j y st → P s j y st
   each_live = log.each_live seats k v is own write_max object previous position words b inside may
 
-  lives_still : (s j : ℕ) (y : Version) (st : Status) → Lives rings s j y st → Lives later s j y st
+  lives_still : (s j : ℕ) (y : Version) (st : WriteSetStatus) → Lives rings s j y st → Lives later s j y st
   lives_still = log.lives_still seats k v is own write_max object previous position words b inside may
 
   lives_new : Lives later n slot x Held
@@ -88,11 +92,11 @@ module _ {starts : State → Type 0} {allows : List ℕ → State → Writes →
   holds_none = none_holds seats k v is inside may.walking object previous may.stands won
 
   -- a section that named its commit is of another seat
-  other_named : (s : ℕ) (i : Section) (naming : Naming) → section s ≡ Some i → i.mode ≡ Named naming → s ≢ n
+  other_named : (s : ℕ) (i : OwnSection) (naming : Naming) → section s ≡ Some i → i.mode ≡ Named naming → s ≢ n
   other_named s i naming at mode e =
       let one : Some inside ≡ Some i = sym section_here ∙ ap section (sym e) ∙ at in
       let same : inside ≡ i = cc in
-      let clash : Open ≡ Named naming = sym may.walking.open_is ∙ ap (λ (j : Section). j.mode) same ∙ mode in cc
+      let clash : Open ≡ Named naming = sym may.walking.open_is ∙ ap (λ (j : OwnSection). j.mode) same ∙ mode in cc
 
   ring_else : (s : ℕ) → s ≢ n → later s ≡ rings s
   ring_else s ne = set_at_else rings n (log.ring_now seats k v is own write_max object previous position words b inside may) s ne
@@ -101,16 +105,17 @@ module _ {starts : State → Type 0} {allows : List ℕ → State → Writes →
   nothing_else s ne = subst HoldsNothing (sym (ring_else s ne))
 
   -- a link that named a version names the same one
-  abbrev still_names : (link : ℕ) (y : Version) (st : Status) → Names rings link y st → Names later link y st
+  abbrev still_names : (link : ℕ) (y : Version) (st : WriteSetStatus) → Names rings link y st → Names later link y st
   still_names link y st a = record { seat = a.seat; slot = a.slot; lives = lives_still a.seat a.slot y st a.lives; is = a.is }
 
-  named_same : (link : ℕ) (z y : Version) (su st : Status) → Names rings link z su → Names later link y st → Names rings link y st
+  named_same : (link : ℕ) (z y : Version) (su st : WriteSetStatus) → Names rings link z su → Names later link y st → Names rings link y st
   named_same link z y su st a d =
       let r = names_once c h later k.checked k.history.in_time positions link z y su st (still_names link z su a) d in
-      subst (λ (p : Version × Status). Names rings link p.0 p.1) (λ i. (r.2 i, r.3 i)) a
+      subst (λ (p : Version × WriteSetStatus). Names rings link p.0 p.1) (λ i. (r.2 i, r.3 i)) a
 
   -- the version that a walk stands at was there
-  stand_was : (s : ℕ) (stand : Stand) → (seats s).walk ≡ walk.At stand → (y : Version) (st : Status) → Names later stand.link y st → Names rings stand.link y st
+  stand_was : (s : ℕ) (stand : Stand) → (seats s).walk ≡ walk.At stand → (y : Version) (st : WriteSetStatus) → Names later stand.link y st
+      → Names rings stand.link y st
   stand_was s stand at y st names = by_time (time s) refl
     where
       by_time : (t : Option ℕ) → time s ≡ t → Names rings stand.link y st
@@ -119,12 +124,12 @@ module _ {starts : State → Type 0} {allows : List ℕ → State → Writes →
           let there = subst (StandsRight c start h master rings t) at (k.walker_place s t e) in
           named_same stand.link there.0 y there.1 st there.2 names
 
-  stands_kept : (t : ℕ) (w : Walk) → StandsRight c start h master rings t w → StandsRight c start h master later t w
+  stands_kept : (t : ℕ) (w : WalkStage) → StandsRight c start h master rings t w → StandsRight c start h master later t w
   stands_kept t walk.Nowhere right = tt
   stands_kept t (walk.Master o) right = serves_kept rings later kept c h start master time t o right
   stands_kept t (walk.At stand) right = (right.0, right.1, still_names stand.link right.0 right.1 right.2, right.3, at_status right.1 right.4)
     where
-      at_status : (st : Status) → MayStandAt c start h master rings t right.0 st → MayStandAt c start h master later t right.0 st
+      at_status : (st : WriteSetStatus) → MayStandAt c start h master rings t right.0 st → MayStandAt c start h master later t right.0 st
       at_status Held may = tt
       at_status (Committed note) may = may
       at_status (Aborted dead) may =
@@ -185,7 +190,7 @@ module _ {starts : State → Type 0} {allows : List ℕ → State → Writes →
   open_after : OpenSection c h section later
   open_after = record {
     own = k.open_section.own;
-    held = λ s j y lives. each_live (λ s j y st. st ≡ Held → (i : Section) × (section s ≡ Some i) × IsUnnamed i.mode)
+    held = λ s j y lives. each_live (λ s j y st. st ≡ Held → (i : OwnSection) × (section s ≡ Some i) × IsUnnamed i.mode)
         (λ _. (inside, section_here, subst IsUnnamed (sym may.walking.open_is) tt))
         (λ s j y st lives e. k.open_section.held s j y (subst (Lives rings s j y) e lives)) s j y Held lives refl;
     one_set = λ s j l y z a d.
@@ -282,7 +287,7 @@ module _ {starts : State → Type 0} {allows : List ℕ → State → Writes →
       let named = named_kept rings later kept c h stamp section (λ s i naming at mode. nothing_else s (other_named s i naming at mode)) k.named_commit in
       let backs = back_kept rings later kept c h master section time (λ s. (seats s).clocks) (λ s. (seats s).grace) (λ s. (seats s).back)
       (λ s w at. nothing_else s (λ e.
-      let none : None ≡ Some w = sym may.walking.no_back ∙ ap (λ (u : View). u.back) (sym is) ∙ ap (λ (t : ℕ). (seats t).back) (sym e) ∙ at in cc))
+      let none : None ≡ Some w = sym may.walking.no_back ∙ ap (λ (u : Knowledge). u.back) (sym is) ∙ ap (λ (t : ℕ). (seats t).back) (sym e) ∙ at in cc))
       k.write_back in
       settle starts allows c start (put m (Head object) (link_of v.number position)) h seats v.number v (head_locked c v object previous position words) is
       (record unchanged { ring = Some (head_locked c v object previous position words).ring })

@@ -2,10 +2,10 @@
 -- made there: the version or the master is the object's top where it is won, and where it is lost the new top is later than the
 -- section.
 use Rattle.std.proofs.Common.{◌≡◌, ◌≢◌, ◌⊎◌, ℕ, ◌<◌, ◌≤◌, false, true, List, sym, ap, ◌∙◌, subst, ⊎_elim, inl, inr, arith, None}
-use Rattle.mv_core.proofs.Terms.{dite, ℕ_discrete, dec_lt, Entry, State, Writes, Config, Head, Master, Stamp, link_of, Memory, Ring, Version, Status}
-use Rattle.mv_core.proofs.Terms.{Held, Committed, CommitNote, View, Section, Names, IsVersion, NoneHolds, NoneUncut, IsTop, latest, latest_at}
+use Rattle.mv_core.proofs.Terms.{dite, ℕ_discrete, dec_lt, Entry, State, Writes, Config, Head, Master, Stamp, link_of, Memory, Ring, Version, WriteSetStatus}
+use Rattle.mv_core.proofs.Terms.{Held, Committed, CommitNote, Knowledge, OwnSection, Names, IsVersion, NoneHolds, NoneUncut, IsTop, latest, latest_at}
 use Rattle.mv_core.proofs.Terms.{time_in, time_of, parts_of}
-use Rattle.mv_core.specs.declared.view.Walk.TheVariants as walk
+use Rattle.mv_core.specs.declared.view.WalkStage.TheVariants as walk
 use Rattle.mv_core.specs.declared.view.Passed.TheVariants.{Nothing}
 use Rattle.mv_core.proofs.FactTerms.{IsPastHelp, stamp_of, IsRightFor, StandsRight, MayStandAt, Facts}
 use Rattle.mv_core.specs.WalkSteps.{IsWalking, stand_at}
@@ -31,9 +31,10 @@ right_time : (c : Config) (h : List Entry) (t : ℕ) (x : Version) (note : Commi
     → note.time ≡ latest_at c.base h x.object t
 right_time c h t x note right le = ⊎_elim (λ (lt : t < note.time). absurd (omega arith)) (λ e. e) right
 
-module _ {starts : State → Type 0} {allows : List ℕ → State → Writes → Type 0} {c : Config} {start : State} {m : Memory} {h : List Entry} (seats : ℕ → View)
+module _ {starts : State → Type 0} {allows : List ℕ → State → Writes → Type 0} {c : Config} {start : State} {m : Memory} {h : List Entry}
+    (seats : ℕ → Knowledge)
     (k : Facts starts allows c start m h (parts_of seats))
-    (v : View) (is : seats v.number ≡ v) (inside : Section) (walking : IsWalking v inside) (object previous : ℕ)
+    (v : Knowledge) (is : seats v.number ≡ v) (inside : OwnSection) (walking : IsWalking v inside) (object previous : ℕ)
     (stands : StandsToLock v inside object previous) where
   abbrev rings : ℕ → Ring
   rings s = (seats s).ring
@@ -51,7 +52,7 @@ module _ {starts : State → Type 0} {allows : List ℕ → State → Writes →
   last_there =
       ⊎_elim
       (λ (a : (v.walk ≡ walk.Master object) × (previous ≡ 0)).
-      let there = ap (λ (u : View). u.walk) is ∙ a.0 in
+      let there = ap (λ (u : Knowledge). u.walk) is ∙ a.0 in
       let timed = time_is seats v inside k is walking.phase in
       let serves = subst (StandsRight c start h (λ o w. m (Master o w)) rings t) there (k.walker_place v.number t timed) in
       inl (a.1, serves.1))
@@ -71,7 +72,7 @@ module _ {starts : State → Type 0} {allows : List ℕ → State → Writes →
       stands
 
   -- one link names one version
-  once : (link : ℕ) (x y : Version) (st su : Status) → Names rings link x st → Names rings link y su → (x ≡ y) × (st ≡ su)
+  once : (link : ℕ) (x y : Version) (st su : WriteSetStatus) → Names rings link x st → Names rings link y su → (x ≡ y) × (st ≡ su)
   once link x y st su a b = let r = names_once c h rings k.checked k.history.in_time k.positions link x y st su a b in (r.2, r.3)
 
   -- the version that the walk stands at is stamped
@@ -84,7 +85,7 @@ module _ {starts : State → Type 0} {allows : List ℕ → State → Writes →
       let same = note_once note l.1 (once previous y l.0 (Committed note) (Committed l.1) below l.2.names).1 in
       let le : note.time ≤ t = subst (λ (n : CommitNote). n.time ≤ t) (sym same) l.3 in
       let section = section_is seats v inside k is walking.phase in
-      let past = subst (λ (u : View). IsPastHelp u.clocks inside) (sym is) walking.helped in
+      let past = subst (λ (u : Knowledge). IsPastHelp u.clocks inside) (sym is) walking.helped in
       k.stamped_past_help v.number inside section past below.seat below.slot y note below.lives le)
       last_there
 

@@ -4,7 +4,8 @@ use Rattle.std.specs.Prelude.{slice_index_or, slice_set}
 use Rattle.std.proofs.lemmas.List.{get_or-map, get_or_past, length-map}
 use Rattle.std.proofs.lemmas.List.Sums.{get_or-le-sum_by}
 use Rattle.mv_core.proofs.Terms.{dite, ℕ_discrete, dec_lt, Entry, State, Writes, Config, Clock, First, Stamp, Prev, Super, Data, unset_of, Memory, Ring, Slot}
-use Rattle.mv_core.proofs.Terms.{Free, Built, Live, Build, Version, Status, Held, Committed, CommitNote, View, Section, slot_at, index_of, is_held, held_count}
+use Rattle.mv_core.proofs.Terms.{Free, Built, Live, Build, Version, WriteSetStatus, Held, Committed, CommitNote, Knowledge, OwnSection, slot_at, index_of}
+use Rattle.mv_core.proofs.Terms.{is_held, held_count}
 use Rattle.mv_core.proofs.Terms.{set_first, HoldsNothing, Lives, HasFirst, section_of, parts_of, set_at}
 use Rattle.mv_core.proofs.FactTerms.{IsStored, HoldsBuild, HoldsSlot, SlotWords, StampedAs, Stamps, InHeldSet, InSet, IsHeldOrAborted, WriteSets}
 use Rattle.mv_core.proofs.FactTerms.{Facts}
@@ -28,9 +29,11 @@ none_held r none k x e =
     omega arith)
     (λ past. let free : Live x Held ≡ Free = sym e ∙ get_or_past r.slots k Free (omega arith) in cc)
 
-module _ {starts : State → Type 0} {allows : List ℕ → State → Writes → Type 0} {c : Config} {start : State} {m : Memory} {h : List Entry} (seats : ℕ → View)
+module _ {starts : State → Type 0} {allows : List ℕ → State → Writes → Type 0} {c : Config} {start : State} {m : Memory} {h : List Entry}
+    (seats : ℕ → Knowledge)
     (k : Facts starts allows c start m h (parts_of seats))
-    (v : View) (is : seats v.number ≡ v) (own : v.number < c.seats) (write_max object previous position : ℕ) (words : List ℕ) (b : Build) (inside : Section)
+    (v : Knowledge) (is : seats v.number ≡ v) (own : v.number < c.seats) (write_max object previous position : ℕ) (words : List ℕ) (b : Build)
+    (inside : OwnSection)
     (may : MayLock c write_max v object previous position words b inside) where
   abbrev pub rings : ℕ → Ring
   rings s = (seats s).ring
@@ -52,22 +55,23 @@ module _ {starts : State → Type 0} {allows : List ℕ → State → Writes →
   later = set_at rings n ring_now
 
   pub written : ring_now.slots ≡ slice_set (rings n).slots slot (Live x Held)
-  written = ap (λ (u : View). slice_set u.ring.slots slot (Live x Held)) (sym is)
+  written = ap (λ (u : Knowledge). slice_set u.ring.slots slot (Live x Held)) (sym is)
 
   pub within : slot < length (rings n).slots
   within = subst (λ (l : ℕ). slot < l) (sym (k.positions.wide n)) (slot_in c k.checked position)
 
   pub next_is : (rings n).next ≡ position
-  next_is = ap (λ (u : View). u.ring.next) is ∙ sym may.next
+  next_is = ap (λ (u : Knowledge). u.ring.next) is ∙ sym may.next
 
   pub was_built : slot_at (rings n) slot ≡ Built b
-  was_built = ap (λ (u : View). slot_at u.ring slot) is ∙ may.build
+  was_built = ap (λ (u : Knowledge). slot_at u.ring slot) is ∙ may.build
 
   -- what holds of the new version, and of each one as it was, holds of all
-  pub each_live : (P : ℕ → ℕ → Version → Status → Type 0) → P n slot x Held → ((s j : ℕ) (y : Version) (st : Status) → Lives rings s j y st → P s j y st)
-      → (s j : ℕ) (y : Version) (st : Status) → Lives later s j y st → P s j y st
+  pub each_live : (P : ℕ → ℕ → Version → WriteSetStatus → Type 0) → P n slot x Held
+      → ((s j : ℕ) (y : Version) (st : WriteSetStatus) → Lives rings s j y st → P s j y st)
+      → (s j : ℕ) (y : Version) (st : WriteSetStatus) → Lives later s j y st → P s j y st
   each_live P here rest =
-      slots_after rings n slot (Live x Held) ring_now written within (λ s j z. (y : Version) (st : Status) → z ≡ Live y st → P s j y st)
+      slots_after rings n slot (Live x Held) ring_now written within (λ s j z. (y : Version) (st : WriteSetStatus) → z ≡ Live y st → P s j y st)
       (λ y st e. let same : (x ≡ y) × (Held ≡ st) = live_once (Live x Held) x y Held st refl e in
       subst (λ (w : Version). P n slot w st) same.0 (subst (P n slot x) same.1 here))
       (λ s j ne. rest s j)
@@ -77,7 +81,7 @@ module _ {starts : State → Type 0} {allows : List ℕ → State → Writes →
   lives_new = at_here rings n slot (Live x Held) ring_now written within
 
   -- each one stays
-  pub lives_still : (s j : ℕ) (y : Version) (st : Status) → Lives rings s j y st → Lives later s j y st
+  pub lives_still : (s j : ℕ) (y : Version) (st : WriteSetStatus) → Lives rings s j y st → Lives later s j y st
   lives_still s j y st lives =
       lives_else rings n slot (Live x Held) ring_now written within s j y st
       (λ at. let there : slot_at (rings n) slot ≡ Live y st = subst (λ (p : ℕ × ℕ). slot_at (rings p.0) p.1 ≡ Live y st) (λ i. (at.0 i, at.1 i)) lives in
@@ -91,7 +95,7 @@ module _ {starts : State → Type 0} {allows : List ℕ → State → Writes →
   next_else s ne = ap (λ (r : Ring). r.next) (set_at_else rings n ring_now s ne)
 
   -- the positions of the versions before are below the new one's
-  below_next : (j : ℕ) (y : Version) (st : Status) → Lives rings n j y st → y.position < position
+  below_next : (j : ℕ) (y : Version) (st : WriteSetStatus) → Lives rings n j y st → y.position < position
   below_next j y st lives = let p = (k.positions.live n j y st lives).1 in let e = next_is in omega arith
 
   pub kept : KeepsCommitted rings later
@@ -100,7 +104,7 @@ module _ {starts : State → Type 0} {allows : List ℕ → State → Writes →
         (λ s j y st lives note e. subst (Lives rings s j y) e lives) s j y (Committed note) lives note refl;
     still = λ s j y note. lives_still s j y (Committed note);
     alive = λ s j y st lives. (y, st, lives_still s j y st lives, refl);
-    known = each_live (λ s j y st. ((z : Version) × (su : Status) × Lives rings s j z su × (z.position ≡ y.position)) ⊎ ((rings s).next ≤ y.position))
+    known = each_live (λ s j y st. ((z : Version) × (su : WriteSetStatus) × Lives rings s j z su × (z.position ≡ y.position)) ⊎ ((rings s).next ≤ y.position))
         (inr (let e = next_is in omega arith)) (λ s j y st lives. inl (y, st, lives, refl));
     grows = set_at_all (λ s r. (rings s).next ≤ r.next) rings n ring_now (let e = next_is in omega arith) (λ s ne. le_refl (rings s).next);
   }
@@ -109,13 +113,13 @@ module _ {starts : State → Type 0} {allows : List ℕ → State → Writes →
   pub by_set : {A : Type 0} → (HoldsNothing (rings n) → x.first ≡ position → A) → ((set : HeldSet c rings n) → set.first ≡ x.first → A) → A
   by_set none some =
       dite (ℕ_discrete (held_count (rings n)) 0)
-      (λ e. none (none_held (rings n) e) (let next = may.next in let same : held_count v.ring ≡ 0 = ap (λ (u : View). held_count u.ring) (sym is)
+      (λ e. none (none_held (rings n) e) (let next = may.next in let same : held_count v.ring ≡ 0 = ap (λ (u : Knowledge). held_count u.ring) (sym is)
       ∙ e in omega arith))
       (λ ne.
       let section = section_is seats v inside k is may.walking.phase in
       let set = held_set c h (λ s. section_of (seats s).phase) rings n inside k.checked k.positions k.write_sets k.open_section section
       may.walking.open_is (omega arith) in
-      some set (sym set.first_is ∙ ap (λ (u : View). set_first u.ring) is))
+      some set (sym set.first_is ∙ ap (λ (u : Knowledge). set_first u.ring) is))
 
   pub first_le : x.first ≤ position
   first_le = let e = may.next in omega arith
@@ -165,7 +169,7 @@ module _ {starts : State → Type 0} {allows : List ℕ → State → Writes →
       let a = set.at p (omega arith) (omega arith) in
       record { version = a.0; status = Held; lives = lives_still n (index_of c p) a.0 Held a.1; position_is = a.2; first_is = a.3 ∙ e; known = refl }))
 
-  stays_in : (s first p : ℕ) (P : Status → Type 0) → InHeldSet c rings s first p P → InHeldSet c later s first p P
+  stays_in : (s first p : ℕ) (P : WriteSetStatus → Type 0) → InHeldSet c rings s first p P → InHeldSet c later s first p P
   stays_in s first p P a =
       record {
         version = a.version;
@@ -177,7 +181,7 @@ module _ {starts : State → Type 0} {allows : List ℕ → State → Writes →
       }
 
   -- what holds of each seat's held versions, where the seat that locked has one set
-  pub each_set : (P : Status → Type 0) → P Held → (s j : ℕ) (y : Version) → Lives later s j y Held
+  pub each_set : (P : WriteSetStatus → Type 0) → P Held → (s j : ℕ) (y : Version) → Lives later s j y Held
       → (s ≢ n → Lives rings s j y Held → (p : ℕ) → y.first ≤ p → p < (rings s).next → InHeldSet c rings s y.first p P) → (p : ℕ) → y.first ≤ p
       → p < (later s).next → InHeldSet c later s y.first p P
   each_set P held s j y lives other p lo hi =

@@ -2,8 +2,8 @@
 use Rattle.std.proofs.Common.{◌≡◌, ◌≢◌, ◌⊎◌, ℕ, ◌+◌, ◌-◌, ◌*◌, ◌/◌, ◌%◌, ◌<◌, ◌≤◌, List, length, refl, sym, ap, ◌∙◌, subst, ⊎_elim, inl, inr, arith, Some}
 use Rattle.std.specs.Prelude.{slice_set}
 use Rattle.std.proofs.Math.Nat.{add-mod_right}
-use Rattle.mv_core.proofs.Terms.{dite, ℕ_discrete, Entry, State, Writes, Config, Memory, Ring, Free, Built, Live, Freeing, Build, Version, Status, Held}
-use Rattle.mv_core.proofs.Terms.{Aborted, View, Section, slot_at, index_of, Lives, InUse, parts_of}
+use Rattle.mv_core.proofs.Terms.{dite, ℕ_discrete, Entry, State, Writes, Config, Memory, Ring, Free, Built, Live, Freeing, Build, Version, WriteSetStatus, Held}
+use Rattle.mv_core.proofs.Terms.{Aborted, Knowledge, OwnSection, slot_at, index_of, Lives, InUse, parts_of}
 use Rattle.mv_core.proofs.FactTerms.{Positions, next_in, PositionsAndGrace, Facts}
 use Rattle.mv_core.specs.LockSteps.{MayLock}
 use Rattle.mv_core.proofs.frames.FrameLaw.{set_at_else, set_at_all}
@@ -12,9 +12,11 @@ use Rattle.mv_core.proofs.kinds.locking.lock_head.LockedLog as log
 use Rattle.mv_core.proofs.kinds.locking.lock_head.NextPosition.{next_in-same, below_rounds}
 use Rattle.mv_core.proofs.logs.Slots.{slots_after, at_else, wide_after}
 
-module _ {starts : State → Type 0} {allows : List ℕ → State → Writes → Type 0} {c : Config} {start : State} {m : Memory} {h : List Entry} (seats : ℕ → View)
+module _ {starts : State → Type 0} {allows : List ℕ → State → Writes → Type 0} {c : Config} {start : State} {m : Memory} {h : List Entry}
+    (seats : ℕ → Knowledge)
     (k : Facts starts allows c start m h (parts_of seats))
-    (v : View) (is : seats v.number ≡ v) (own : v.number < c.seats) (write_max object previous position : ℕ) (words : List ℕ) (b : Build) (inside : Section)
+    (v : Knowledge) (is : seats v.number ≡ v) (own : v.number < c.seats) (write_max object previous position : ℕ) (words : List ℕ) (b : Build)
+    (inside : OwnSection)
     (may : MayLock c write_max v object previous position words b inside) where
   abbrev rings : ℕ → Ring
   rings s = (seats s).ring
@@ -46,14 +48,15 @@ module _ {starts : State → Type 0} {allows : List ℕ → State → Writes →
   was_built : slot_at (rings n) slot ≡ Built b
   was_built = log.was_built seats k v is own write_max object previous position words b inside may
 
-  each_live : (P : ℕ → ℕ → Version → Status → Type 0) → P n slot x Held → ((s j : ℕ) (y : Version) (st : Status) → Lives rings s j y st → P s j y st)
-      → (s j : ℕ) (y : Version) (st : Status) → Lives later s j y st → P s j y st
+  each_live : (P : ℕ → ℕ → Version → WriteSetStatus → Type 0) → P n slot x Held
+      → ((s j : ℕ) (y : Version) (st : WriteSetStatus) → Lives rings s j y st → P s j y st)
+      → (s j : ℕ) (y : Version) (st : WriteSetStatus) → Lives later s j y st → P s j y st
   each_live = log.each_live seats k v is own write_max object previous position words b inside may
 
   lives_new : Lives later n slot x Held
   lives_new = log.lives_new seats k v is own write_max object previous position words b inside may
 
-  lives_still : (s j : ℕ) (y : Version) (st : Status) → Lives rings s j y st → Lives later s j y st
+  lives_still : (s j : ℕ) (y : Version) (st : WriteSetStatus) → Lives rings s j y st → Lives later s j y st
   lives_still = log.lives_still seats k v is own write_max object previous position words b inside may
 
   next_here : (later n).next ≡ position + 1
@@ -149,7 +152,7 @@ module _ {starts : State → Type 0} {allows : List ℕ → State → Writes →
         in_log s p j (λ e other. let at : slot_at (rings n) j ≡ Freeing p first = subst (λ (t : ℕ). slot_at (rings t) j ≡ Freeing p first) e there in
         let none : Built b ≡ Freeing p first = sym other ∙ at in cc) (k.positions.freeing s j p first there));
     oldest = slots_after rings n slot (Live x Held) ring_now written within (λ s j z. (p first : ℕ) → z ≡ Freeing p first
-        → (first < p) × ((l : ℕ) (y : Version) (st : Status) → Lives later s l y st → p < y.position))
+        → (first < p) × ((l : ℕ) (y : Version) (st : WriteSetStatus) → Lives later s l y st → p < y.position))
         (λ p first e. absurd (cc))
         (λ s j ne p first there.
         let a = k.positions.oldest s j p first there in (

@@ -2,7 +2,8 @@
 use Rattle.std.proofs.Common.{◌≡◌, ℕ, zero, suc, ◌+◌, ◌<◌, ◌≤◌, cond, List, [], ◌∷◌, ◌++◌, length, count_by, refl, sym, ap, ◌∙◌, subst, arith}
 use Rattle.std.specs.Prelude.{slice_set}
 use Rattle.std.proofs.lemmas.List.Sums.{sum_by-set}
-use Rattle.mv_core.proofs.Terms.{Entry, State, Writes, Config, Memory, Ring, Slot, Free, Built, Live, Build, Version, Held, View, Section, slot_at, index_of}
+use Rattle.mv_core.proofs.Terms.{Entry, State, Writes, Config, Memory, Ring, Slot, Free, Built, Live, Build, Version, Held, Knowledge, OwnSection, slot_at}
+use Rattle.mv_core.proofs.Terms.{index_of}
 use Rattle.mv_core.proofs.Terms.{is_held, is_spare, held_count, spare_count, set_first, write_of, writes_from, own_of, HoldsNothing, Lives, parts_of}
 use Rattle.mv_core.specs.LockSteps.{MayLock, head_locked, OneMoreWrite}
 use Rattle.mv_core.specs.Rule.{Facts}
@@ -50,9 +51,11 @@ module _ (c : Config) where
       let rest = writes_same r q (p + 1) n (λ i lo hi. same i (omega arith) (omega arith)) in
       (λ i. here i ∷ rest i)
 
-module _ {starts : State → Type 0} {allows : List ℕ → State → Writes → Type 0} {c : Config} {start : State} {m : Memory} {h : List Entry} (seats : ℕ → View)
+module _ {starts : State → Type 0} {allows : List ℕ → State → Writes → Type 0} {c : Config} {start : State} {m : Memory} {h : List Entry}
+    (seats : ℕ → Knowledge)
     (k : Facts starts allows c start m h (parts_of seats))
-    (v : View) (is : seats v.number ≡ v) (own : v.number < c.seats) (write_max object previous position : ℕ) (words : List ℕ) (b : Build) (inside : Section)
+    (v : Knowledge) (is : seats v.number ≡ v) (own : v.number < c.seats) (write_max object previous position : ℕ) (words : List ℕ) (b : Build)
+    (inside : OwnSection)
     (may : MayLock c write_max v object previous position words b inside) where
   abbrev now : Ring
   now = (head_locked c v object previous position words).ring
@@ -76,17 +79,17 @@ module _ {starts : State → Type 0} {allows : List ℕ → State → Writes →
       ap write_of (in_now (index_of c position) y (lives_new seats k v is own write_max object previous position words b inside may)) in
       let fits : set_first v.ring + held_count v.ring ≡ position =
       by_set seats k v is own write_max object previous position words b inside may
-      (λ none e. (let z = holds_none v.ring (subst (λ (u : View). HoldsNothing u.ring) is none) in omega arith))
-      (λ set e. (let z = set.count_is in let some = set.some in let ring_is = ap (λ (u : View). held_count u.ring) is in
-      let next_is = ap (λ (u : View). u.ring.next) is in let f = set.first_is in omega arith)) in
+      (λ none e. (let z = holds_none v.ring (subst (λ (u : Knowledge). HoldsNothing u.ring) is none) in omega arith))
+      (λ set e. (let z = set.count_is in let some = set.some in let ring_is = ap (λ (u : Knowledge). held_count u.ring) is in
+      let next_is = ap (λ (u : Knowledge). u.ring.next) is in let f = set.first_is in omega arith)) in
       let same : writes_from c now (set_first v.ring) (held_count v.ring) ≡ writes_from c v.ring (set_first v.ring) (held_count v.ring) =
       writes_same c now v.ring (set_first v.ring) (held_count v.ring) (λ i lo hi.
       by_set seats k v is own write_max object previous position words b inside may
-      (λ none e. absurd (let z = holds_none v.ring (subst (λ (u : View). HoldsNothing u.ring) is none) in omega arith))
+      (λ none e. absurd (let z = holds_none v.ring (subst (λ (u : Knowledge). HoldsNothing u.ring) is none) in omega arith))
       (λ set e.
-      let next_is = ap (λ (u : View). u.ring.next) is in
+      let next_is = ap (λ (u : Knowledge). u.ring.next) is in
       let a = set.at i (let f = e in omega arith) (omega arith) in
-      let old : slot_at v.ring (index_of c i) ≡ Live a.0 Held = ap (λ (u : View). slot_at u.ring (index_of c i)) (sym is) ∙ a.1 in
+      let old : slot_at v.ring (index_of c i) ≡ Live a.0 Held = ap (λ (u : Knowledge). slot_at u.ring (index_of c i)) (sym is) ∙ a.1 in
       ap write_of (in_now (index_of c i) a.0
       (lives_still seats k v is own write_max object previous position words b inside may v.number (index_of c i) a.0 Held a.1)) ∙ ap write_of (sym old))) in (
         (λ i. writes_from c now (first i) (count i)) ∙ writes_more c now (set_first v.ring) (held_count v.ring)

@@ -2,9 +2,9 @@
 use Rattle.std.proofs.Common.{◌≡◌, ◌≢◌, ℕ, ◌<◌, ◌≤◌, false, List, refl, sym, ap, ◌∙◌, subst, Option, Some}
 use Rattle.std.specs.Prelude.{Contains}
 use Rattle.mv_core.proofs.Terms.{dite, ℕ_discrete, Entry, State, Writes, Config, Clock, Head, Mark, Master, Stamp, Super, clock_time_of, Memory, put}
-use Rattle.mv_core.proofs.Terms.{Ring, Live, Version, Held, Committed, CommitNote, View, Outside, Inside, Section, Open, Aborting, Named, Naming}
+use Rattle.mv_core.proofs.Terms.{Ring, Live, Version, Held, Committed, CommitNote, Knowledge, Outside, Inside, OwnSection, Open, Aborting, Named, Naming}
 use Rattle.mv_core.proofs.Terms.{Scan, slot_at, index_of, Lives, last_own, IsNextWrite, section_of, time_of, time_in, IsUnnamed, parts_of, set_at}
-use Rattle.mv_core.specs.declared.view.Walk.TheVariants.{Nowhere}
+use Rattle.mv_core.specs.declared.view.WalkStage.TheVariants.{Nowhere}
 use Rattle.mv_core.proofs.FactTerms.{IsNaming, MarkedAs, IsPastHelp, StampedPastHelp, WasClock, LoadedWords, OpenSection, WriteBacks, RunsOn, Facts}
 use Rattle.mv_core.proofs.FactTerms.{Stores, IsKept}
 use Rattle.mv_core.specs.LockSteps.{MayUnlock, head_unlocked}
@@ -15,9 +15,11 @@ use Rattle.mv_core.proofs.frames.Sections as more
 use Rattle.mv_core.proofs.history.SectionWords.{section_is}
 use Rattle.mv_core.proofs.kinds.locking.unlock_head.UnlockedLog as log
 
-module _ {starts : State → Type 0} {allows : List ℕ → State → Writes → Type 0} {c : Config} {start : State} {m : Memory} {h : List Entry} (seats : ℕ → View)
+module _ {starts : State → Type 0} {allows : List ℕ → State → Writes → Type 0} {c : Config} {start : State} {m : Memory} {h : List Entry}
+    (seats : ℕ → Knowledge)
     (k : Facts starts allows c start m h (parts_of seats))
-    (v : View) (is : seats v.number ≡ v) (object previous slot : ℕ) (x : Version) (inside : Section) (may : MayUnlock v object previous slot x inside) where
+    (v : Knowledge) (is : seats v.number ≡ v) (object previous slot : ℕ) (x : Version) (inside : OwnSection)
+    (may : MayUnlock v object previous slot x inside) where
   abbrev rings : ℕ → Ring
   rings s = (seats s).ring
 
@@ -27,13 +29,13 @@ module _ {starts : State → Type 0} {allows : List ℕ → State → Writes →
   abbrev later : ℕ → Ring
   later = log.later seats k v is object previous slot x inside may
 
-  abbrev section : ℕ → Option Section
+  abbrev section : ℕ → Option OwnSection
   section s = section_of (seats s).phase
 
-  abbrev aborting : Section
+  abbrev aborting : OwnSection
   aborting = record inside { mode = Aborting }
 
-  abbrev sections : ℕ → Option Section
+  abbrev sections : ℕ → Option OwnSection
   sections = set_at section n (Some aborting)
 
   abbrev time : ℕ → Option ℕ
@@ -68,29 +70,29 @@ module _ {starts : State → Type 0} {allows : List ℕ → State → Writes →
   section_here = section_is seats v inside k is may.phase
 
   -- a section that named its commit is of another seat
-  other_named : {A : Type 0} (i : Section) (naming : Naming) → section n ≡ Some i → i.mode ≡ Named naming → A
+  other_named : {A : Type 0} (i : OwnSection) (naming : Naming) → section n ≡ Some i → i.mode ≡ Named naming → A
   other_named i naming at mode =
       let one : Some inside ≡ Some i = sym section_here ∙ at in
       let same : inside ≡ i = cc in
-      let named : inside.mode ≡ Named naming = ap (λ (j : Section). j.mode) same ∙ mode in
+      let named : inside.mode ≡ Named naming = ap (λ (j : OwnSection). j.mode) same ∙ mode in
       absurd (subst IsUnnamed named may.unnamed)
 
   ring_else : (s : ℕ) → s ≢ n → later s ≡ rings s
   ring_else s ne = set_at_else rings n (log.ring_now seats k v is object previous slot x inside may) s ne
 
   -- a section is as it was, but for its mode
-  section_was : (s : ℕ) (i : Section) → sections s ≡ Some i → (old : Section) × (section s ≡ Some old) × (old.word ≡ i.word)
-  section_was = set_at_all (λ s u. (i : Section) → u ≡ Some i → (old : Section) × (section s ≡ Some old) × (old.word ≡ i.word)) section n (Some aborting)
-      (λ i e. let same : aborting ≡ i = cc in (inside, section_here, ap (λ (j : Section). j.word) same))
+  section_was : (s : ℕ) (i : OwnSection) → sections s ≡ Some i → (old : OwnSection) × (section s ≡ Some old) × (old.word ≡ i.word)
+  section_was = set_at_all (λ s u. (i : OwnSection) → u ≡ Some i → (old : OwnSection) × (section s ≡ Some old) × (old.word ≡ i.word)) section n (Some aborting)
+      (λ i e. let same : aborting ≡ i = cc in (inside, section_here, ap (λ (j : OwnSection). j.word) same))
       (λ s ne i e. (i, e, refl))
 
   open_after : OpenSection c h sections later
   open_after = record {
-    own = set_at_all (λ s u. (i : Section) → u ≡ Some i → IsUnnamed i.mode → last_own c.base h s ≤ time_in i) section n (Some aborting)
-        (λ i e _. let same : aborting ≡ i = cc in subst (λ (j : Section). last_own c.base h n ≤ time_in j) same
+    own = set_at_all (λ s u. (i : OwnSection) → u ≡ Some i → IsUnnamed i.mode → last_own c.base h s ≤ time_in i) section n (Some aborting)
+        (λ i e _. let same : aborting ≡ i = cc in subst (λ (j : OwnSection). last_own c.base h n ≤ time_in j) same
         (k.open_section.own n inside section_here may.unnamed))
         (λ s ne. k.open_section.own s);
-    held = each_held (λ s j y. (i : Section) × (sections s ≡ Some i) × IsUnnamed i.mode)
+    held = each_held (λ s j y. (i : OwnSection) × (sections s ≡ Some i) × IsUnnamed i.mode)
         (λ s j y ne lives.
         dite (ℕ_discrete s n)
         (λ e. (aborting, ap sections e ∙ set_at_here section n (Some aborting), tt))
@@ -105,7 +107,7 @@ module _ {starts : State → Type 0} {allows : List ℕ → State → Writes →
         (λ e.
         let here : Some aborting ≡ Some i = sym (set_at_here section n (Some aborting)) ∙ ap sections (sym e) ∙ at in
         let same : aborting ≡ i = cc in
-        let clash : Aborting ≡ Open = ap (λ (j : Section). j.mode) same ∙ mode in absurd (cc))
+        let clash : Aborting ≡ Open = ap (λ (j : OwnSection). j.mode) same ∙ mode in absurd (cc))
         (λ ne.
         let r = ring_else s ne in
         let a = k.open_section.whole s j y i (subst (λ (q : Ring). slot_at q j ≡ Live y Held) r lives)
@@ -128,12 +130,12 @@ module _ {starts : State → Type 0} {allows : List ℕ → State → Writes →
       let there = set_at_else section n (Some aborting) by.seat ne ∙ by.in_section in
       record { seat = by.seat; inside = by.inside; naming = by.naming; in_section = there; mode = by.mode; time_is = by.time_is; known = tt }
 
-  aborting_unnamed : (i : Section) → Some aborting ≡ Some i → IsUnnamed i.mode
-  aborting_unnamed i e = let same : aborting ≡ i = cc in subst (λ (j : Section). IsUnnamed j.mode) same tt
+  aborting_unnamed : (i : OwnSection) → Some aborting ≡ Some i → IsUnnamed i.mode
+  aborting_unnamed i e = let same : aborting ≡ i = cc in subst (λ (j : OwnSection). IsUnnamed j.mode) same tt
 
   words_after : LoadedWords c (m Clock) sections (λ s. (seats s).clocks)
   words_after =
-      let now : (s : ℕ) (i : Section) → sections s ≡ Some i → WasClock c (m Clock) i.word =
+      let now : (s : ℕ) (i : OwnSection) → sections s ≡ Some i → WasClock c (m Clock) i.word =
       λ s i at. let o = section_was s i at in subst (WasClock c (m Clock)) o.2 (k.loaded_words.inside s o.0 o.1) in
       assumption (now, k.loaded_words)
 
@@ -148,12 +150,12 @@ module _ {starts : State → Type 0} {allows : List ℕ → State → Writes →
       (parts_of (set_at seats v.number (head_unlocked c v object previous slot x inside)))
   unlock_stored =
       let marks = set_at_all (λ s q. MarkedAs (m Clock) (m (Mark s)) q) (λ s. (seats s).phase) n (Inside aborting)
-      (subst (MarkedAs (m Clock) (m (Mark n))) (ap (λ (u : View). u.phase) is ∙ may.phase) (k.marks n)) (λ s ne. k.marks s) in
+      (subst (MarkedAs (m Clock) (m (Mark n))) (ap (λ (u : Knowledge). u.phase) is ∙ may.phase) (k.marks n)) (λ s ne. k.marks s) in
       let past_help : StampedPastHelp c stamp sections (λ s. (seats s).clocks) later = λ s i at past t j y note lives le.
       let o = section_was s i at in
       live_on.past_help s o.0 o.1 (subst (Contains (seats s).clocks.helped) (sym o.2) past) t j y note lives
       (subst (λ (word : ℕ). note.time ≤ clock_time_of word) (sym o.2) le) in
-      let helped : (s : ℕ) (i : Section) → sections s ≡ Some i → (seats s).walk ≢ Nowhere → IsPastHelp (seats s).clocks i = λ s i at somewhere.
+      let helped : (s : ℕ) (i : OwnSection) → sections s ≡ Some i → (seats s).walk ≢ Nowhere → IsPastHelp (seats s).clocks i = λ s i at somewhere.
       let o = section_was s i at in subst (Contains (seats s).clocks.helped) o.2 (k.walker_knowledge.helped s o.0 o.1 somewhere) in
       let unfinished = more.unfinished_more c h later section n (Some aborting) aborting_unnamed stamp (λ i naming at mode. other_named i naming at mode)
       live_on.unfinished in
@@ -162,7 +164,7 @@ module _ {starts : State → Type 0} {allows : List ℕ → State → Writes →
       (log.flags seats k v is object previous slot x inside may) in
       let scanning = set_at_all (λ s q. (running : Scan) → (seats s).scan ≡ Some running → q ≡ Outside) (λ s. (seats s).phase) n (Inside aborting)
       (λ running e.
-      let out : Inside inside ≡ Outside = sym may.phase ∙ ap (λ (u : View). u.phase) (sym is) ∙ k.phases_and_scan.scanning n running e in absurd (cc))
+      let out : Inside inside ≡ Outside = sym may.phase ∙ ap (λ (u : Knowledge). u.phase) (sym is) ∙ k.phases_and_scan.scanning n running e in absurd (cc))
       (λ s ne. k.phases_and_scan.scanning s) in
       settle starts allows c start (put m (Head object) previous) h seats v.number v (head_unlocked c v object previous slot x inside) is
       (record unchanged { phase = Some (Inside aborting); section = Some (Some aborting); ring = Some (head_unlocked c v object previous slot x inside).ring })
@@ -172,8 +174,9 @@ module _ {starts : State → Type 0} {allows : List ℕ → State → Writes →
       let heads = log.heads seats k v is object previous slot x inside may in
       assumption (slot_words, same_death, heads, naming_after, open_after, words_after, backs_after, in_place, live_on, same_cut, k))
 
-module _ (starts : State → Type 0) (allows : List ℕ → State → Writes → Type 0) (c : Config) (start : State) (v : View) (object previous slot : ℕ) (x : Version)
-    (inside : Section) (may : MayUnlock v object previous slot x inside) where
+module _ (starts : State → Type 0) (allows : List ℕ → State → Writes → Type 0) (c : Config) (start : State) (v : Knowledge) (object previous slot : ℕ)
+    (x : Version)
+    (inside : OwnSection) (may : MayUnlock v object previous slot x inside) where
   -- what the pass has at run time of the section stays
   unlock_runs : RunsOn v (head_unlocked c v object previous slot x inside)
   unlock_runs time first timed begun = (
@@ -182,7 +185,7 @@ module _ (starts : State → Type 0) (allows : List ℕ → State → Writes →
     (λ i e mode some.
         let same : Inside (record inside { mode = Aborting }) ≡ Inside i = e in
         let one : record inside { mode = Aborting } ≡ i = cc in
-        let clash : Aborting ≡ Open = ap (λ (j : Section). j.mode) one ∙ mode in absurd (cc)),
+        let clash : Aborting ≡ Open = ap (λ (j : OwnSection). j.mode) one ∙ mode in absurd (cc)),
   )
 
   pub unlock_stores : Stores starts allows c start v (Head object) previous (λ w. ((w ≡ head_unlocked c v object previous slot x inside) × RunsOn v w)

@@ -2,7 +2,7 @@
 use Rattle.std.proofs.Common.{◌≡◌, ℕ, ◌<◌, List, length, refl, sym, ap, ◌∙◌, subst, ⊎_elim, None}
 use Rattle.std.specs.Prelude.{slice_set}
 use Rattle.mv_core.proofs.Terms.{Entry, State, Writes, Config, Head, First, Stamp, Prev, Super, Data, link_of, Memory, put, Ring, Live, Version, Held}
-use Rattle.mv_core.proofs.Terms.{Aborted, View, Section, slot_at, put_slot, Lives, Names, NoneHolds, IsTop, latest, parts_of, set_at}
+use Rattle.mv_core.proofs.Terms.{Aborted, Knowledge, OwnSection, slot_at, put_slot, Lives, Names, NoneHolds, IsTop, latest, parts_of, set_at}
 use Rattle.mv_core.proofs.FactTerms.{HoldsSlot, SlotWords, SuccessorFlag, HeadIsTop, Facts}
 use Rattle.mv_core.specs.LockSteps.{MayUnlock}
 use Rattle.mv_core.proofs.logs.Links.{live_once, names_once}
@@ -13,9 +13,11 @@ use Rattle.mv_core.proofs.kinds.reclaiming.cut_head.Cuts.{SameDeath, SameNotes, 
 use Rattle.mv_core.proofs.frames.MatchedFacts.{LivesOnFacts, SameCutFacts, live_on_facts, same_cut_facts}
 use Rattle.mv_core.proofs.frames.InPlace.{InPlaceFacts, in_place_put, in_place_facts}
 
-module _ {starts : State → Type 0} {allows : List ℕ → State → Writes → Type 0} {c : Config} {start : State} {m : Memory} {h : List Entry} (seats : ℕ → View)
+module _ {starts : State → Type 0} {allows : List ℕ → State → Writes → Type 0} {c : Config} {start : State} {m : Memory} {h : List Entry}
+    (seats : ℕ → Knowledge)
     (k : Facts starts allows c start m h (parts_of seats))
-    (v : View) (is : seats v.number ≡ v) (object previous slot : ℕ) (x : Version) (inside : Section) (may : MayUnlock v object previous slot x inside) where
+    (v : Knowledge) (is : seats v.number ≡ v) (object previous slot : ℕ) (x : Version) (inside : OwnSection)
+    (may : MayUnlock v object previous slot x inside) where
   abbrev pub rings : ℕ → Ring
   rings s = (seats s).ring
 
@@ -29,10 +31,10 @@ module _ {starts : State → Type 0} {allows : List ℕ → State → Writes →
   later = set_at rings n ring_now
 
   pub was_held : Lives rings n slot x Held
-  was_held = ap (λ (u : View). slot_at u.ring slot) is ∙ may.held
+  was_held = ap (λ (u : Knowledge). slot_at u.ring slot) is ∙ may.held
 
   written : ring_now.slots ≡ slice_set (rings n).slots slot (Live x (Aborted None))
-  written = ap (λ (u : View). slice_set u.ring.slots slot (Live x (Aborted None))) (sym is)
+  written = ap (λ (u : Knowledge). slice_set u.ring.slots slot (Live x (Aborted None))) (sym is)
 
   within : slot < length (rings n).slots
   within = live_within (rings n) slot x Held was_held
@@ -45,7 +47,7 @@ module _ {starts : State → Type 0} {allows : List ℕ → State → Writes →
       (λ s j ne y lives. rest s j y ne lives)
 
   aborts : Matches Aborts rings later
-  aborts = match_put Aborts aborts_self rings n slot (Live x (Aborted None)) ring_now written within (ap (λ (u : View). u.ring.next) (sym is)) x Held x
+  aborts = match_put Aborts aborts_self rings n slot (Live x (Aborted None)) ring_now written within (ap (λ (u : Knowledge). u.ring.next) (sym is)) x Held x
       (Aborted None) was_held refl ((((refl, refl), refl), refl), refl)
 
   on : Matches LivesOn rings later

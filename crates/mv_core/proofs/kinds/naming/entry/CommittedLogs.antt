@@ -3,7 +3,7 @@
 use Rattle.std.proofs.Common.{◌≡◌, ◌≢◌, ◌⊎◌, ℕ, ◌<◌, ◌==◌, false, List, [], ◌∷◌, map, refl, sym, ap, ◌∙◌, subst, inl, inr, ⊎_elim, suc, Option, None}
 use Rattle.std.specs.Prelude.{slice_index_or}
 use Rattle.std.proofs.Math.ListN.{get_or-map}
-use Rattle.mv_core.proofs.Terms.{dite, ℕ_discrete, Config, Ring, Slot, Free, Built, Live, Freeing, Build, Version, Status, Held, Aborted, Committed}
+use Rattle.mv_core.proofs.Terms.{dite, ℕ_discrete, Config, Ring, Slot, Free, Built, Live, Freeing, Build, Version, WriteSetStatus, Held, Aborted, Committed}
 use Rattle.mv_core.proofs.Terms.{CommitNote, slot_at, index_of, HoldsNothing, Lives, Names, IsGone, IsVersion, NoneUncut, IsTop, HasFirst, set_at}
 use Rattle.mv_core.specs.NameSteps.{committed_slot}
 use Rattle.mv_core.proofs.logs.Slots.{Matches}
@@ -21,8 +21,8 @@ abbrev pub committed_ring : ℕ → Ring → Ring
 committed_ring t r = record r { slots = map (committed_slot t) r.slots }
 
 -- a version that is live afterwards was live before
-pub committed_was : (t : ℕ) (slot : Slot) (x : Version) (st : Status) → committed_slot t slot ≡ Live x st
-    → (old : Status) × (slot ≡ Live x old) × (((old ≡ st) × (st ≢ Held)) ⊎ ((old ≡ Held) × (st ≡ Committed (new_note t x))))
+pub committed_was : (t : ℕ) (slot : Slot) (x : Version) (st : WriteSetStatus) → committed_slot t slot ≡ Live x st
+    → (old : WriteSetStatus) × (slot ≡ Live x old) × (((old ≡ st) × (st ≢ Held)) ⊎ ((old ≡ Held) × (st ≡ Committed (new_note t x))))
 committed_was t Free x st e = absurd cc
 committed_was t (Built b) x st e = absurd cc
 committed_was t (Freeing p f) x st e = absurd cc
@@ -93,12 +93,12 @@ module _ (rings : ℕ → Ring) (n t : ℕ) where
   next_same = set_at_all (λ s r. r.next ≡ (rings s).next) rings n (committed_ring t (rings n)) refl (λ s ne. refl)
 
   -- how a version that is live afterwards was before
-  pub record Was (s k : ℕ) (x : Version) (st : Status) : Type 0 where
-    pub old : Status
+  pub record Was (s k : ℕ) (x : Version) (st : WriteSetStatus) : Type 0 where
+    pub old : WriteSetStatus
     pub lives : Lives rings s k x old
     pub how : (old ≡ st) ⊎ ((s ≡ n) × (old ≡ Held) × (st ≡ Committed (new_note t x)))
 
-  pub was : (s k : ℕ) (x : Version) (st : Status) → Lives after s k x st → Was s k x st
+  pub was : (s k : ℕ) (x : Version) (st : WriteSetStatus) → Lives after s k x st → Was s k x st
   was s k x st lives =
       dite (ℕ_discrete s n)
       (λ e. let r = committed_was t (slot_at (rings s) k) x st
@@ -131,12 +131,13 @@ module _ (rings : ℕ → Ring) (n t : ℕ) where
       r.how
 
   -- what is held or aborted afterwards was so before
-  pub was_uncommitted : (s k : ℕ) (x : Version) (st : Status) → Lives after s k x st → ((note : CommitNote) → st ≢ Committed note) → Lives rings s k x st
+  pub was_uncommitted : (s k : ℕ) (x : Version) (st : WriteSetStatus) → Lives after s k x st → ((note : CommitNote) → st ≢ Committed note)
+      → Lives rings s k x st
   was_uncommitted s k x st lives none =
       let r = was s k x st lives in
       ⊎_elim (λ e. subst (Lives rings s k x) e r.lives) (λ b. absurd (none (new_note t x) b.2)) r.how
 
-  stays : (s k : ℕ) (x : Version) (st : Status) → committed_slot t (Live x st) ≡ Live x st → Lives rings s k x st → Lives after s k x st
+  stays : (s k : ℕ) (x : Version) (st : WriteSetStatus) → committed_slot t (Live x st) ≡ Live x st → Lives rings s k x st → Lives after s k x st
   stays s k x st same lives =
       dite (ℕ_discrete s n) (λ e. slot_here s k e ∙ ap (committed_slot t) lives ∙ same) (λ ne. slot_else s k ne ∙ lives)
 
@@ -160,7 +161,7 @@ module _ (rings : ℕ → Ring) (n t : ℕ) where
       (λ ne. inl (still_held s k x ne lives))
 
   -- what was live is live
-  pub still_lives : (s k : ℕ) (x : Version) (st : Status) → Lives rings s k x st → (new : Status) × Lives after s k x new
+  pub still_lives : (s k : ℕ) (x : Version) (st : WriteSetStatus) → Lives rings s k x st → (new : WriteSetStatus) × Lives after s k x new
   still_lives s k x (Committed note) lives = (Committed note, still_committed s k x note lives)
   still_lives s k x (Aborted dead) lives = (Aborted dead, still_aborted s k x dead lives)
   still_lives s k x Held lives = ⊎_elim (λ held. (Held, held)) (λ new. (Committed (new_note t x), new)) (held_becomes s k x lives)

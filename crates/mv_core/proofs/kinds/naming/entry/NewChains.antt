@@ -1,6 +1,6 @@
 -- One more entry, of what its seat holds: the heads, the links, the masters and the feet of the chains.
 use Rattle.std.proofs.Common.{◌≡◌, ◌≢◌, ℕ, ◌+◌, ◌-◌, true, false, List, [], ◌∷◌, ◌++◌, length, refl, sym, ap, ◌∙◌, subst, inl, inr, ⊎_elim, arith}
-use Rattle.mv_core.proofs.Terms.{dite, ℕ_discrete, Entry, State, Writes, Config, Head, Master, Memory, link_of, Ring, Version, Status, Held}
+use Rattle.mv_core.proofs.Terms.{dite, ℕ_discrete, Entry, State, Writes, Config, Head, Master, Memory, link_of, Ring, Version, WriteSetStatus, Held}
 use Rattle.mv_core.proofs.Terms.{Committed, CommitNote, Lives, Names, IsVersion, NoneHolds, NoneUncut, IsTop, writes_to, latest, latest_at, words_of}
 use Rattle.mv_core.proofs.Terms.{AreThe, NotAboveAny, ViewParts}
 use Rattle.mv_core.proofs.FactTerms.{HeadIsTop, HeldLink, LinksBelow, CommitLink, AbortedLink, PresentMaster, ChainFoot, Facts}
@@ -149,7 +149,8 @@ module _ {starts : State → Type 0} {allows : List ℕ → State → Writes →
       (bool_is (writes_to o e))
 
   -- a link that names nothing afterwards named nothing before
-  named_nothing : (link : ℕ) → ((y : Version) (st : Status) → ¬ (Names rings link y st)) → (y : Version) (st : Status) → ¬ (Names f.ring link y st)
+  named_nothing : (link : ℕ) → ((y : Version) (st : WriteSetStatus) → ¬ (Names rings link y st)) → (y : Version) (st : WriteSetStatus)
+      → ¬ (Names f.ring link y st)
   named_nothing link none y st a =
       let r = logs.still_lives f.ring n t a.seat a.slot y st a.lives in none y r.0 (record { seat = a.seat; slot = a.slot; lives = r.1; is = a.is })
 

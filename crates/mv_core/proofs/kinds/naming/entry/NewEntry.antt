@@ -1,7 +1,7 @@
 -- The history gets one more entry of a seat, which writes exactly what the seat holds, and all that it holds is committed at the
 -- entry's time. What the exchanges of CLOCK for a commit and for a rest, at which nothing is held, have in common.
 use Rattle.std.proofs.Common.{◌≡◌, ◌≢◌, ◌⊎◌, ℕ, ◌+◌, ◌-◌, ◌≤◌, Bool, true, false, List, [], ◌∷◌, ◌++◌, length, refl, sym, ap, ◌∙◌, subst, inl, inr, ⊎_elim}
-use Rattle.mv_core.proofs.Terms.{Entry, State, Writes, maker_of, Config, Head, Memory, Ring, Version, Status, Held, Aborted, Committed, CommitNote}
+use Rattle.mv_core.proofs.Terms.{Entry, State, Writes, maker_of, Config, Head, Memory, Ring, Version, WriteSetStatus, Held, Aborted, Committed, CommitNote}
 use Rattle.mv_core.proofs.Terms.{Lives, Names, writes_to, latest, latest_at, ViewParts}
 use Rattle.mv_core.specs.Rule.{Facts}
 use Rattle.mv_core.proofs.logs.Written.{commit_within}
@@ -35,7 +35,7 @@ module _ {starts : State → Type 0} {allows : List ℕ → State → Writes →
   old_time s j x note lives = (commit_within c h f.ring k.write_sets s j x note lives).1
 
   -- a link names one version with one status
-  abbrev pub one_named : (link : ℕ) (x y : Version) (st su : Status) → (a : Names f.ring link x st) → (b : Names f.ring link y su)
+  abbrev pub one_named : (link : ℕ) (x y : Version) (st su : WriteSetStatus) → (a : Names f.ring link x st) → (b : Names f.ring link y su)
       → (a.seat ≡ b.seat) × (a.slot ≡ b.slot) × (x ≡ y) × (st ≡ su)
   one_named = names_once c h f.ring k.checked k.history.in_time k.positions
 
@@ -43,7 +43,7 @@ module _ {starts : State → Type 0} {allows : List ℕ → State → Writes →
   not_held link x y note a b = let one : Committed note ≡ Held = (one_named link x y (Committed note) Held a b).3 in cc
 
   -- no previous link names a held version
-  pub link_not_held : (s j : ℕ) (x y : Version) (st : Status) → Lives f.ring s j x st → ¬ (Names f.ring x.previous y Held)
+  pub link_not_held : (s j : ℕ) (x y : Version) (st : WriteSetStatus) → Lives f.ring s j x st → ¬ (Names f.ring x.previous y Held)
   link_not_held s j x y Held lives names =
       ⊎_elim
       (λ a. not_held x.previous a.0 y a.1 a.2.names names)

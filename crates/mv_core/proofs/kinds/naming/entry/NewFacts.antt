@@ -2,7 +2,7 @@
 use Rattle.std.proofs.Common.{◌≡◌, ℕ, ◌+◌, ◌≤◌, List, [], ◌∷◌, ◌++◌, length, subst, arith, Option, Some}
 use Rattle.std.specs.Prelude.{Contains}
 use Rattle.mv_core.proofs.Terms.{Entry, State, Writes, Config, Clock, Grace, Mark, Stamp, Memory, put, clock_of, clock_time_of, Version, Held}
-use Rattle.mv_core.proofs.Terms.{Committed, CommitNote, Past, Phase, Outside, Section, Scan, index_of, Lives, ViewParts}
+use Rattle.mv_core.proofs.Terms.{Committed, CommitNote, Past, Phase, Outside, OwnSection, Scan, index_of, Lives, ViewParts}
 use Rattle.mv_core.proofs.FactTerms.{stamp_of, Marks, History, Facts}
 use Rattle.mv_core.proofs.frames.ClocksLoaded.{clock_small, past_help, stamped_by_done}
 use Rattle.mv_core.proofs.logs.Written.{commit_within}
@@ -27,7 +27,7 @@ module _ {starts : State → Type 0} {allows : List ℕ → State → Writes →
 
   module _ (n : ℕ) (e : Entry) (helped : Contains (f.clocks n).helped (m Clock)) (makes : Makes f.ring n e) (set : sets.NewSet k n e)
       (clock : ℕ) (clock_is : (j : ℕ) (x : Version) → Lives f.ring n j x Held → clock ≡ clock_of (new_time c.base h e) n (index_of c x.first))
-      (sections : ℕ → Option Section) (turns : turned.Turns k n e clock sections)
+      (sections : ℕ → Option OwnSection) (turns : turned.Turns k n e clock sections)
       (past : ℕ → Past) (history : History starts allows c start clock (h ++ e ∷ []) past) (seen : (s : ℕ) → length (f.past s).seen ≤ length (past s).seen)
       (phase : ℕ → Phase) (marks : Marks (m Clock) (λ s. m (Mark s)) phase)
       (scanning : (s : ℕ) (running : Scan) → f.scan s ≡ Some running → phase s ≡ Outside) where

@@ -2,7 +2,8 @@
 use Rattle.std.proofs.Common.{◌≡◌, ◌≢◌, ℕ, ◌+◌, ◌<◌, ◌≤◌, ◌==◌, true, false, List, [], ◌∷◌, ◌++◌, length, refl, sym, ap, ◌∙◌, subst, inl, inr, ⊎_elim, arith}
 use Rattle.std.proofs.Common.{eq-eqb, eqb-true, Option, Some, None}
 use Rattle.mv_core.proofs.Terms.{dite, ℕ_discrete, Entry, State, Writes, Config, Clock, Master, Stamp, Super, Memory, clock_time_of, clock_seat_of}
-use Rattle.mv_core.proofs.Terms.{clock_slot_of, link_of, Ring, Version, Status, Held, Committed, CommitNote, Phase, Outside, Lowered, Marked, Inside, Section}
+use Rattle.mv_core.proofs.Terms.{clock_slot_of, link_of, Ring, Version, WriteSetStatus, Held, Committed, CommitNote, Phase, Outside, Lowered, Marked, Inside}
+use Rattle.mv_core.proofs.Terms.{OwnSection}
 use Rattle.mv_core.proofs.Terms.{Named, Naming, Scan, index_of, HoldsNothing, Lives, Names, writes_to, latest, IsNextWrite, time_in, IsUnnamed, ViewParts}
 use Rattle.mv_core.proofs.FactTerms.{IsHeldOrAborted, IsNaming, Successors, UnstampedIsUnfinished, MarkedAs, IsWord, WasClock}
 use Rattle.mv_core.proofs.FactTerms.{LoadedWords, HelpedWords, FoundStamps, ScanIs, LockFreshness, NamedIs, NamedCommit, OpenSection}
@@ -64,22 +65,22 @@ module _ {starts : State → Type 0} {allows : List ℕ → State → Writes →
 
   -- the clock afterwards, and the sections: those of the other seats are as they were; that of this one had named nothing, keeps its word, and has named the
   -- new commit, if it held something
-  pub record Turns (clock : ℕ) (sections : ℕ → Option Section) : Type 0 where
+  pub record Turns (clock : ℕ) (sections : ℕ → Option OwnSection) : Type 0 where
     pub time_is : clock_time_of clock ≡ t
     pub is_word : IsWord c clock
     pub names : clock_slot_of clock ≢ 8191 → (x : Version) × (note : CommitNote) × Lives rings (clock_seat_of clock) (clock_slot_of clock) x (Committed note)
         × (x.position ≡ x.first) × (note.time ≡ clock_time_of clock)
     pub others : (s : ℕ) → s ≢ n → sections s ≡ f.section s
-    pub before : (i : Section) (d : Naming) → f.section n ≡ Some i → i.mode ≢ Named d
-    pub word_same : (i : Section) → sections n ≡ Some i → (j : Section) × (f.section n ≡ Some j) × (j.word ≡ i.word)
+    pub before : (i : OwnSection) (d : Naming) → f.section n ≡ Some i → i.mode ≢ Named d
+    pub word_same : (i : OwnSection) → sections n ≡ Some i → (j : OwnSection) × (f.section n ≡ Some j) × (j.word ≡ i.word)
     pub no_back : f.back n ≡ None
     pub named : (j : ℕ) (x : Version) → Lives f.ring n j x Held
-        → (i : Section) × (d : Naming) × (sections n ≡ Some i) × (i.mode ≡ Named d) × (d.time ≡ t) × (d.stamped ≡ false)
-    pub named_is : (i : Section) (d : Naming) → sections n ≡ Some i → i.mode ≡ Named d → NamedIs c later stamp rings n i d
-    pub named_time : (i : Section) (d : Naming) → sections n ≡ Some i → i.mode ≡ Named d → d.time ≡ t
-    pub not_open : (i : Section) → sections n ≡ Some i → ¬ (IsUnnamed i.mode)
+        → (i : OwnSection) × (d : Naming) × (sections n ≡ Some i) × (i.mode ≡ Named d) × (d.time ≡ t) × (d.stamped ≡ false)
+    pub named_is : (i : OwnSection) (d : Naming) → sections n ≡ Some i → i.mode ≡ Named d → NamedIs c later stamp rings n i d
+    pub named_time : (i : OwnSection) (d : Naming) → sections n ≡ Some i → i.mode ≡ Named d → d.time ≡ t
+    pub not_open : (i : OwnSection) → sections n ≡ Some i → ¬ (IsUnnamed i.mode)
 
-  module _ (makes : Makes f.ring n e) (clock : ℕ) (sections : ℕ → Option Section) (turns : Turns clock sections) where
+  module _ (makes : Makes f.ring n e) (clock : ℕ) (sections : ℕ → Option OwnSection) (turns : Turns clock sections) where
     pub rises : clock_time_of (m Clock) < clock_time_of clock
     rises = let long = k.history.long in let time = turns.time_is in omega arith
 
@@ -127,10 +128,10 @@ module _ {starts : State → Type 0} {allows : List ℕ → State → Writes →
     }
 
     -- a section's time isn't the new one
-    section_time : (s : ℕ) (i : Section) → f.section s ≡ Some i → time_in i ≤ c.base + length h
+    section_time : (s : ℕ) (i : OwnSection) → f.section s ≡ Some i → time_in i ≤ c.base + length h
     section_time s i at = let past = (k.loaded_words.inside s i at).past in let long = k.history.long in omega arith
 
-    pub past_help_words : (s : ℕ) (i : Section) → sections s ≡ Some i → (j : Section) × (f.section s ≡ Some j) × (j.word ≡ i.word)
+    pub past_help_words : (s : ℕ) (i : OwnSection) → sections s ≡ Some i → (j : OwnSection) × (f.section s ≡ Some j) × (j.word ≡ i.word)
     past_help_words s i is =
         dite (ℕ_discrete s n)
         (λ at. let w = turns.word_same i (ap sections (sym at) ∙ is) in (w.0, ap f.section at ∙ w.1, w.2))
@@ -144,7 +145,7 @@ module _ {starts : State → Type 0} {allows : List ℕ → State → Writes →
         (r.0, r.1, subst (λ (u : ℕ). u ≤ r.0) (sym same) r.2, r.3)
 
     -- who had named a commit is another seat
-    naming_else : (s : ℕ) (i : Section) (d : Naming) → f.section s ≡ Some i → i.mode ≡ Named d → s ≢ n
+    naming_else : (s : ℕ) (i : OwnSection) (d : Naming) → f.section s ≡ Some i → i.mode ≡ Named d → s ≢ n
     naming_else s i d is mode at = turns.before i d (ap f.section (sym at) ∙ is) mode
 
     still_naming : (time : ℕ) → IsNaming f.section time (λ _. Unit {0}) → IsNaming sections time (λ _. Unit {0})
@@ -281,7 +282,8 @@ module _ {starts : State → Type 0} {allows : List ℕ → State → Writes →
         undead (Some dead) none = absurd (none dead refl)
 
     -- a commit below a live version was one before
-    was_below : (s j : ℕ) (x y : Version) (st : Status) (other : CommitNote) → Lives f.ring s j x st → (below : Names rings x.previous y (Committed other))
+    was_below : (s j : ℕ) (x y : Version) (st : WriteSetStatus) (other : CommitNote) → Lives f.ring s j x st
+        → (below : Names rings x.previous y (Committed other))
         → Lives f.ring below.seat below.slot y (Committed other)
     was_below s j x y st other lives below =
         ⊎_elim

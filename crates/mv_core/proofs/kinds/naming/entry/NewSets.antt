@@ -2,7 +2,7 @@
 use Rattle.std.proofs.Common.{◌≡◌, ◌≢◌, ℕ, ◌+◌, ◌*◌, ◌<◌, ◌≤◌, true, false, List, [], ◌∷◌, ◌++◌, length}
 use Rattle.std.proofs.Common.{refl, sym, ap, ◌∙◌, subst, inl, inr, ⊎_elim, arith, mul-le-mul, length-append, Option, Some, None}
 use Rattle.mv_core.proofs.Terms.{Entry, Change, State, Writes, Config, First, Stamp, Prev, Data, Memory, clock_of, unset_of, Ring, Slot, Free, Built}
-use Rattle.mv_core.proofs.Terms.{Live, Freeing, Version, Status, Held, Aborted, Committed, CommitNote, Past, index_of, Lives, ViewParts}
+use Rattle.mv_core.proofs.Terms.{Live, Freeing, Version, WriteSetStatus, Held, Aborted, Committed, CommitNote, Past, index_of, Lives, ViewParts}
 use Rattle.mv_core.proofs.FactTerms.{HoldsSlot, SlotWords, StampedAs, stamp_of, Stamps, CommitOf, InHeldSet, IsHeldOrAborted, WriteSets, Positions}
 use Rattle.mv_core.proofs.FactTerms.{Deaths, DeathSeen, DeathsSeen, DeathAfterWrite, CutIsOld, PositionsAndGrace, Facts}
 use Rattle.mv_core.specs.NameSteps.{committed_slot}
@@ -49,7 +49,7 @@ module _ {starts : State → Type 0} {allows : List ℕ → State → Writes →
     built = λ s j b at. k.stamps.built s j b (logs.was_built f.ring n t s j b at);
   }
     where
-      live : (s j : ℕ) (x : Version) (st : Status) → Lives rings s j x st → StampedAs clock s (index_of c x.first) (stamp_of c stamp s x) x.first st
+      live : (s j : ℕ) (x : Version) (st : WriteSetStatus) → Lives rings s j x st → StampedAs clock s (index_of c x.first) (stamp_of c stamp s x) x.first st
       live s j x Held lives = k.stamps.live s j x Held (logs.was_held f.ring n t s j x lives).1
       live s j x (Aborted dead) lives = k.stamps.live s j x (Aborted dead) (logs.was_aborted f.ring n t s j x dead lives)
       live s j x (Committed note) lives =
@@ -115,7 +115,8 @@ module _ {starts : State → Type 0} {allows : List ℕ → State → Writes →
         held_too s x.first p w.0 r;
   }
     where
-      apart : (s j l : ℕ) (x y : Version) (st : Status) (note : CommitNote) → Lives rings s j x st → IsHeldOrAborted st → Lives rings s l y (Committed note)
+      apart : (s j l : ℕ) (x y : Version) (st : WriteSetStatus) (note : CommitNote) → Lives rings s j x st → IsHeldOrAborted st
+          → Lives rings s l y (Committed note)
           → x.first ≢ y.first
       apart s j l x y (Committed other) note lx fate ly same = absurd fate
       apart s j l x y Held note lx fate ly same =
@@ -130,7 +131,7 @@ module _ {starts : State → Type 0} {allows : List ℕ → State → Writes →
       held_too : (s first p : ℕ) → s ≢ n → InHeldSet c f.ring s first p IsHeldOrAborted → InHeldSet c rings s first p IsHeldOrAborted
       held_too s first p ne r = go r.status r.lives r.known
         where
-          go : (st : Status) → Lives f.ring s (index_of c p) r.version st → IsHeldOrAborted st → InHeldSet c rings s first p IsHeldOrAborted
+          go : (st : WriteSetStatus) → Lives f.ring s (index_of c p) r.version st → IsHeldOrAborted st → InHeldSet c rings s first p IsHeldOrAborted
           go Held lives fate =
               record {
                 version = r.version;

@@ -1,9 +1,9 @@
 -- One more entry, of what its seat holds: the walks of all sections. No section's time is the new one, so what was right for a walk still is.
 use Rattle.std.proofs.Common.{◌≡◌, ◌≢◌, ◌⊎◌, ℕ, ◌+◌, ◌≤◌, List, [], ◌∷◌, ◌++◌, length, refl, sym, ap}
 use Rattle.std.proofs.Common.{◌∙◌, subst, inl, inr, ⊎_elim, arith, length-append, Option, Some, None}
-use Rattle.mv_core.proofs.Terms.{Entry, State, Writes, Config, Master, Stamp, Memory, Ring, Version, Status, Held, Aborted, Committed, CommitNote}
-use Rattle.mv_core.proofs.Terms.{Section, Walk, Lives, Names, NoneUncut, latest_at, AreThe, ViewParts}
-use Rattle.mv_core.specs.declared.view.Walk.TheVariants as walk
+use Rattle.mv_core.proofs.Terms.{Entry, State, Writes, Config, Master, Stamp, Memory, Ring, Version, WriteSetStatus, Held, Aborted, Committed, CommitNote}
+use Rattle.mv_core.proofs.Terms.{OwnSection, WalkStage, Lives, Names, NoneUncut, latest_at, AreThe, ViewParts}
+use Rattle.mv_core.specs.declared.view.WalkStage.TheVariants as walk
 use Rattle.mv_core.proofs.FactTerms.{stamp_of, IsHeldOrAborted, BelowIsStamped, IsPastHelp, MasterServes, IsRightFor, MayStandAt, StandsRight}
 use Rattle.mv_core.proofs.FactTerms.{WalkerPlace, IsBeforeDeath, WalkerBeforeDeath, WalkerKnowledge, WalkerFalls, WalkerLate, Facts}
 use Rattle.mv_core.proofs.history.Latest.{latest_at-latest, latest-le}
@@ -36,8 +36,9 @@ module _ {starts : State → Type 0} {allows : List ℕ → State → Writes →
       ap length front.1 ∙ length-append (f.past s).seen front.0 in omega arith
 
   -- the version that a link names was named before
-  pub was_named : (link : ℕ) (x : Version) (st : Status) → (a : Names rings link x st)
-      → (old : Status) × (b : Names f.ring link x old) × (b.seat ≡ a.seat) × ((old ≡ st) ⊎ ((a.seat ≡ n) × (old ≡ Held) × (st ≡ Committed (new_note t x))))
+  pub was_named : (link : ℕ) (x : Version) (st : WriteSetStatus) → (a : Names rings link x st)
+      → (old : WriteSetStatus) × (b : Names f.ring link x old) × (b.seat ≡ a.seat)
+      × ((old ≡ st) ⊎ ((a.seat ≡ n) × (old ≡ Held) × (st ≡ Committed (new_note t x))))
   was_named link x st a =
       let r = logs.was f.ring n t a.seat a.slot x st a.lives in
       (r.old, record { seat = a.seat; slot = a.slot; lives = r.lives; is = a.is }, refl, r.how)
@@ -55,8 +56,8 @@ module _ {starts : State → Type 0} {allows : List ℕ → State → Writes →
   right_for u x note le = ⊎_elim inl (λ is. inr (is ∙ sym (latest_at-longer c.base h e x.object u le)))
 
   -- where a walk may stand it may stand afterwards
-  may_stand : (u link : ℕ) (x : Version) (st : Status) → u ≤ c.base + length h → Names f.ring link x st → MayStandAt c start h master f.ring u x st
-      → (new : Status) × Names rings link x new × MayStandAt c start later master rings u x new
+  may_stand : (u link : ℕ) (x : Version) (st : WriteSetStatus) → u ≤ c.base + length h → Names f.ring link x st → MayStandAt c start h master f.ring u x st
+      → (new : WriteSetStatus) × Names rings link x new × MayStandAt c start later master rings u x new
   may_stand u link x (Committed note) le a may = (Committed note, logs.still_named f.ring n t link x note a, right_for u x note le may)
   may_stand u link x (Aborted dead) le a may = (
     Aborted dead,
@@ -70,7 +71,7 @@ module _ {starts : State → Type 0} {allows : List ℕ → State → Writes →
       (λ new. (Committed (new_note t x), record { seat = a.seat; slot = a.slot; lives = new; is = a.is }, inl (omega arith)))
       (logs.held_becomes f.ring n t a.seat a.slot x a.lives)
 
-  stands : (u : ℕ) (y : Walk) → u ≤ c.base + length h → StandsRight c start h master f.ring u y → StandsRight c start later master rings u y
+  stands : (u : ℕ) (y : WalkStage) → u ≤ c.base + length h → StandsRight c start h master f.ring u y → StandsRight c start later master rings u y
   stands u walk.Nowhere le r = tt
   stands u (walk.Master o) le r = master_serves u o le r
   stands u (walk.At stand) le r = let a = may_stand u stand.link r.0 r.1 le r.2 r.4 in (r.0, a.0, a.1, r.3, a.2)
@@ -79,7 +80,7 @@ module _ {starts : State → Type 0} {allows : List ℕ → State → Writes →
   places_after s u at = stands u (f.walk s) (section_old s u at) (k.walker_place s u at)
 
   -- a new commit has no death noted
-  before_death : (u : ℕ) (x : Version) (old st : Status) (seat : ℕ) → IsBeforeDeath u old
+  before_death : (u : ℕ) (x : Version) (old st : WriteSetStatus) (seat : ℕ) → IsBeforeDeath u old
       → (old ≡ st) ⊎ ((seat ≡ n) × (old ≡ Held) × (st ≡ Committed (new_note t x))) → IsBeforeDeath u st
   before_death u x old st seat before =
       ⊎_elim (λ same. subst (IsBeforeDeath u) same before)
@@ -104,7 +105,7 @@ module _ {starts : State → Type 0} {allows : List ℕ → State → Writes →
       ⊎_elim (λ old. inl (record { seat = a.seat; slot = a.slot; lives = old; is = a.is })) (λ new. inr (new.0, new.2))
       (logs.was_committed f.ring n t a.seat a.slot x note a.lives)
 
-  module _ (section : ℕ → Option Section) (helped : (s : ℕ) (inside : Section) → section s ≡ Some inside → f.walk s ≢ walk.Nowhere
+  module _ (section : ℕ → Option OwnSection) (helped : (s : ℕ) (inside : OwnSection) → section s ≡ Some inside → f.walk s ≢ walk.Nowhere
       → IsPastHelp (f.clocks s) inside) where
     pub knowledge_after : WalkerKnowledge section f.time f.clocks f.walk rings
     knowledge_after = record {
@@ -149,13 +150,18 @@ module _ {starts : State → Type 0} {allows : List ℕ → State → Writes →
       let r = logs.was f.ring n t below.seat below.slot y (Committed note) below.lives in
       ⊎_elim
       (λ same. k.below_is_stamped s j x st before fate y note
-      (record { seat = below.seat; slot = below.slot; lives = subst (λ (d : Status). Lives f.ring below.seat below.slot y d) same r.lives; is = below.is }))
+      (record {
+        seat = below.seat;
+        slot = below.slot;
+        lives = subst (λ (d : WriteSetStatus). Lives f.ring below.seat below.slot y d) same r.lives;
+        is = below.is;
+      }))
       (λ new. absurd
       (link_not_held k n e s j x y st before
       (record {
         seat = below.seat;
         slot = below.slot;
-        lives = subst (λ (d : Status). Lives f.ring below.seat below.slot y d) new.1 r.lives;
+        lives = subst (λ (d : WriteSetStatus). Lives f.ring below.seat below.slot y d) new.1 r.lives;
         is = below.is;
       })))
       r.how

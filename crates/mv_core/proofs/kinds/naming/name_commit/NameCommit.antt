@@ -5,7 +5,7 @@ use Rattle.std.specs.Prelude.{Contains}
 use Rattle.std.proofs.lemmas.List.{take-append-le}
 use Rattle.mv_history.specs.declared.Commit.{Commit}
 use Rattle.mv_core.proofs.Terms.{Entry, Change, State, Writes, state_after, state_at, commits_of, Config, Clock, Mark, Stamp, Memory, put, clock_of}
-use Rattle.mv_core.proofs.Terms.{clock_time_of, clock_seat_of, clock_slot_of, Ring, Version, Held, Committed, View, Past, Outside, Inside, Section}
+use Rattle.mv_core.proofs.Terms.{clock_time_of, clock_seat_of, clock_slot_of, Ring, Version, Held, Committed, Knowledge, Past, Outside, Inside, OwnSection}
 use Rattle.mv_core.proofs.Terms.{Open, Named, Naming, WriteBack, Scan, slot_at, index_of, held_count, set_first, own_of, Lives, time_in, time_of}
 use Rattle.mv_core.proofs.Terms.{IsUnnamed, ViewParts, parts_of, set_at}
 use Rattle.mv_history.specs.Drift.{IsFit}
@@ -31,9 +31,9 @@ use Rattle.mv_core.proofs.kinds.naming.entry.NewHistory.{history_after, seen_mor
 use Rattle.mv_core.proofs.kinds.naming.entry.NewFacts.{facts_after}
 use Rattle.mv_core.proofs.kinds.naming.LostClock.{lost_clocks, lost_facts, lost_whole, lost_overtaken}
 
-module _ (starts : State → Type 0) (allows : List ℕ → State → Writes → Type 0) (c : Config) (start : State) (v : View) (word : ℕ) (tag : List ℕ)
-    (inside : Section) (may : MayNameCommit allows c v word tag inside) where
-  module _ (m : Memory) (h : List Entry) (seats : ℕ → View) (k : Facts starts allows c start m h (parts_of seats)) (is : seats v.number ≡ v)
+module _ (starts : State → Type 0) (allows : List ℕ → State → Writes → Type 0) (c : Config) (start : State) (v : Knowledge) (word : ℕ) (tag : List ℕ)
+    (inside : OwnSection) (may : MayNameCommit allows c v word tag inside) where
+  module _ (m : Memory) (h : List Entry) (seats : ℕ → Knowledge) (k : Facts starts allows c start m h (parts_of seats)) (is : seats v.number ≡ v)
       (own : v.number < c.seats) (begins : v.start ≡ start) (won : m Clock ≡ word) where
     abbrev f : ViewParts
     f = parts_of seats
@@ -42,7 +42,7 @@ module _ (starts : State → Type 0) (allows : List ℕ → State → Writes →
     n = v.number
 
     ring_is : (seats n).ring ≡ v.ring
-    ring_is = ap (λ (u : View). u.ring) is
+    ring_is = ap (λ (u : Knowledge). u.ring) is
 
     there : f.section n ≡ Some inside
     there = section_is seats v inside k is may.phase
@@ -57,7 +57,7 @@ module _ (starts : State → Type 0) (allows : List ℕ → State → Writes →
     set_is = next.set_is k n inside there timed may.open_is some
 
     knows : KnowsPast h n v.past
-    knows = subst (λ (u : View). KnowsPast h n u.past) is (k.history.seats n)
+    knows = subst (λ (u : Knowledge). KnowsPast h n u.past) is (k.history.seats n)
 
     number_is : length v.past.mine + 1 ≡ length (commits_of n h) + 1
     number_is = ap (λ l. length l + 1) knows.mine
@@ -99,7 +99,7 @@ module _ (starts : State → Type 0) (allows : List ℕ → State → Writes →
     abbrev naming' : Naming
     naming' = record { time = t; first = first; stamped = false }
 
-    abbrev inside' : Section
+    abbrev inside' : OwnSection
     inside' = record inside { mode = Named naming' }
 
     abbrev p : Past
@@ -109,7 +109,7 @@ module _ (starts : State → Type 0) (allows : List ℕ → State → Writes →
     fit : IsFit allows (state_at start h (time_in inside - c.base)) tag (own_of c (f.ring n))
     fit =
         let seen = k.phases_and_scan.seen n (time_in inside) timed in
-        let past_is = ap (λ (u : View). length u.past.seen) is in
+        let past_is = ap (λ (u : Knowledge). length u.past.seen) is in
         let same : take (time_in inside - c.base) h ≡ take (time_in inside - c.base) v.past.seen =
         ap (take (time_in inside - c.base)) knows.seen.1 ∙ take-append-le (time_in inside - c.base) v.past.seen knows.seen.0 (omega arith) in
         subst (λ (r : Ring). IsFit allows (state_at start h (time_in inside - c.base)) tag (own_of c r)) (sym ring_is)
@@ -130,11 +130,11 @@ module _ (starts : State → Type 0) (allows : List ℕ → State → Writes →
         refl
         (record { seen = ([], sym (append-nil (h ++ e ∷ []))); seen_mine = sym mine_is; seen_rests = omega arith; mine = sym mine_is; rests = omega arith })
 
-    same_section : (i : Section) → set_at f.section n (Some inside') n ≡ Some i → inside' ≡ i
+    same_section : (i : OwnSection) → set_at f.section n (Some inside') n ≡ Some i → inside' ≡ i
     same_section i at = let whole : Some inside' ≡ Some i = sym (set_at_here f.section n (Some inside')) ∙ at in cc
 
-    same_naming : (i : Section) (d : Naming) → set_at f.section n (Some inside') n ≡ Some i → i.mode ≡ Named d → naming' ≡ d
-    same_naming i d at mode = let one : Named naming' ≡ Named d = ap (λ (j : Section). j.mode) (same_section i at) ∙ mode in cc
+    same_naming : (i : OwnSection) (d : Naming) → set_at f.section n (Some inside') n ≡ Some i → i.mode ≡ Named d → naming' ≡ d
+    same_naming i d at mode = let one : Named naming' ≡ Named d = ap (λ (j : OwnSection). j.mode) (same_section i at) ∙ mode in cc
 
     first_at : (x : Version) × Lives f.ring n (index_of c first) x Held × (x.position ≡ first) × (x.first ≡ first)
     first_at =
@@ -166,8 +166,8 @@ module _ (starts : State → Type 0) (allows : List ℕ → State → Writes →
           );
       others = λ s ne. set_at_else f.section n (Some inside') s ne;
       before = λ i d at mode. let one : Some inside ≡ Some i = sym there ∙ at in let same : inside ≡ i = cc in let other : Open ≡ Named d =
-          sym may.open_is ∙ ap (λ (j : Section). j.mode) same ∙ mode in cc;
-      word_same = λ i at. (inside, there, ap (λ (j : Section). j.word) (same_section i at));
+          sym may.open_is ∙ ap (λ (j : OwnSection). j.mode) same ∙ mode in cc;
+      word_same = λ i at. (inside, there, ap (λ (j : OwnSection). j.word) (same_section i at));
       no_back = no_back;
       named = λ j x lives. (inside', naming', set_at_here f.section n (Some inside'), refl, refl, refl);
       named_is = λ i d at mode.
@@ -185,28 +185,28 @@ module _ (starts : State → Type 0) (allows : List ℕ → State → Writes →
             time_is = refl;
             stamped = λ made. let other : false ≡ true = made in absurd cc;
           } in
-          subst (λ (q : Section × Naming). NamedIs c (h ++ e ∷ []) (λ s j. m (Stamp s j)) (logs.after f.ring n t) n q.0 q.1)
+          subst (λ (q : OwnSection × Naming). NamedIs c (h ++ e ∷ []) (λ s j. m (Stamp s j)) (logs.after f.ring n t) n q.0 q.1)
           (λ z. (same_section i at z, same_naming i d at mode z)) new;
       named_time = λ i d at mode. ap (λ (d : Naming). d.time) (sym (same_naming i d at mode));
-      not_open = λ i at unnamed. subst (λ (j : Section). IsUnnamed j.mode) (sym (same_section i at)) unnamed;
+      not_open = λ i at unnamed. subst (λ (j : OwnSection). IsUnnamed j.mode) (sym (same_section i at)) unnamed;
     }
 
     marks : Marks (m Clock) (λ s. m (Mark s)) (set_at f.phase n (Inside inside'))
     marks =
         set_at_all (λ s q. MarkedAs (m Clock) (m (Mark s)) q) f.phase n (Inside inside')
-        (let old : MarkedAs (m Clock) (m (Mark n)) (Inside inside) = subst (MarkedAs (m Clock) (m (Mark n))) (ap (λ (u : View). u.phase) is ∙ may.phase)
+        (let old : MarkedAs (m Clock) (m (Mark n)) (Inside inside) = subst (MarkedAs (m Clock) (m (Mark n))) (ap (λ (u : Knowledge). u.phase) is ∙ may.phase)
         (k.marks n) in old)
         (λ s ne. k.marks s)
 
     scanning : (s : ℕ) (running : Scan) → f.scan s ≡ Some running → set_at f.phase n (Inside inside') s ≡ Outside
     scanning =
         set_at_all (λ s q. (running : Scan) → f.scan s ≡ Some running → q ≡ Outside) f.phase n (Inside inside')
-        (λ running at. let out : Inside inside ≡ Outside = sym (ap (λ (u : View). u.phase) is ∙ may.phase)
+        (λ running at. let out : Inside inside ≡ Outside = sym (ap (λ (u : Knowledge). u.phase) is ∙ may.phase)
         ∙ k.phases_and_scan.scanning n running at in absurd cc)
         (λ s ne. k.phases_and_scan.scanning s)
 
     helped : Contains (f.clocks n).helped (m Clock)
-    helped = subst (λ (w : ℕ). Contains (f.clocks n).helped w) (sym won) (subst (λ (u : View). Contains u.clocks.helped word) (sym is) may.helped)
+    helped = subst (λ (w : ℕ). Contains (f.clocks n).helped w) (sym won) (subst (λ (u : Knowledge). Contains u.clocks.helped word) (sym is) may.helped)
 
     facts : Facts starts allows c start (put m Clock clock) (h ++ e ∷ [])
         (changed f n
@@ -221,7 +221,7 @@ module _ (starts : State → Type 0) (allows : List ℕ → State → Writes →
         (seen_more starts allows c start (m Clock) clock h f.past k.history n e refl p refl)
         (set_at f.phase n (Inside inside')) marks scanning
 
-    abbrev w : View
+    abbrev w : Knowledge
     w = commit_named c v inside tag word h
 
     time_now : t ≡ clock_time_of word + 1
@@ -240,7 +240,7 @@ module _ (starts : State → Type 0) (allows : List ℕ → State → Writes →
         (record unchanged { past = Some p; phase = Some (Inside inside'); section = Some (Some inside'); ring = Some (committed_ring t (f.ring n)) }) (
           (λ i. record ((sym is i).past) { seen = h ++ Change (sym commit_is i) ∷ []; mine = v.past.mine ++ sym commit_is i ∷ [] }),
           ap Inside (sym section'),
-          ap (λ (s : Section). Some s) (sym section'),
+          ap (λ (s : OwnSection). Some s) (sym section'),
           ap time_of (sym may.phase),
           refl,
           refl,
@@ -256,27 +256,28 @@ module _ (starts : State → Type 0) (allows : List ℕ → State → Writes →
         word_is facts)
 
   -- the section once its commit is named
-  abbrev named_inside : Section
+  abbrev named_inside : OwnSection
   named_inside = record inside { mode = Named (record { time = clock_time_of word + 1; first = set_first v.ring; stamped = false }) }
 
-  abbrev told : ℕ → View → Type 0
+  abbrev told : ℕ → Knowledge → Type 0
   told n w = ((CommitTold c v inside tag word n w × IsWord c n × LogTold c v n) × RunsOn v w) × IsKept v w
 
   -- what is held links to the top of its object, which is a live version or nothing; and each commit is an entry of the history
-  log_told : (m : Memory) (h : List Entry) (seats : ℕ → View) → Facts starts allows c start m h (parts_of seats) → seats v.number ≡ v → LogTold c v (m Clock)
+  log_told : (m : Memory) (h : List Entry) (seats : ℕ → Knowledge) → Facts starts allows c start m h (parts_of seats) → seats v.number ≡ v
+      → LogTold c v (m Clock)
   log_told m h seats k is = record {
     links = λ j x lives some.
         ⊎_elim
         (λ a. names_link c h (λ s. (seats s).ring) k.checked k.history.in_time k.positions x.previous a.0 (Committed a.1) a.2.names)
         (λ b. absurd (some b.0))
-        (k.held_link v.number j x (ap (λ (u : View). slot_at u.ring j) is ∙ lives));
+        (k.held_link v.number j x (ap (λ (u : Knowledge). slot_at u.ring j) is ∙ lives));
     old = λ j x note lives.
-        let le = (commit_within c h (λ s. (seats s).ring) k.write_sets v.number j x note (ap (λ (u : View). slot_at u.ring j) is ∙ lives)).1 in
+        let le = (commit_within c h (λ s. (seats s).ring) k.write_sets v.number j x note (ap (λ (u : Knowledge). slot_at u.ring j) is ∙ lives)).1 in
         let long = k.history.long in
         omega arith;
   }
 
-  same_inside : (s : Section) → Inside named_inside ≡ Inside s → named_inside ≡ s
+  same_inside : (s : OwnSection) → Inside named_inside ≡ Inside s → named_inside ≡ s
   same_inside s at = cc
 
   swaps_to : Swaps starts allows c start v Clock word (commit_word c v word) told
@@ -294,7 +295,7 @@ module _ (starts : State → Type 0) (allows : List ℕ → State → Writes →
           ),
           (λ time first a b. (
             (λ s at. a inside may.phase ∙ ap time_in (same_inside s at)),
-            (λ s at opens some. let other : named_inside.mode ≡ Open = ap (λ (j : Section). j.mode) (same_inside s at) ∙ opens in absurd cc),
+            (λ s at opens some. let other : named_inside.mode ≡ Open = ap (λ (j : OwnSection). j.mode) (same_inside s at) ∙ opens in absurd cc),
           )),
         ),
         (refl, refl, refl, refl, refl, refl),
@@ -304,11 +305,11 @@ module _ (starts : State → Type 0) (allows : List ℕ → State → Writes →
       commit_lost c v (m Clock) h,
       settle starts allows c start m h seats v.number v (commit_lost c v (m Clock) h) is
           (record unchanged { past = Some (record (seats v.number).past { seen = h }); clocks = Some (lost_clocks (seats v.number).clocks (m Clock)) }) (
-            ap (λ (u : View). record u.past { seen = h }) (sym is),
+            ap (λ (u : Knowledge). record u.past { seen = h }) (sym is),
             refl,
             refl,
             refl,
-            ap (λ (u : View). lost_clocks u.clocks (m Clock)) (sym is),
+            ap (λ (u : Knowledge). lost_clocks u.clocks (m Clock)) (sym is),
             refl,
             refl,
             refl,
@@ -334,7 +335,7 @@ module _ (starts : State → Type 0) (allows : List ℕ → State → Writes →
   commit_swaps new at = subst (λ (x : ℕ). Swaps starts allows c start v Clock word x told) (sym at) swaps_to
 
 -- the clock word of the commit, from what the pass has at run time
-pub named_word : (c : Config) (v : View) (word time number from slots : ℕ) (allows : List ℕ → State → Writes → Type 0) (tag : List ℕ) (inside : Section)
+pub named_word : (c : Config) (v : Knowledge) (word time number from slots : ℕ) (allows : List ℕ → State → Writes → Type 0) (tag : List ℕ) (inside : OwnSection)
     → MayNameCommit allows c v word tag inside → time ≡ clock_time_of word → number ≡ v.number → slots ≡ c.slots → IsBegun from v
     → clock_of (time + 1) number (from % slots) ≡ commit_word c v word
 named_word c v word time number from slots allows tag inside may time_is number_is slots_is begun =

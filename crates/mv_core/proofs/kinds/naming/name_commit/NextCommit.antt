@@ -7,7 +7,7 @@ use Rattle.std.proofs.lemmas.List.Elements.{All-from_get_or}
 use Rattle.std.proofs.lemmas.Option.{slice_get_within, get_or_from_slice_get, slice_get-get_or}
 use Rattle.mv_history.specs.declared.Commit.{Commit}
 use Rattle.mv_core.proofs.Terms.{Entry, Rest, Change, State, Writes, touches, maker_of, writes_of, state_after, state_at, commits_of, Config, Head, First, Prev}
-use Rattle.mv_core.proofs.Terms.{Data, Memory, Live, Version, Held, Aborted, Committed, Section, Open, slot_at, index_of, held_count, own_of, Lives, is_by}
+use Rattle.mv_core.proofs.Terms.{Data, Memory, Live, Version, Held, Aborted, Committed, OwnSection, Open, slot_at, index_of, held_count, own_of, Lives, is_by}
 use Rattle.mv_core.proofs.Terms.{latest, writes_to, IsEntry, time_in, IsUnnamed, ViewParts}
 use Rattle.mv_history.specs.Legal.{IsWords, AreWithin, AreWrites, AreApart, NoneWrites, NoneBy, IsNext, IsLegal, IsAllowed, are_distinct}
 use Rattle.mv_history.specs.Drift.{IsFit}
@@ -39,7 +39,7 @@ once_distinct (w ∷ ws) once =
 
 module _ {starts : State → Type 0} {allows : List ℕ → State → Writes → Type 0} {c : Config} {start : State} {m : Memory} {h : List Entry} {f : ViewParts}
     (k : Facts starts allows c start m h f)
-    (n : ℕ) (inside : Section) (section_is : f.section n ≡ Some inside) (timed : f.time n ≡ Some (time_in inside)) (open_is : inside.mode ≡ Open)
+    (n : ℕ) (inside : OwnSection) (section_is : f.section n ≡ Some inside) (timed : f.time n ≡ Some (time_in inside)) (open_is : inside.mode ≡ Open)
     (some : 0 < held_count (f.ring n)) where
   pub set_is : HeldSet c f.ring n
   set_is = held_set c h f.section f.ring n inside k.checked k.positions k.write_sets k.open_section section_is open_is some

@@ -1,8 +1,9 @@
 -- compare_exchange HEAD (cut), won and lost: it ends the writing of words, and is tried once.
 use Rattle.std.proofs.Common.{◌≡◌, ◌≢◌, ℕ, ◌-◌, ◌<◌, true, false, List, refl, sym, ap, ◌∙◌, subst, slice_index, Option, Some, None}
-use Rattle.mv_core.proofs.Terms.{Entry, State, Writes, Config, Head, Master, link_of, Memory, put, Ring, Live, Version, Committed, CommitNote, View, Section}
+use Rattle.mv_core.proofs.Terms.{Entry, State, Writes, Config, Head, Master, link_of, Memory, put, Ring, Live, Version, Committed, CommitNote, Knowledge}
+use Rattle.mv_core.proofs.Terms.{OwnSection}
 use Rattle.mv_core.proofs.Terms.{WriteBack, slot_at, index_of, put_slot, is_held, held_count, Lives, ViewParts, parts_of, set_at, NotAboveAny}
-use Rattle.mv_core.specs.declared.view.Walk.TheVariants.{Nowhere}
+use Rattle.mv_core.specs.declared.view.WalkStage.TheVariants.{Nowhere}
 use Rattle.mv_core.specs.WalkSteps.{IsLinkOf}
 use Rattle.mv_core.proofs.FactTerms.{IsWrittenBack, WriteBacks, RunsOn, Facts, Swaps, IsKept}
 use Rattle.mv_core.specs.ReclaimSteps.{MayCutHead, head_cut, cut_lost, CutTold, IsOfOther}
@@ -24,10 +25,10 @@ module _ {starts : State → Type 0} {allows : List ℕ → State → Writes →
   tried = record b { tried = true }
 
   abbrev BackIs : ℕ → Option WriteBack → Type 0
-  BackIs s u = (d : WriteBack) → u ≡ Some d → (i : Section) × (f.section s ≡ Some i) × IsWrittenBack c h
+  BackIs s u = (d : WriteBack) → u ≡ Some d → (i : OwnSection) × (f.section s ≡ Some i) × IsWrittenBack c h
       (λ o i. m (Master o i)) f.time f.ring s (f.clocks s) (f.grace s) d i
 
-  own_tried : (i : Section) × (f.section n ≡ Some i) × IsWrittenBack c h (λ o i. m (Master o i)) f.time f.ring n (f.clocks n) (f.grace n) tried i
+  own_tried : (i : OwnSection) × (f.section n ≡ Some i) × IsWrittenBack c h (λ o i. m (Master o i)) f.time f.ring n (f.clocks n) (f.grace n) tried i
   own_tried =
       let r = k.write_back n b at in
       let w = r.2 in (
@@ -54,7 +55,7 @@ module _ {starts : State → Type 0} {allows : List ℕ → State → Writes →
   backs : WriteBacks c h (λ o i. m (Master o i)) f.section f.time f.clocks f.grace (set_at f.back n (Some tried)) f.ring
   backs =
       set_at_all BackIs f.back n (Some tried)
-      (λ d e. let same : tried ≡ d = cc in subst (λ (u : WriteBack). (i : Section) × (f.section n ≡ Some i) × IsWrittenBack c h
+      (λ d e. let same : tried ≡ d = cc in subst (λ (u : WriteBack). (i : OwnSection) × (f.section n ≡ Some i) × IsWrittenBack c h
       (λ o i. m (Master o i)) f.time f.ring n (f.clocks n) (f.grace n) u i) same own_tried)
       (λ s ne. k.write_back s)
 
@@ -66,7 +67,7 @@ module _ {starts : State → Type 0} {allows : List ℕ → State → Writes →
       (λ s ne. k.phases_and_scan.outside s) in
       assumption (backs, outside, k)
 
-module _ (starts : State → Type 0) (allows : List ℕ → State → Writes → Type 0) (c : Config) (start : State) (v : View) (object position : ℕ) (x : Version)
+module _ (starts : State → Type 0) (allows : List ℕ → State → Writes → Type 0) (c : Config) (start : State) (v : Knowledge) (object position : ℕ) (x : Version)
     (note : CommitNote) (may : MayCutHead c v object position x note) where
   abbrev back : WriteBack
   back = record { object = object; position = position; stored = 6; tried = false }
@@ -74,7 +75,7 @@ module _ (starts : State → Type 0) (allows : List ℕ → State → Writes →
   abbrev slot : ℕ
   slot = index_of c position
 
-  module _ (m : Memory) (h : List Entry) (seats : ℕ → View) (k : Facts starts allows c start m h (parts_of seats)) (is : seats v.number ≡ v) where
+  module _ (m : Memory) (h : List Entry) (seats : ℕ → Knowledge) (k : Facts starts allows c start m h (parts_of seats)) (is : seats v.number ≡ v) where
     abbrev n : ℕ
     n = v.number
 
@@ -82,16 +83,16 @@ module _ (starts : State → Type 0) (allows : List ℕ → State → Writes →
     f = parts_of seats
 
     at : f.back n ≡ Some back
-    at = ap (λ (u : View). u.back) is ∙ may.back
+    at = ap (λ (u : Knowledge). u.back) is ∙ may.back
 
     lives : Lives f.ring n slot x (Committed note)
-    lives = ap (λ (u : View). slot_at u.ring slot) is ∙ may.own
+    lives = ap (λ (u : Knowledge). slot_at u.ring slot) is ∙ may.own
 
     abbrev more : ViewParts
     more = changed f n (record unchanged { back = Some (Some (tried k n back at)) })
 
     -- what is written back is that version
-    written : (i : Section) × (f.section n ≡ Some i) × (w : IsWrittenBack c h (λ o i. m (Master o i)) f.time f.ring n (f.clocks n) (f.grace n) back i)
+    written : (i : OwnSection) × (f.section n ≡ Some i) × (w : IsWrittenBack c h (λ o i. m (Master o i)) f.time f.ring n (f.clocks n) (f.grace n) back i)
         × (w.version ≡ x) × (w.note ≡ note)
     written =
         let r = k.write_back n back at in
@@ -112,7 +113,7 @@ module _ (starts : State → Type 0) (allows : List ℕ → State → Writes →
         (λ b e. let same : Some (tried k n back at) ≡ Some b =
         sym (set_at_here f.back n (Some (tried k n back at))) ∙ e in let one : tried k n back at ≡ b =
         cc in ap (λ (d : WriteBack). d.tried) (sym one)) in
-        let ring : (seats n).ring ≡ v.ring = ap (λ (y : View). y.ring) is in
+        let ring : (seats n).ring ≡ v.ring = ap (λ (y : Knowledge). y.ring) is in
         settle starts allows c start (put m (Head object) 0) h seats n v (head_cut c v object position x note) is
         (record unchanged
         { back = Some (Some (tried k n back at)); ring = Some (put_slot (seats n).ring slot (Live x (Committed (record note { cut = true })))) }) (

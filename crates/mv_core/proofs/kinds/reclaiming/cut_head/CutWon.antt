@@ -2,7 +2,7 @@
 use Rattle.std.proofs.Common.{◌≡◌, ◌≢◌, ◌⊎◌, ℕ, ◌+◌, ◌-◌, ◌<◌, ◌≤◌, true, false, List}
 use Rattle.std.proofs.Common.{length, refl, sym, ap, ◌∙◌, subst, inl, inr, ⊎_elim, arith, slice_index, Some}
 use Rattle.mv_core.proofs.Terms.{dite, ℕ_discrete, Entry, State, Writes, Config, Head, Master, First, Stamp, Prev, Super, Data, link_of, Memory, put}
-use Rattle.mv_core.proofs.Terms.{Ring, Slot, Live, Version, Status, Held, Committed, CommitNote, WriteBack, slot_at, put_slot, index_of, Lives, Names}
+use Rattle.mv_core.proofs.Terms.{Ring, Slot, Live, Version, WriteSetStatus, Held, Committed, CommitNote, WriteBack, slot_at, put_slot, index_of, Lives, Names}
 use Rattle.mv_core.proofs.Terms.{NoneHolds, NoneUncut, IsTop, writes_to, latest, latest_at, words_of, AreThe, NotAboveAny, ViewParts, set_at}
 use Rattle.mv_core.proofs.FactTerms.{HoldsSlot, SlotWords, HeadIsTop, HeldLink, LinksBelow, CommitLink, PresentMaster, CutIsOld, WriteBacks, Facts}
 use Rattle.mv_core.proofs.frames.KeptRecords.{same_back}
@@ -74,7 +74,7 @@ module _ {starts : State → Type 0} {allows : List ℕ → State → Writes →
       (lives_back f.ring n slot (Live x (Committed new)) cut_ring refl within s j y (Committed o) there)
 
   -- a version of another object is as it was
-  other_still : (s j : ℕ) (y : Version) (st : Status) → Lives f.ring s j y st → y.object ≢ x.object → Lives rings s j y st
+  other_still : (s j : ℕ) (y : Version) (st : WriteSetStatus) → Lives f.ring s j y st → y.object ≢ x.object → Lives rings s j y st
   other_still s j y st there ne =
       ⊎_elim
       (λ at.

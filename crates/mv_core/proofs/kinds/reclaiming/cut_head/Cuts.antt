@@ -1,7 +1,8 @@
 -- What holds of deaths and of unfinished commits stays where each live version stays what it is to the other seats, but that it may be cut, and what its owner
 -- noted of it stays.
 use Rattle.std.proofs.Common.{◌≡◌, ℕ, ◌+◌, ◌/◌, ◌<◌, ◌≤◌, true, false, Bool, List, length, refl, sym, ap, ◌∙◌, subst, ⊎_elim, arith, Option, Some, None}
-use Rattle.mv_core.proofs.Terms.{Entry, State, Writes, Config, Super, Memory, Ring, Version, Status, Held, Aborted, Committed, CommitNote, Past, Walk}
+use Rattle.mv_core.proofs.Terms.{Entry, State, Writes, Config, Super, Memory, Ring, Version, WriteSetStatus, Held, Aborted, Committed, CommitNote, Past}
+use Rattle.mv_core.proofs.Terms.{WalkStage}
 use Rattle.mv_core.proofs.Terms.{Lives, Names, IsNextWrite, ViewParts}
 use Rattle.mv_core.proofs.FactTerms.{IsBeforeDeath, WalkerBeforeDeath, Deaths, death_in, DeathsSeen, DeathAfterWrite, SuccessorFlag, Facts}
 use Rattle.mv_core.proofs.history.Latest.{entry-within}
@@ -16,7 +17,7 @@ abbrev pub SameDeath : Becomes
 SameDeath x st y su = LivesOn x st y su × (death_in su ≡ death_in st)
 
 -- whether SUPER of the version below was stored
-abbrev pub linked_in : Status → Bool
+abbrev pub linked_in : WriteSetStatus → Bool
 linked_in Held = false
 linked_in (Aborted dead) = false
 linked_in (Committed note) = note.linked
@@ -37,16 +38,16 @@ Cuts x st y su = SameNotes x st y su × (st ≡ Held → su ≡ Held)
 abbrev pub Steady : Becomes
 Steady x st y su = Cuts x st y su × (cut_in su ≡ cut_in st)
 
-pub death_self : (x : Version) (st : Status) → SameDeath x st x st
+pub death_self : (x : Version) (st : WriteSetStatus) → SameDeath x st x st
 death_self x st = (on_self x st, refl)
 
-pub aborts_self : (x : Version) (st : Status) → Aborts x st x st
+pub aborts_self : (x : Version) (st : WriteSetStatus) → Aborts x st x st
 aborts_self x st = ((death_self x st, refl), refl)
 
-pub cuts_self : (x : Version) (st : Status) → Cuts x st x st
+pub cuts_self : (x : Version) (st : WriteSetStatus) → Cuts x st x st
 cuts_self x st = ((death_self x st, refl), λ held. held)
 
-pub steady_self : (x : Version) (st : Status) → Steady x st x st
+pub steady_self : (x : Version) (st : WriteSetStatus) → Steady x st x st
 steady_self x st = (cuts_self x st, refl)
 
 pub death_place : KeepsPlace SameDeath
@@ -59,19 +60,19 @@ pub record IsNoteOf (m n : CommitNote) : Type 0 where
   pub cut : m.cut ≡ true → n.cut ≡ true
 
 -- a time is before a death, by what is noted
-death_before : (t : ℕ) (st : Status) → IsBeforeDeath t st → (dead : ℕ) → death_in st ≡ Some dead → t < dead
+death_before : (t : ℕ) (st : WriteSetStatus) → IsBeforeDeath t st → (dead : ℕ) → death_in st ≡ Some dead → t < dead
 death_before t Held before dead e = absurd (cc)
 death_before t (Aborted None) before dead e = absurd (cc)
 death_before t (Aborted (Some d)) before dead e = let same : d ≡ dead = cc in subst (λ (u : ℕ). t < u) same before
 death_before t (Committed m) before dead e = before dead e
 
-is_before : (t : ℕ) (st : Status) → ((dead : ℕ) → death_in st ≡ Some dead → t < dead) → IsBeforeDeath t st
+is_before : (t : ℕ) (st : WriteSetStatus) → ((dead : ℕ) → death_in st ≡ Some dead → t < dead) → IsBeforeDeath t st
 is_before t Held before = tt
 is_before t (Aborted None) before = tt
 is_before t (Aborted (Some d)) before = before d refl
 is_before t (Committed m) before = before
 
-still_before : (t : ℕ) (st su : Status) → death_in su ≡ death_in st → IsBeforeDeath t st → IsBeforeDeath t su
+still_before : (t : ℕ) (st su : WriteSetStatus) → death_in su ≡ death_in st → IsBeforeDeath t st → IsBeforeDeath t su
 still_before t st su same before = is_before t su (λ dead e. death_before t st before dead (sym same ∙ e))
 
 module _ (c : Config) (h : List Entry) (before after : ℕ → Ring) (k : Matches SameDeath before after) where
@@ -122,8 +123,9 @@ module _ (c : Config) (h : List Entry) (before after : ℕ → Ring) (k : Matche
       let b = this_committed s j x n lives in subst (λ (t : ℕ). t < dead) (sym b.2.time) (old s j dead x b.0 b.1 (sym b.2.dead ∙ e))
 
   -- where the death of what a held version links to is after the times of the walks that stand there
-  before_death_match : (time : ℕ → Option ℕ) (walk : ℕ → Walk)
-      → ((s t : ℕ) (y z : Version) (st : Status) (q j : ℕ) → time s ≡ Some t → Lives before q j y Held → Names before y.previous z st → IsBeforeDeath t st)
+  before_death_match : (time : ℕ → Option ℕ) (walk : ℕ → WalkStage)
+      → ((s t : ℕ) (y z : Version) (st : WriteSetStatus) (q j : ℕ) → time s ≡ Some t → Lives before q j y Held → Names before y.previous z st
+      → IsBeforeDeath t st)
       → WalkerBeforeDeath time walk before → WalkerBeforeDeath time walk after
   before_death_match time walk held old = record {
     here = λ s t stand y su e w names.
@@ -150,7 +152,7 @@ pub record SameDeathFacts (c : Config) (h : List Entry) (f : ViewParts) (rings :
 module _ {starts : State → Type 0} {allows : List ℕ → State → Writes → Type 0} {c : Config} {start : State} {m : Memory} {h : List Entry} {f : ViewParts}
     (k : Facts starts allows c start m h f) (rings : ℕ → Ring) where
   -- what a held version links to is alive to all sections
-  held_alive : (s t : ℕ) (y z : Version) (st : Status) (q j : ℕ) → f.time s ≡ Some t → Lives f.ring q j y Held → Names f.ring y.previous z st
+  held_alive : (s t : ℕ) (y z : Version) (st : WriteSetStatus) (q j : ℕ) → f.time s ≡ Some t → Lives f.ring q j y Held → Names f.ring y.previous z st
       → IsBeforeDeath t st
   held_alive s t y z st q j timed lives under =
       ⊎_elim
@@ -171,7 +173,7 @@ module _ {starts : State → Type 0} {allows : List ℕ → State → Writes →
   }
 
   -- and the flags of commits that aren't finished, where these stay, and SUPER of each live version
-  pub flags_match : (super : ℕ → ℕ → ℕ) → ((s j : ℕ) (x : Version) (st : Status) → Lives f.ring s j x st → super s j ≡ m (Super s j))
+  pub flags_match : (super : ℕ → ℕ → ℕ) → ((s j : ℕ) (x : Version) (st : WriteSetStatus) → Lives f.ring s j x st → super s j ≡ m (Super s j))
       → Matches SameNotes f.ring rings → SuccessorFlag super f.section rings
   flags_match super same notes s j inside naming x n in_section mode lives time =
       let b = linked_committed s j x n lives in

@@ -1,8 +1,9 @@
 -- A lost exchange of a cut: the version written back is its object's last write up to the section's time and wasn't cut, so HEAD
 -- isn't 0, and names no other version of the own log.
 use Rattle.std.proofs.Common.{◌≡◌, ◌≢◌, ℕ, ◌≤◌, false, List, refl, sym, ap, ◌∙◌, subst, ⊎_elim, arith, Some}
-use Rattle.mv_core.proofs.Terms.{Entry, State, Writes, Config, Head, Master, link_of, link_seat_of, Memory, Ring, Version, Status, Held, Committed, View}
-use Rattle.mv_core.proofs.Terms.{Section, WriteBack, index_of, Lives, Names, IsVersion, latest, latest_at, section_of, time_of, time_in, IsUnnamed, parts_of}
+use Rattle.mv_core.proofs.Terms.{Entry, State, Writes, Config, Head, Master, link_of, link_seat_of, Memory, Ring, Version, WriteSetStatus, Held, Committed}
+use Rattle.mv_core.proofs.Terms.{Knowledge}
+use Rattle.mv_core.proofs.Terms.{OwnSection, WriteBack, index_of, Lives, Names, IsVersion, latest, latest_at, section_of, time_of, time_in, IsUnnamed, parts_of}
 use Rattle.mv_core.proofs.FactTerms.{IsWrittenBack, Facts}
 use Rattle.mv_core.specs.ReclaimSteps.{IsOfOther}
 use Rattle.mv_core.proofs.kinds.walking.EmptyHeads.{time_of_section, none_uncut}
@@ -13,9 +14,10 @@ use Rattle.mv_core.proofs.logs.Links.{names_place}
 use Rattle.mv_core.proofs.logs.OwnTops.{own_commit_last}
 use Rattle.mv_core.proofs.logs.Versions.{version_once}
 
-module _ {starts : State → Type 0} {allows : List ℕ → State → Writes → Type 0} {c : Config} {start : State} {m : Memory} {h : List Entry} (seats : ℕ → View)
-    (k : Facts starts allows c start m h (parts_of seats)) (v : View) (is : seats v.number ≡ v)
-    (b : WriteBack) (inside : Section) (in_section : section_of (seats v.number).phase ≡ Some inside)
+module _ {starts : State → Type 0} {allows : List ℕ → State → Writes → Type 0} {c : Config} {start : State} {m : Memory} {h : List Entry}
+    (seats : ℕ → Knowledge)
+    (k : Facts starts allows c start m h (parts_of seats)) (v : Knowledge) (is : seats v.number ≡ v)
+    (b : WriteBack) (inside : OwnSection) (in_section : section_of (seats v.number).phase ≡ Some inside)
     (w : IsWrittenBack c h (λ o i. m (Master o i)) (λ s. time_of (seats s).phase) (λ s. (seats s).ring) v.number (seats v.number).clocks
     (seats v.number).grace b inside) (untried : b.tried ≡ false) where
   abbrev rings : ℕ → Ring
@@ -36,7 +38,8 @@ module _ {starts : State → Type 0} {allows : List ℕ → State → Writes →
       some_top k v.number (index_of c b.position) (time_in inside) w.version w.note last_write
       (none_uncut seats k w.version.object (ap (λ (o : ℕ). m (Head o)) w.object_is ∙ none))
 
-  own_seat : (x : Version) (st : Status) (names : Names rings (m (Head b.object)) x st) → link_seat_of (m (Head b.object)) ≡ v.number → names.seat ≡ v.number
+  own_seat : (x : Version) (st : WriteSetStatus) (names : Names rings (m (Head b.object)) x st) → link_seat_of (m (Head b.object)) ≡ v.number
+      → names.seat ≡ v.number
   own_seat x st names own = sym (names_place c h rings k.checked k.history.in_time k.positions (m (Head b.object)) x st names).0 ∙ own
 
   -- where HEAD names a version of the own log, that is the one that is written back

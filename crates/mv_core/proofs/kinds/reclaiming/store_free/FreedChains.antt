@@ -1,6 +1,6 @@
 -- store STAMP 0 (free), in the version chains: a version that was dropped is no top, and who linked to it is not later than any section.
 use Rattle.std.proofs.Common.{◌≡◌, ◌⊎◌, ℕ, ◌-◌, ◌<◌, Bool, true, false, List, refl, sym, ap, ◌∙◌, subst, inl, inr, ⊎_elim, arith}
-use Rattle.mv_core.proofs.Terms.{Entry, Change, State, Writes, maker_of, Config, Clock, Head, Master, Memory, Ring, Version, Status, Held, Aborted}
+use Rattle.mv_core.proofs.Terms.{Entry, Change, State, Writes, maker_of, Config, Clock, Head, Master, Memory, Ring, Version, WriteSetStatus, Held, Aborted}
 use Rattle.mv_core.proofs.Terms.{Committed, CommitNote, Lives, Names, IsGone, IsVersion, NoneHolds, NoneUncut, IsTop, latest, latest_at, IsEntry}
 use Rattle.mv_core.proofs.Terms.{IsNextWrite, NotAboveAny, ViewParts}
 use Rattle.mv_core.proofs.FactTerms.{HeadIsTop, HeldLink, LinksBelow, CommitLink, AbortedLink, PresentMaster, ChainFoot, FreedIsOld, Facts}
@@ -17,20 +17,20 @@ module _ {starts : State → Type 0} {allows : List ℕ → State → Writes →
   abbrev pub later : ℕ → Ring
   later = log.later k n position r is
 
-  abbrev Dropped : ℕ → Version → Status → Type 0
+  abbrev Dropped : ℕ → Version → WriteSetStatus → Type 0
   Dropped s x st = IsDropped n position (f.grace n) s x st
 
-  pub was : (s j : ℕ) (x : Version) (st : Status) → Lives later s j x st → Lives f.ring s j x st
+  pub was : (s j : ℕ) (x : Version) (st : WriteSetStatus) → Lives later s j x st → Lives f.ring s j x st
   was = log.was k n position r is
 
-  still : (s j : ℕ) (x : Version) (st : Status) → Lives f.ring s j x st → Lives later s j x st ⊎ Dropped s x st
+  still : (s j : ℕ) (x : Version) (st : WriteSetStatus) → Lives f.ring s j x st → Lives later s j x st ⊎ Dropped s x st
   still = log.still k n position r is
 
   -- what a link names was so, and is so still or was dropped
-  abbrev pub names_was : (link : ℕ) (x : Version) (st : Status) → Names later link x st → Names f.ring link x st
+  abbrev pub names_was : (link : ℕ) (x : Version) (st : WriteSetStatus) → Names later link x st → Names f.ring link x st
   names_was link x st a = record { seat = a.seat; slot = a.slot; lives = was a.seat a.slot x st a.lives; is = a.is }
 
-  pub names_still : (link : ℕ) (x : Version) (st : Status) → (a : Names f.ring link x st) → Names later link x st ⊎ Dropped a.seat x st
+  pub names_still : (link : ℕ) (x : Version) (st : WriteSetStatus) → (a : Names f.ring link x st) → Names later link x st ⊎ Dropped a.seat x st
   names_still link x st a = ⊎_elim (λ l. inl (record { seat = a.seat; slot = a.slot; lives = l; is = a.is })) (λ d. inr d) (still a.seat a.slot x st a.lives)
 
   version_was : (o t link : ℕ) (x : Version) (note : CommitNote) → IsVersion later o t link x note → IsVersion f.ring o t link x note
@@ -88,7 +88,7 @@ module _ {starts : State → Type 0} {allows : List ℕ → State → Writes →
   links s j x lives = top_still x.object x.previous (k.held_link s j x (was s j x Held lives))
 
   -- a link to a version: it names it still, or none any more
-  dropped_gone : (link : ℕ) (x : Version) (st : Status) → (names : Names f.ring link x st) → Dropped names.seat x st → IsGone later link
+  dropped_gone : (link : ℕ) (x : Version) (st : WriteSetStatus) → (names : Names f.ring link x st) → Dropped names.seat x st → IsGone later link
   dropped_gone = log.dropped_gone k n position r is
 
   gone_still : (link : ℕ) → IsGone f.ring link → IsGone later link
@@ -127,7 +127,7 @@ module _ {starts : State → Type 0} {allows : List ℕ → State → Writes →
   masters o none = k.present_master o (none_uncut_was o none)
 
   -- who links to a version that was dropped isn't later than any section
-  above_is_old : (s j : ℕ) (y : Version) (o : CommitNote) → Lives f.ring s j y (Committed o) → (z : Version) (st : Status)
+  above_is_old : (s j : ℕ) (y : Version) (o : CommitNote) → Lives f.ring s j y (Committed o) → (z : Version) (st : WriteSetStatus)
       → (names : Names f.ring y.previous z st) → Dropped names.seat z st → NotAboveAny o.time f.time
   above_is_old s j y o lives z st names d =
       let t : ℕ = latest_at c.base h y.object (o.time - 1) in
@@ -144,7 +144,7 @@ module _ {starts : State → Type 0} {allows : List ℕ → State → Writes →
             subst (λ (l : ℕ). Names f.ring l a.1 (Committed a.2)) (sym (old.uncut a.0 a.1 a.2 v e)) v.names in
             let one = names_once c h f.ring k.checked k.history.in_time k.positions y.previous z a.1 st (Committed a.2) names mine in
             let gone : Dropped v.names.seat a.1 (Committed a.2) =
-            subst (λ (p : Status). Dropped v.names.seat a.1 p) one.3
+            subst (λ (p : WriteSetStatus). Dropped v.names.seat a.1 p) one.3
             (subst (λ (p : Version). Dropped v.names.seat p st) one.2 (subst (λ (q : ℕ). Dropped q z st) one.0 d)) in
             let dead = next_of y.object t a.0 a.1 a.2 v e gone in
             let at = next_write-once c.base h y.object t gone.dead.0 o.time dead next in

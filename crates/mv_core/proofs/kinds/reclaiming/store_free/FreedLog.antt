@@ -3,7 +3,7 @@
 use Rattle.std.proofs.Common.{◌≡◌, ◌≢◌, ◌⊎◌, ℕ, ◌<◌, ◌≤◌, Bool, cond, List, length, refl, sym, ap, ◌∙◌, subst}
 use Rattle.std.proofs.Common.{inl, inr, ⊎_elim, eq-eqb, ne_eqb, arith, Some, None}
 use Rattle.mv_core.proofs.Terms.{dite, ℕ_discrete, Entry, State, Writes, Config, Clock, clock_time_of, clock_seat_of, clock_slot_of, Memory, Ring}
-use Rattle.mv_core.proofs.Terms.{Slot, Free, Built, Live, Freeing, Build, Version, Status, Held, Aborted, Committed, CommitNote, Section, slot_at}
+use Rattle.mv_core.proofs.Terms.{Slot, Free, Built, Live, Freeing, Build, Version, WriteSetStatus, Held, Aborted, Committed, CommitNote, OwnSection, slot_at}
 use Rattle.mv_core.proofs.Terms.{index_of, Lives, Names, IsGone, HasFirst, ViewParts, set_at}
 use Rattle.mv_core.proofs.FactTerms.{IsBeforeDeath, Facts}
 use Rattle.mv_core.specs.ReclaimSteps.{UsesPosition, IsDeadBy, freeing_slot}
@@ -19,16 +19,16 @@ pub record IsFreed (c : Config) (f : ViewParts) (n position : ℕ) (r : Ring) : 
   pub apart : (j : ℕ) → j ≢ index_of c position → slot_at r j ≡ freeing_slot position (slot_at (f.ring n) j)
   pub used : UsesPosition (slot_at (f.ring n) (index_of c position)) position
   pub oldest : (j p : ℕ) → UsesPosition (slot_at (f.ring n) j) p → position ≤ p
-  pub dead : (j : ℕ) (x : Version) (st : Status) → Lives f.ring n j x st → x.first ≡ position → IsDeadBy (f.grace n) st
+  pub dead : (j : ℕ) (x : Version) (st : WriteSetStatus) → Lives f.ring n j x st → x.first ≡ position → IsDeadBy (f.grace n) st
 
 -- a version of the set that was dropped
-pub record IsDropped (n position grace s : ℕ) (x : Version) (st : Status) : Type 0 where
+pub record IsDropped (n position grace s : ℕ) (x : Version) (st : WriteSetStatus) : Type 0 where
   pub seat_is : s ≡ n
   pub first_is : x.first ≡ position
   pub dead : IsDeadBy grace st
 
 -- what is dead by a time stands in no walk of that time or a later one
-pub not_dead_by : (t g : ℕ) (st : Status) → IsBeforeDeath t st → IsDeadBy g st → g ≤ t → ⊥
+pub not_dead_by : (t g : ℕ) (st : WriteSetStatus) → IsBeforeDeath t st → IsDeadBy g st → g ≤ t → ⊥
 not_dead_by t g Held before dead le = dead
 not_dead_by t g (Aborted None) before dead le = let e = dead.1 in absurd (cc)
 not_dead_by t g (Aborted (Some d)) before dead le =
@@ -55,8 +55,8 @@ module _ {starts : State → Type 0} {allows : List ℕ → State → Writes →
 
   -- what holds of the free slot, of the slots that are freeing now, and of each other one as it was, holds of all
   pub each_slot : (P : ℕ → ℕ → Slot → Type 0) → P n slot Free
-      → ((j : ℕ) (x : Version) (st : Status) → j ≢ slot → Lives f.ring n j x st → x.first ≡ position → P n j (Freeing x.position x.first))
-      → ((s j : ℕ) → ¬ ((s ≡ n) × (j ≡ slot)) → ((x : Version) (st : Status) → slot_at (f.ring s) j ≡ Live x st → s ≡ n → x.first ≢ position)
+      → ((j : ℕ) (x : Version) (st : WriteSetStatus) → j ≢ slot → Lives f.ring n j x st → x.first ≡ position → P n j (Freeing x.position x.first))
+      → ((s j : ℕ) → ¬ ((s ≡ n) × (j ≡ slot)) → ((x : Version) (st : WriteSetStatus) → slot_at (f.ring s) j ≡ Live x st → s ≡ n → x.first ≢ position)
       → P s j (slot_at (f.ring s) j)) → (s j : ℕ) → P s j (slot_at (later s) j)
   each_slot P here freeing rest =
       set_at_all (λ s q. (j : ℕ) → P s j (slot_at q j)) f.ring n r
@@ -81,21 +81,21 @@ module _ {starts : State → Type 0} {allows : List ℕ → State → Writes →
           λ first. other (ap (λ (v : Version). v.first) one.0 ∙ first)))))
 
   -- each live version was so, and isn't of that set
-  lives_was : (s j : ℕ) (x : Version) (st : Status) → Lives later s j x st → Lives f.ring s j x st × (s ≡ n → x.first ≢ position)
+  lives_was : (s j : ℕ) (x : Version) (st : WriteSetStatus) → Lives later s j x st → Lives f.ring s j x st × (s ≡ n → x.first ≢ position)
   lives_was =
-      each_slot (λ s j z. (x : Version) (st : Status) → z ≡ Live x st → Lives f.ring s j x st × (s ≡ n → x.first ≢ position))
+      each_slot (λ s j z. (x : Version) (st : WriteSetStatus) → z ≡ Live x st → Lives f.ring s j x st × (s ≡ n → x.first ≢ position))
       (λ x st e. absurd (cc))
       (λ j y su ne l first x st e. absurd (cc))
       (λ s j ne other x st e. (e, λ same. other x st e same))
 
-  pub was : (s j : ℕ) (x : Version) (st : Status) → Lives later s j x st → Lives f.ring s j x st
+  pub was : (s j : ℕ) (x : Version) (st : WriteSetStatus) → Lives later s j x st → Lives f.ring s j x st
   was s j x st lives = (lives_was s j x st lives).0
 
-  pub not_of_set : (j : ℕ) (x : Version) (st : Status) → Lives later n j x st → x.first ≢ position
+  pub not_of_set : (j : ℕ) (x : Version) (st : WriteSetStatus) → Lives later n j x st → x.first ≢ position
   not_of_set j x st lives = (lives_was n j x st lives).1 refl
 
   -- the version in that slot begins the set
-  pub at_slot : (x : Version) (st : Status) → Lives f.ring n slot x st → (x.position ≡ position) × (x.first ≡ position)
+  pub at_slot : (x : Version) (st : WriteSetStatus) → Lives f.ring n slot x st → (x.position ≡ position) × (x.first ≡ position)
   at_slot x st lives =
       let used : UsesPosition (Live x st) position = subst (λ (z : Slot). UsesPosition z position) lives is.used in
       let first = k.write_sets.first n slot x st lives in
@@ -107,9 +107,9 @@ module _ {starts : State → Type 0} {allows : List ℕ → State → Writes →
       (position_is, omega arith)
 
   -- a version lives still, or was dropped
-  pub still : (s j : ℕ) (x : Version) (st : Status) → Lives f.ring s j x st → Lives later s j x st ⊎ IsDropped n position (f.grace n) s x st
+  pub still : (s j : ℕ) (x : Version) (st : WriteSetStatus) → Lives f.ring s j x st → Lives later s j x st ⊎ IsDropped n position (f.grace n) s x st
   still =
-      each_slot (λ s j z. (x : Version) (st : Status) → Lives f.ring s j x st → (z ≡ Live x st) ⊎ IsDropped n position (f.grace n) s x st)
+      each_slot (λ s j z. (x : Version) (st : WriteSetStatus) → Lives f.ring s j x st → (z ≡ Live x st) ⊎ IsDropped n position (f.grace n) s x st)
       (λ x st l. let at = at_slot x st l in inr (record { seat_is = refl; first_is = at.1; dead = is.dead slot x st l at.1 }))
       (λ j y su ne l first x st e.
       let one = live_once (slot_at (f.ring n) j) y x su st l e in
@@ -118,13 +118,13 @@ module _ {starts : State → Type 0} {allows : List ℕ → State → Writes →
       (λ s j ne other x st e. inl e)
 
   -- a version of the set of one that lives does so too
-  pub set_still : (s j l : ℕ) (x y : Version) (st su : Status) → Lives later s j x st → Lives f.ring s l y su → y.first ≡ x.first → Lives later s l y su
+  pub set_still : (s j l : ℕ) (x y : Version) (st su : WriteSetStatus) → Lives later s j x st → Lives f.ring s l y su → y.first ≡ x.first → Lives later s l y su
   set_still s j l x y st su lives there same =
       ⊎_elim (λ a. a)
       (λ d. absurd (not_of_set j x st (subst (λ (t : ℕ). Lives later t j x st) d.seat_is lives) (sym same ∙ d.first_is)))
       (still s l y su there)
 
-  pub first_still : (s j : ℕ) (x : Version) (st : Status) → Lives later s j x st → HasFirst later c s x
+  pub first_still : (s j : ℕ) (x : Version) (st : WriteSetStatus) → Lives later s j x st → HasFirst later c s x
   first_still s j x st lives =
       let a = k.write_sets.first s j x st (was s j x st lives) in
       record {
@@ -136,7 +136,7 @@ module _ {starts : State → Type 0} {allows : List ℕ → State → Writes →
       }
 
   -- the slot of a set that lives isn't the one that was given free
-  pub other_slot : (s j : ℕ) (x : Version) (st : Status) → Lives later s j x st → ¬ ((s ≡ n) × (index_of c x.first ≡ slot))
+  pub other_slot : (s j : ℕ) (x : Version) (st : WriteSetStatus) → Lives later s j x st → ¬ ((s ≡ n) × (index_of c x.first ≡ slot))
   other_slot s j x st lives at =
       let a = first_still s j x st lives in
       let none : Free ≡ Live a.version a.status =
@@ -168,14 +168,14 @@ module _ {starts : State → Type 0} {allows : List ℕ → State → Writes →
       absurd (cc)
 
   -- a seat in a section drops nothing
-  pub section_kept : (s j : ℕ) (x : Version) (st : Status) (i : Section) → f.section s ≡ Some i → Lives f.ring s j x st → Lives later s j x st
+  pub section_kept : (s j : ℕ) (x : Version) (st : WriteSetStatus) (i : OwnSection) → f.section s ≡ Some i → Lives f.ring s j x st → Lives later s j x st
   section_kept s j x st i there lives =
       ⊎_elim (λ a. a)
       (λ d. let none : None ≡ Some i = sym is.outside ∙ ap f.section (sym d.seat_is) ∙ there in absurd (cc))
       (still s j x st lives)
 
   -- a link to a version that was dropped names none, and its position was used
-  pub dropped_gone : (link : ℕ) (x : Version) (st : Status) → (names : Names f.ring link x st) → IsDropped n position (f.grace n) names.seat x st
+  pub dropped_gone : (link : ℕ) (x : Version) (st : WriteSetStatus) → (names : Names f.ring link x st) → IsDropped n position (f.grace n) names.seat x st
       → IsGone later link
   dropped_gone link x st names d = record {
     seat = names.seat;

@@ -3,7 +3,7 @@
 use Rattle.std.proofs.Common.{◌≡◌, ◌≢◌, ◌⊎◌, ℕ, ◌+◌, ◌-◌, ◌*◌, ◌/◌, ◌%◌, ◌<◌, ◌≤◌, List, length}
 use Rattle.std.proofs.Common.{refl, sym, ap, ◌∙◌, subst, inl, inr, ⊎_elim, arith, Option, Some}
 use Rattle.mv_core.proofs.Terms.{dite, ℕ_discrete, dec_lt, Entry, State, Writes, Config, Clock, First, Stamp, Prev, Super, Data, clock_seat_of}
-use Rattle.mv_core.proofs.Terms.{clock_slot_of, Memory, put, Ring, Slot, Free, Built, Live, Freeing, Version, Status, Held, Aborted, Committed}
+use Rattle.mv_core.proofs.Terms.{clock_slot_of, Memory, put, Ring, Slot, Free, Built, Live, Freeing, Version, WriteSetStatus, Held, Aborted, Committed}
 use Rattle.mv_core.proofs.Terms.{slot_at, index_of, Lives, InUse, ViewParts}
 use Rattle.mv_core.proofs.FactTerms.{HoldsSlot, SlotWords, IsStored, StampedAs, stamp_of, Stamps, WriteSets, Successors, Positions, IsDone}
 use Rattle.mv_core.proofs.FactTerms.{HelpedWords, OpenSection, next_in, PositionsAndGrace, Facts}
@@ -30,18 +30,18 @@ module _ {starts : State → Type 0} {allows : List ℕ → State → Writes →
   abbrev pub after : ℕ → ℕ → ℕ
   after s j = put m (Stamp n slot) 0 (Stamp s j)
 
-  was : (s j : ℕ) (x : Version) (st : Status) → Lives later s j x st → Lives f.ring s j x st
+  was : (s j : ℕ) (x : Version) (st : WriteSetStatus) → Lives later s j x st → Lives f.ring s j x st
   was = log.was k n position r is
 
-  set_still : (s j l : ℕ) (x y : Version) (st su : Status) → Lives later s j x st → Lives f.ring s l y su → y.first ≡ x.first → Lives later s l y su
+  set_still : (s j l : ℕ) (x y : Version) (st su : WriteSetStatus) → Lives later s j x st → Lives f.ring s l y su → y.first ≡ x.first → Lives later s l y su
   set_still = log.set_still k n position r is
 
   next_same : (s : ℕ) → (later s).next ≡ (f.ring s).next
   next_same = log.next_same k n position r is
 
   each_slot : (P : ℕ → ℕ → Slot → Type 0) → P n slot Free
-      → ((j : ℕ) (x : Version) (st : Status) → j ≢ slot → Lives f.ring n j x st → x.first ≡ position → P n j (Freeing x.position x.first))
-      → ((s j : ℕ) → ¬ ((s ≡ n) × (j ≡ slot)) → ((x : Version) (st : Status) → slot_at (f.ring s) j ≡ Live x st → s ≡ n → x.first ≢ position)
+      → ((j : ℕ) (x : Version) (st : WriteSetStatus) → j ≢ slot → Lives f.ring n j x st → x.first ≡ position → P n j (Freeing x.position x.first))
+      → ((s j : ℕ) → ¬ ((s ≡ n) × (j ≡ slot)) → ((x : Version) (st : WriteSetStatus) → slot_at (f.ring s) j ≡ Live x st → s ≡ n → x.first ≢ position)
       → P s j (slot_at (f.ring s) j)) → (s j : ℕ) → P s j (slot_at (later s) j)
   each_slot = log.each_slot k n position r is
 
@@ -50,7 +50,7 @@ module _ {starts : State → Type 0} {allows : List ℕ → State → Writes →
   stamp_else s j ne = slot_word_else n slot s j 0 (stamp s j) ne
 
   -- and so is that of each set that lives
-  pub stamp_same : (s j : ℕ) (x : Version) (st : Status) → Lives later s j x st → stamp_of c after s x ≡ stamp_of c stamp s x
+  pub stamp_same : (s j : ℕ) (x : Version) (st : WriteSetStatus) → Lives later s j x st → stamp_of c after s x ≡ stamp_of c stamp s x
   stamp_same s j x st lives = stamp_else s (index_of c x.first) (log.other_slot k n position r is s j x st lives)
 
   pub words_after : SlotWords (λ s j. m (First s j)) (λ s j. m (Prev s j)) (λ s j i. m (Data s j i)) later
@@ -182,7 +182,7 @@ module _ {starts : State → Type 0} {allows : List ℕ → State → Writes →
 
   -- what a slot has that uses the position
   abbrev IsUse : ℕ → Slot → Type 0
-  IsUse p z = ((x : Version) × (st : Status) × (z ≡ Live x st) × (x.position ≡ p)) ⊎ ((first : ℕ) × (z ≡ Freeing p first))
+  IsUse p z = ((x : Version) × (st : WriteSetStatus) × (z ≡ Live x st) × (x.position ≡ p)) ⊎ ((first : ℕ) × (z ≡ Freeing p first))
 
   use_of : (p : ℕ) (z : Slot) → UsesPosition z p → IsUse p z
   use_of p Free u = absurd u
@@ -221,7 +221,7 @@ module _ {starts : State → Type 0} {allows : List ℕ → State → Writes →
       apart (ap (index_of c) e)
 
   -- a version of the set that goes is before each one that stays
-  set_before : (i j : ℕ) (x y : Version) (st su : Status) → Lives f.ring n i x st → x.first ≡ position → Lives later n j y su → x.position < y.position
+  set_before : (i j : ℕ) (x y : Version) (st su : WriteSetStatus) → Lives f.ring n i x st → x.first ≡ position → Lives later n j y su → x.position < y.position
   set_before i j x y st su lives first there =
       let was_there = was n j y su there in
       let at = (k.positions.live n j y su was_there).0 in
@@ -235,9 +235,10 @@ module _ {starts : State → Type 0} {allows : List ℕ → State → Writes →
       absurd (log.not_of_set k n position r is j y su there (ap (λ (v : Version). v.first) (sym one.1) ∙ a.first_is ∙ first)))
 
   oldest_after : (s j p first : ℕ) → slot_at (later s) j ≡ Freeing p first
-      → (first < p) × ((l : ℕ) (y : Version) (su : Status) → Lives later s l y su → p < y.position)
+      → (first < p) × ((l : ℕ) (y : Version) (su : WriteSetStatus) → Lives later s l y su → p < y.position)
   oldest_after =
-      each_slot (λ t i z. (p first : ℕ) → z ≡ Freeing p first → (first < p) × ((l : ℕ) (y : Version) (su : Status) → Lives later t l y su → p < y.position))
+      each_slot (λ t i z. (p first : ℕ) → z ≡ Freeing p first → (first < p)
+      × ((l : ℕ) (y : Version) (su : WriteSetStatus) → Lives later t l y su → p < y.position))
       (λ p first e. absurd (cc))
       (λ i x st ne l same p first e.
       let at : x.position ≡ p = cc in
@@ -269,7 +270,7 @@ module _ {starts : State → Type 0} {allows : List ℕ → State → Writes →
   }
 
   -- the round of a version that is dead by the watermark is below it
-  round_below : (j : ℕ) (x : Version) (st : Status) → Lives f.ring n j x st → IsDeadBy (f.grace n) st → c.base + x.position / c.slots < f.grace n
+  round_below : (j : ℕ) (x : Version) (st : WriteSetStatus) → Lives f.ring n j x st → IsDeadBy (f.grace n) st → c.base + x.position / c.slots < f.grace n
   round_below j x Held lives dead = absurd dead
   round_below j x (Aborted d) lives dead =
       let after = k.positions_and_grace.aborted n j dead.0 x (subst (λ (o : Option ℕ). Lives f.ring n j x (Aborted o)) dead.1 lives) in

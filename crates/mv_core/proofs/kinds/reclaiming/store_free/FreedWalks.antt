@@ -2,8 +2,8 @@
 -- both are dead by every section's time.
 use Rattle.std.proofs.Common.{◌≡◌, ◌≢◌, ℕ, ◌<◌, ◌≤◌, List, refl, sym, ap, ◌∙◌, subst, inl, inr, ⊎_elim, arith, Some}
 use Rattle.mv_core.proofs.Terms.{Entry, State, Writes, Config, Clock, Master, Stamp, clock_time_of, clock_seat_of, clock_slot_of, unset_of, Memory, Ring}
-use Rattle.mv_core.proofs.Terms.{Version, Status, Held, Aborted, Committed, Walk, Stand, FoundStamp, index_of, Lives, Names, latest_at, ViewParts}
-use Rattle.mv_core.specs.declared.view.Walk.TheVariants as walk
+use Rattle.mv_core.proofs.Terms.{Version, WriteSetStatus, Held, Aborted, Committed, WalkStage, Stand, FoundStamp, index_of, Lives, Names, latest_at, ViewParts}
+use Rattle.mv_core.specs.declared.view.WalkStage.TheVariants as walk
 use Rattle.mv_core.proofs.FactTerms.{BelowIsStamped, UnstampedIsUnfinished, IsFound, FoundStamps, NamedCommit, StampedPastHelp, MasterServes}
 use Rattle.mv_core.proofs.FactTerms.{MayStandAt, StandsRight, WalkerPlace, WalkerBeforeDeath, WalkerKnowledge, WalkerFalls, WriteBacks, Facts}
 use Rattle.mv_core.proofs.frames.KeptRecords.{same_back, same_named}
@@ -32,10 +32,10 @@ module _ {starts : State → Type 0} {allows : List ℕ → State → Writes →
   abbrev after : ℕ → ℕ → ℕ
   after = sets.after k n position r is
 
-  was : (s j : ℕ) (x : Version) (st : Status) → Lives later s j x st → Lives f.ring s j x st
+  was : (s j : ℕ) (x : Version) (st : WriteSetStatus) → Lives later s j x st → Lives f.ring s j x st
   was = log.was k n position r is
 
-  abbrev names_was : (link : ℕ) (x : Version) (st : Status) → Names later link x st → Names f.ring link x st
+  abbrev names_was : (link : ℕ) (x : Version) (st : WriteSetStatus) → Names later link x st → Names f.ring link x st
   names_was = chain.names_was k n position r is
 
   -- the watermark isn't above a section's time
@@ -47,7 +47,8 @@ module _ {starts : State → Type 0} {allows : List ℕ → State → Writes →
 
   module _ (s t : ℕ) (timed : f.time s ≡ Some t) where
     module _ (stand : Stand) (at : f.walk s ≡ walk.At stand) where
-      status : (x : Version) (st : Status) → Names f.ring stand.link x st → MayStandAt c start h master f.ring t x st → MayStandAt c start h master later t x st
+      status : (x : Version) (st : WriteSetStatus) → Names f.ring stand.link x st → MayStandAt c start h master f.ring t x st
+          → MayStandAt c start h master later t x st
       status x Held names may = tt
       status x (Committed note) names may = may
       status x (Aborted dead) names may =
@@ -68,7 +69,7 @@ module _ {starts : State → Type 0} {allows : List ℕ → State → Writes →
           (λ d. absurd (not_dead_by t (f.grace n) right.1 (k.walker_before_death.here s t stand right.0 right.1 timed at right.2) d.dead (low s t timed)))
           (chain.names_still k n position r is stand.link right.0 right.1 right.2)
 
-    stands : (w : Walk) → f.walk s ≡ w → StandsRight c start h master f.ring t w → StandsRight c start h master later t w
+    stands : (w : WalkStage) → f.walk s ≡ w → StandsRight c start h master f.ring t w → StandsRight c start h master later t w
     stands walk.Nowhere at right = tt
     stands (walk.Master o) at right = serves t o right
     stands (walk.At stand) at right = stands_at stand at right
@@ -92,7 +93,7 @@ module _ {starts : State → Type 0} {allows : List ℕ → State → Writes →
         (names_was stand.link x (Committed note) names);
   }
 
-  stamp_same : (s j : ℕ) (x : Version) (st : Status) → Lives later s j x st → after s (index_of c x.first) ≡ stamp s (index_of c x.first)
+  stamp_same : (s j : ℕ) (x : Version) (st : WriteSetStatus) → Lives later s j x st → after s (index_of c x.first) ≡ stamp s (index_of c x.first)
   stamp_same = sets.stamp_same k n position r is
 
   pub falls : WalkerFalls c after f.walk later

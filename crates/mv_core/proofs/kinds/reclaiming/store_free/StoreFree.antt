@@ -1,8 +1,8 @@
 -- store STAMP 0 (free), over all facts: the oldest slot of the log is free, and its whole write set with the first of them.
 use Rattle.std.proofs.Common.{◌≡◌, ◌≢◌, ℕ, ◌<◌, Bool, cond, List, length, map, refl, sym, ap, ◌∙◌, subst, ne_eqb, arith, Some}
 use Rattle.std.proofs.lemmas.List.{length-set, length-map}
-use Rattle.mv_core.proofs.Terms.{Entry, State, Writes, Config, Stamp, Super, Memory, put, Ring, Slot, Free, Built, Live, Freeing, Version, Status}
-use Rattle.mv_core.proofs.Terms.{Held, Aborted, Committed, View, Outside, Inside, slot_at, index_of, Lives, ViewParts, parts_of, set_at, section_of}
+use Rattle.mv_core.proofs.Terms.{Entry, State, Writes, Config, Stamp, Super, Memory, put, Ring, Slot, Free, Built, Live, Freeing, Version, WriteSetStatus}
+use Rattle.mv_core.proofs.Terms.{Held, Aborted, Committed, Knowledge, Outside, Inside, slot_at, index_of, Lives, ViewParts, parts_of, set_at, section_of}
 use Rattle.mv_core.specs.ReclaimSteps.{UsesPosition, IsDeadBy, MayFreeSlot, MayStoreFree, freeing_slot, freed_ring, free_stored}
 use Rattle.mv_core.proofs.FactTerms.{LockFreshness, WalkerLate, SucceededHasSuper, Deaths, DeathsSeen, DeathAfterWrite, CutIsOld, SuccessorFlag}
 use Rattle.mv_core.proofs.FactTerms.{RunsOn, Facts, Stores, IsKept}
@@ -19,7 +19,7 @@ module _ {starts : State → Type 0} {allows : List ℕ → State → Writes →
   abbrev later : ℕ → Ring
   later = log.later k n position r is
 
-  was : (s j : ℕ) (x : Version) (st : Status) → Lives later s j x st → Lives f.ring s j x st
+  was : (s j : ℕ) (x : Version) (st : WriteSetStatus) → Lives later s j x st → Lives f.ring s j x st
   was = log.was k n position r is
 
   -- all facts after the store
@@ -69,15 +69,16 @@ module _ {starts : State → Type 0} {allows : List ℕ → State → Writes →
       assumption (k)
 
 -- a slot that isn't of the set is as it was
-freeing_same : (position : ℕ) (z : Slot) → ((x : Version) (st : Status) → z ≡ Live x st → x.first ≢ position) → freeing_slot position z ≡ z
+freeing_same : (position : ℕ) (z : Slot) → ((x : Version) (st : WriteSetStatus) → z ≡ Live x st → x.first ≢ position) → freeing_slot position z ≡ z
 freeing_same position Free apart = refl
 freeing_same position (Built b) apart = refl
 freeing_same position (Freeing p first) apart = refl
 freeing_same position (Live x st) apart = ap (λ (b : Bool). cond b (Freeing x.position x.first) (Live x st)) (ne_eqb x.first position (apart x st refl))
 
-module _ {starts : State → Type 0} {allows : List ℕ → State → Writes → Type 0} {c : Config} {start : State} {m : Memory} {h : List Entry} (seats : ℕ → View)
+module _ {starts : State → Type 0} {allows : List ℕ → State → Writes → Type 0} {c : Config} {start : State} {m : Memory} {h : List Entry}
+    (seats : ℕ → Knowledge)
     (k : Facts starts allows c start m h (parts_of seats))
-    (v : View) (is : seats v.number ≡ v) (position : ℕ) (may : MayStoreFree c v position) where
+    (v : Knowledge) (is : seats v.number ≡ v) (position : ℕ) (may : MayStoreFree c v position) where
   abbrev n : ℕ
   n = v.number
 
@@ -88,10 +89,10 @@ module _ {starts : State → Type 0} {allows : List ℕ → State → Writes →
   slot = index_of c position
 
   abbrev ring_is : f.ring n ≡ v.ring
-  ring_is = ap (λ (u : View). u.ring) is
+  ring_is = ap (λ (u : Knowledge). u.ring) is
 
   -- the set in that slot begins at the position
-  first_is : (x : Version) (st : Status) → slot_at v.ring slot ≡ Live x st → x.first ≡ position
+  first_is : (x : Version) (st : WriteSetStatus) → slot_at v.ring slot ≡ Live x st → x.first ≡ position
   first_is x st e =
       let lives : Lives f.ring n slot x st = ap (λ (q : Ring). slot_at q slot) ring_is ∙ e in
       let used : UsesPosition (Live x st) position = subst (λ (z : Slot). UsesPosition z position) e may.in_use in
@@ -104,8 +105,8 @@ module _ {starts : State → Type 0} {allows : List ℕ → State → Writes →
       omega arith
 
   -- a version whose set begins there is of the set in that slot
-  set_there : (j : ℕ) (x : Version) (st : Status) → slot_at v.ring j ≡ Live x st → x.first ≡ position
-      → (y : Version) × (su : Status) × (slot_at v.ring slot ≡ Live y su)
+  set_there : (j : ℕ) (x : Version) (st : WriteSetStatus) → slot_at v.ring j ≡ Live x st → x.first ≡ position
+      → (y : Version) × (su : WriteSetStatus) × (slot_at v.ring slot ≡ Live y su)
   set_there j x st e same =
       let first = k.write_sets.first n j x st (ap (λ (q : Ring). slot_at q j) ring_is ∙ e) in (
         first.version,
@@ -117,14 +118,14 @@ module _ {starts : State → Type 0} {allows : List ℕ → State → Writes →
   abbrev AreFreed : Ring → Type 0
   AreFreed r = (r.next ≡ v.ring.next) × (length r.slots ≡ length v.ring.slots) × (slot_at r slot ≡ Free) ×
       ((j : ℕ) → j ≢ slot → slot_at r j ≡ freeing_slot position (slot_at v.ring j))
-      × ((j : ℕ) (x : Version) (st : Status) → slot_at v.ring j ≡ Live x st → x.first ≡ position → IsDeadBy v.grace st)
+      × ((j : ℕ) (x : Version) (st : WriteSetStatus) → slot_at v.ring j ≡ Live x st → x.first ≡ position → IsDeadBy v.grace st)
 
   freed : (z : Slot) → slot_at v.ring slot ≡ z → AreFreed (freed_ring v.ring slot z)
   freed Free e = absurd (subst (λ (z : Slot). UsesPosition z position) e may.in_use)
   freed (Built b) e = absurd (subst (λ (z : Slot). UsesPosition z position) e may.in_use)
   freed (Freeing p first) e =
       let within : slot < length v.ring.slots = slot_within v.ring slot (λ free. let clash : Free ≡ Freeing p first = sym free ∙ e in absurd (cc)) in
-      let apart : (j : ℕ) (x : Version) (st : Status) → slot_at v.ring j ≡ Live x st → x.first ≢ position =
+      let apart : (j : ℕ) (x : Version) (st : WriteSetStatus) → slot_at v.ring j ≡ Live x st → x.first ≢ position =
       λ j x st l same. let a = set_there j x st l same in let clash : Freeing p first ≡ Live a.0 a.1 = sym e ∙ a.2 in absurd (cc) in (
         refl,
         length-set v.ring.slots slot Free,
@@ -148,14 +149,15 @@ module _ {starts : State → Type 0} {allows : List ℕ → State → Writes →
   pub is_freed : IsFreed c f n position (freed_ring v.ring slot (slot_at v.ring slot))
   is_freed =
       let a = freed (slot_at v.ring slot) refl in record {
-        outside = ap (λ (u : View). section_of u.phase) is ∙ ap section_of may.outside;
+        outside = ap (λ (u : Knowledge). section_of u.phase) is ∙ ap section_of may.outside;
         next = a.0 ∙ ap (λ (q : Ring). q.next) (sym ring_is);
         wide = a.1 ∙ ap (λ (q : Ring). length q.slots) (sym ring_is);
         here = a.2;
         apart = λ j ne. a.3 j ne ∙ ap (λ (q : Ring). freeing_slot position (slot_at q j)) (sym ring_is);
         used = subst (λ (q : Ring). UsesPosition (slot_at q slot) position) (sym ring_is) may.in_use;
         oldest = λ j p u. may.oldest j p (subst (λ (q : Ring). UsesPosition (slot_at q j) p) ring_is u);
-        dead = λ j x st lives same. subst (λ (u : View). IsDeadBy u.grace st) (sym is) (a.4 j x st (ap (λ (q : Ring). slot_at q j) (sym ring_is) ∙ lives) same);
+        dead = λ j x st lives same. subst (λ (u : Knowledge). IsDeadBy u.grace st) (sym is)
+            (a.4 j x st (ap (λ (q : Ring). slot_at q j) (sym ring_is) ∙ lives) same);
       }
 
   pub free_stored_facts : Facts starts allows c start (put m (Stamp n slot) 0) h (parts_of (set_at seats v.number (free_stored c v position)))
@@ -164,7 +166,7 @@ module _ {starts : State → Type 0} {allows : List ℕ → State → Writes →
       (record unchanged { ring = Some (free_stored c v position).ring }) (refl, refl, refl, refl, refl, refl, refl, refl, refl, refl, refl)
       (freed_facts k n position (freed_ring v.ring slot (slot_at v.ring slot)) is_freed)
 
-module _ (starts : State → Type 0) (allows : List ℕ → State → Writes → Type 0) (c : Config) (start : State) (v : View) where
+module _ (starts : State → Type 0) (allows : List ℕ → State → Writes → Type 0) (c : Config) (start : State) (v : Knowledge) where
   -- outside a section a pass has nothing of it at run time
   free_runs : (position : ℕ) → MayStoreFree c v position → RunsOn v (free_stored c v position)
   free_runs position may time first timed begun = (timed, λ i e mode some. let clash : Outside ≡ Inside i = sym may.outside ∙ e in absurd (cc))

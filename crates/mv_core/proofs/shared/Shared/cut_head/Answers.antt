@@ -1,5 +1,5 @@
 use Rattle.std.proofs.Common.{◌≢◌, ℕ, sym, refl, ◌≡◌, ap, subst, ◌∙◌}
-use Rattle.mv_core.proofs.Terms.{Head, View, link_of, view, config_of}
+use Rattle.mv_core.proofs.Terms.{Head, Knowledge, link_of, view, config_of}
 use Rattle.mv_core.specs.EnterSteps.{stored_if}
 use Rattle.mv_core.specs.Moves.{history_after}
 use Rattle.mv_core.proofs.moves.Grown.{stays}
@@ -29,7 +29,7 @@ swap_as-found-requires-clause-moves g c = record {
       t.0.0 (c.link_word-link.ensures.word ∙ ap (λ s. link_of s c.args.position) c.args.pass.now.numbered) in (
         e ∙ sym (won_is (link_of (view c.args.pass.now).number c.args.position) _ _ _
             (c.link_word-link.ensures.word ∙ ap (λ s. link_of s c.args.position) c.args.pass.now.numbered)),
-        stays seats (view c.args.pass.now) w is k l (ap (λ (u : View). u.past) e)
+        stays seats (view c.args.pass.now) w is k l (ap (λ (u : Knowledge). u.past) e)
             ∙ sym (ap (history_after h) (no_made (link_of (view c.args.pass.now).number c.args.position) _)),
       );
   lost = λ m h seats w miss l t. let ne : m (Head c.args.object) ≢ (link_of (view c.args.pass.now).number c.args.position) =

@@ -1,5 +1,5 @@
 use Rattle.std.proofs.Common.{refl, ap, ◌∙◌}
-use Rattle.mv_core.proofs.Terms.{Clock, View}
+use Rattle.mv_core.proofs.Terms.{Clock, Knowledge}
 use Rattle.mv_core.specs.Passes.{config_of}
 use Rattle.mv_core.specs.EnterSteps.{check_loaded}
 use Rattle.mv_core.proofs.moves.Grown.{whole_is}
@@ -17,5 +17,5 @@ load_as-requires-clause-moves g c = record {
   writes = λ x. refl;
   entry = λ x. refl;
   view = λ m h seats w k t. t.0.2 ∙ ap (check_loaded (config_of c.args.self.now) (view c.args.pass.now) (m Clock))
-      (whole_is seats (view c.args.pass.now) w t.0.0 k t.0.1 (ap (λ (u : View). u.past.seen) t.0.2));
+      (whole_is seats (view c.args.pass.now) w t.0.0 k t.0.1 (ap (λ (u : Knowledge). u.past.seen) t.0.2));
 }

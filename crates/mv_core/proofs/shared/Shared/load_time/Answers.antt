@@ -1,5 +1,5 @@
 use Rattle.std.proofs.Common.{refl, ap, sym, ◌∙◌, subst}
-use Rattle.mv_core.proofs.Terms.{Config, Clock, View}
+use Rattle.mv_core.proofs.Terms.{Config, Clock, Knowledge}
 use Rattle.mv_core.specs.Known.{KnownInDomain}
 use Rattle.mv_core.specs.EnterSteps.{time_loaded}
 use Rattle.mv_core.proofs.moves.Grown.{whole_is}
@@ -32,5 +32,5 @@ load_alone-word-requires-clause-moves g c = record {
   writes = λ x. refl;
   entry = λ x. refl;
   view = λ m h seats w k t. t.0.2 ∙ ap (time_loaded (config_of c.args.self.now) (view c.args.pass.now) (m Clock))
-      (whole_is seats (view c.args.pass.now) w t.0.0 k t.0.1 (ap (λ (u : View). u.past.seen) t.0.2));
+      (whole_is seats (view c.args.pass.now) w t.0.0 k t.0.1 (ap (λ (u : Knowledge). u.past.seen) t.0.2));
 }

@@ -1,7 +1,7 @@
 use Rattle.std.proofs.Common.{ℕ, ◌<◌, ◌^◌, sym, refl, ap, ◌∙◌, subst}
 use Rattle.std.proofs.Math.Logic.{∥∥₁_elim}
 use Rattle.std.proofs.Math.Bridge.{le_prop}
-use Rattle.mv_core.proofs.Terms.{Head, View, link_of, view}
+use Rattle.mv_core.proofs.Terms.{Head, Knowledge, link_of, view}
 use Rattle.mv_core.specs.EnterSteps.{stored_if}
 use Rattle.mv_core.specs.Moves.{history_after}
 use Rattle.mv_core.proofs.moves.Grown.{stays}
@@ -28,7 +28,7 @@ swap_alone-found-requires-clause-moves g c = record {
   won = λ m h longer seats w k is hit l t. let e =
       t.0.0 refl in (
         e ∙ sym (won_is c.args.previous _ _ _ refl),
-        stays seats (view c.args.pass.now) w is k l (ap (λ (u : View). u.past) e)
+        stays seats (view c.args.pass.now) w is k l (ap (λ (u : Knowledge). u.past) e)
             ∙ sym (ap (history_after h) (no_made c.args.previous _)),
       );
   lost = λ m h seats w miss l t. t.0.1 miss ∙ sym (lost_is c.args.previous (m (Head c.args.object)) _ _ miss);

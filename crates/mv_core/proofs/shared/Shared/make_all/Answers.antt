@@ -1,5 +1,5 @@
 use Rattle.std.proofs.Common.{rules, arith, ◌≡◌, ◌+◌, ℕ, suc, List, length, sym, ap, ◌∙◌, subst}
-use Rattle.mv_core.proofs.Terms.{some, get_elem?, Config, View, new_view, view, IsOf, config_of, start_of}
+use Rattle.mv_core.proofs.Terms.{some, get_elem?, Config, Knowledge, new_view, view, IsOf, config_of, start_of}
 use Rattle.mv_core.specs.Start.{maker_view, starting_view}
 use Rattle.mv_core.specs.declared.shared.Pass.{Pass}
 use Rattle.mv_core.proofs.kinds.opening.MakeSeat.{each_pushed, each_from_first}
@@ -13,7 +13,7 @@ loop-number-preserved g c =
     let count : c.loop-number.number ≡ length others.items + 1 = (let a = others.ok.0 in let b = i.count in omega arith) in
     let seen : view made ≡ new_view (config_of c.args.self.now) (start_of c.args.self.now) (length others.items + 1) 0 =
     c.make_seat.ensures.made ∙ ap (λ (n : ℕ). new_view (config_of c.args.self.now) (start_of c.args.self.now) n 0) count in
-    let number : made.number ≡ length others.items + 1 = made.numbered ∙ ap (λ (v : View). v.number) seen in
+    let number : made.number ≡ length others.items + 1 = made.numbered ∙ ap (λ (v : Knowledge). v.number) seen in
     let Is : ℕ → Pass _ g.P.Protocol → Type 0 =
     λ k p. IsOf c.args.self.now p × (p.number ≡ k + 1) × (view p ≡ new_view (config_of c.args.self.now) (start_of c.args.self.now) (k + 1) 0) in
     record {
@@ -42,7 +42,7 @@ returns-clause-each g c =
     let Is : ℕ → Pass _ g.P.Protocol → Type 0 = λ k p. IsOf s p × (p.number ≡ k) × (view p ≡ starting_view (config_of s) (start_of s) k) in
     let begins : Is 0 first = (
       i.first,
-      first.numbered ∙ ap (λ (v : View). v.number) i.made,
+      first.numbered ∙ ap (λ (v : Knowledge). v.number) i.made,
       i.made ∙ ap (λ (n : ℕ). maker_view (config_of s) (start_of s) n) all,
     ) in
     let goes_on : (k : ℕ) (p : Pass _ g.P.Protocol) → get_elem? c.loop-number.others.items k ≡ some p → Is (suc k) p =

@@ -1,6 +1,6 @@
 use Rattle.std.proofs.Common.{◌≡◌, ℕ, sym, ap, ◌∙◌, subst, arith, refl}
 use Rattle.mv_core.specs.SeatSteps.{made_one, newly_made}
-use Rattle.mv_core.proofs.Terms.{Checked, View, view, config_of, start_of}
+use Rattle.mv_core.proofs.Terms.{Checked, Knowledge, view, config_of, start_of}
 use Rattle.mv_core.proofs.kinds.opening.KnownPasses.{maker_stays, made_begins}
 use Rattle.mv_core.proofs.kinds.opening.MakeSeat.{makes_one_more}
 use Rattle.mv_core.proofs.shared.Shared.make_seat.Goals as goal
@@ -9,7 +9,7 @@ pub split_as-seat-requires : goal.split_as-seat-requires
 split_as-seat-requires g c =
     let old = c.args.first.now in
     let of = c.requires.of in
-    let made : (view old).made ≡ c.args.number = ap (λ (v : View). v.made) c.requires.maker in
+    let made : (view old).made ≡ c.args.number = ap (λ (v : Knowledge). v.made) c.requires.maker in
     let range = c.requires.range in
     record {
       config = refl;
@@ -39,7 +39,7 @@ invariant_of-result g c =
     let r = made_begins g.P.Protocol.start g.P.Protocol.allowed (config_of c.args.self.now) (view old) c.split_as-seat.result.me.0 checked
     c.split_as-seat.ensures.made.1 old.known in
     record {
-      numbered = sym (r.0 ∙ ap (λ (v : View). v.made) c.requires.maker);
+      numbered = sym (r.0 ∙ ap (λ (v : Knowledge). v.made) c.requires.maker);
       timed = r.1;
       begun = r.2;
       known = r.3;
@@ -53,20 +53,20 @@ returns g c =
     let of = c.requires.of in
     let split = c.split_as-seat.ensures in
     let start = start_of s in
-    let base_of : View → ℕ = λ v. v.base in
+    let base_of : Knowledge → ℕ = λ v. v.base in
     record {
       of = (
-        (split.maker.0 ∙ of.0, of.1, ap base_of split.maker.1 ∙ of.2, ap (λ (v : View). v.start) split.maker.1 ∙ of.3, of.4),
+        (split.maker.0 ∙ of.0, of.1, ap base_of split.maker.1 ∙ of.2, ap (λ (v : Knowledge). v.start) split.maker.1 ∙ of.3, of.4),
         (
           split.made.0 ∙ of.0,
           c.requires.range.1,
           ap base_of split.made.1,
-          ap (λ (v : View). v.start) split.made.1 ∙ of.3,
+          ap (λ (v : Knowledge). v.start) split.made.1 ∙ of.3,
           sym s.about,
         ),
       );
       maker = split.maker.1
-          ∙ ap (λ (v : View). made_one (config_of s) v) c.requires.maker
+          ∙ ap (λ (v : Knowledge). made_one (config_of s) v) c.requires.maker
           ∙ makes_one_more (config_of s) start c.args.number c.requires.range.0;
-      made = split.made.1 ∙ ap (λ (v : View). newly_made (config_of s) v) c.requires.maker;
+      made = split.made.1 ∙ ap (λ (v : Knowledge). newly_made (config_of s) v) c.requires.maker;
     }

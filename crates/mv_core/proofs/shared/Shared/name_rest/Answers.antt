@@ -1,5 +1,5 @@
 use Rattle.std.proofs.Common.{ℕ, sym, refl, ap, subst, ◌+◌, ◌∙◌}
-use Rattle.mv_core.proofs.Terms.{Rest, Clock, View, clock_of, view}
+use Rattle.mv_core.proofs.Terms.{Rest, Clock, Knowledge, clock_of, view}
 use Rattle.mv_core.specs.Passes.{config_of}
 use Rattle.mv_core.specs.EnterSteps.{IsWhole, stored_if}
 use Rattle.mv_core.specs.NameSteps.{rest_named, rest_lost}
@@ -27,7 +27,7 @@ swap_as-found-requires-clause-moves g c = record {
       let r = t.0.0 refl in
       let whole : IsWhole (config_of c.args.self.now) (view c.args.pass.now) (m Clock) r.0 =
       subst (λ (n : ℕ). IsWhole (config_of c.args.self.now) (view c.args.pass.now) n r.0) (sym hit) r.1 in
-      let seen = ap (λ (u : View). u.past.seen) r.2 in (
+      let seen = ap (λ (u : Knowledge). u.past.seen) r.2 in (
         r.2 ∙ ap (rest_named (config_of c.args.self.now) (view c.args.pass.now) c.args.word)
             (was seats (view c.args.pass.now) w is k l r.0 (Rest (view c.args.pass.now).number) whole seen) ∙ sym (won_is c.args.word c.args.word _ _ refl),
         longer_is seats (view c.args.pass.now) w is k l r.0 (Rest (view c.args.pass.now).number) whole seen
@@ -35,5 +35,5 @@ swap_as-found-requires-clause-moves g c = record {
       );
   lost = λ m h seats w miss l t. let r =
       t.0.1 miss in r.2 ∙ ap (rest_lost (config_of c.args.self.now) (view c.args.pass.now) (m Clock))
-      (whole_is seats (view c.args.pass.now) w r.0 l r.1 (ap (λ (u : View). u.past.seen) r.2)) ∙ sym (lost_is c.args.word (m Clock) _ _ miss);
+      (whole_is seats (view c.args.pass.now) w r.0 l r.1 (ap (λ (u : Knowledge). u.past.seen) r.2)) ∙ sym (lost_is c.args.word (m Clock) _ _ miss);
 }

@@ -1,6 +1,6 @@
 use Rattle.std.proofs.Common.{ℕ, ◌<◌, sym, refl, ap, ◌∙◌, subst}
 use Rattle.std.proofs.Math.Logic.{∥∥₁_elim}
-use Rattle.mv_core.proofs.Terms.{Checked, Config, View, config_of}
+use Rattle.mv_core.proofs.Terms.{Checked, Config, Knowledge, config_of}
 use Rattle.mv_core.specs.SectionFacts.{IsWord}
 use Rattle.mv_core.specs.EnterSteps.{stamp_place, stored_if}
 use Rattle.mv_core.specs.Moves.{history_after}
@@ -38,7 +38,7 @@ swap_as-found-requires-clause-moves g c = record {
   won = λ m h longer seats w k is hit l t. let e =
       t in (
         e ∙ sym (won_is c.args.unset _ _ _ refl),
-        stays seats (view c.args.pass.now) w is k l (ap (λ (u : View). u.past) e)
+        stays seats (view c.args.pass.now) w is k l (ap (λ (u : Knowledge). u.past) e)
             ∙ sym (ap (history_after h) (no_made c.args.unset _)),
       );
   lost = λ m h seats w miss l t. t ∙ sym (lost_is c.args.unset (m (stamp_place c.args.word)) _ _ miss);

@@ -1,7 +1,7 @@
 use Rattle.std.proofs.Common.{◌≡◌, ℕ, ◌<◌, sym, refl, ap, ◌∙◌, subst, inr, arith}
 use Rattle.std.proofs.Math.Logic.{∥∥₁_elim}
 use Rattle.std.proofs.Math.Bridge.{le_prop}
-use Rattle.mv_core.proofs.Terms.{Checked, Place, Stamp, View, index_of, config_of, start_of}
+use Rattle.mv_core.proofs.Terms.{Checked, SharedWord, Stamp, Knowledge, index_of, config_of, start_of}
 use Rattle.mv_core.specs.EnterSteps.{IsOwnNaming, own_word, stamp_swapped, stored_if}
 use Rattle.mv_core.specs.Moves.{history_after}
 use Rattle.mv_core.specs.Passes.{view}
@@ -28,7 +28,7 @@ swap_as-found-requires-clause-rule g c =
     let range = subst (λ (n : ℕ). n < config.seats) c.args.pass.now.numbered c.requires.of.1 in
     let own = subst (IsOwnNaming config v word) (sym c.unset_stamp-unset.ensures.word) c.requires.may in
     subst
-    (λ (p : Place).
+    (λ (p : SharedWord).
     Swaps g.P.Protocol.start g.P.Protocol.allowed config (start_of c.args.self.now) v p unset c.args.time
     (λ n w. ((w ≡ stamp_swapped config v word unset n) × RunsOn v w) × IsKept v w))
     (own_place config v c.args.first c.args.time checked range)
@@ -50,7 +50,7 @@ swap_as-found-requires-clause-moves g c =
       won = λ m h longer seats w k is hit l t. let e =
           t in (
             e ∙ sym (won_is unset _ _ _ refl),
-            stays seats v w is k l (ap (λ (u : View). u.past) e)
+            stays seats v w is k l (ap (λ (u : Knowledge). u.past) e)
                 ∙ sym (ap (history_after h) (no_made unset _)),
           );
       lost = λ m h seats w miss l t. t ∙ sym (lost_is unset (m (Stamp v.number (index_of config c.args.first))) _ _ miss);

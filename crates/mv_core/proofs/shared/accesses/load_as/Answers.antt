@@ -10,9 +10,9 @@ load-requires g c =
     let o = c.requires.of in (
       search rules,
       search rules,
-      load_allows _ _ _ _ _ _ g.J.Turn.place _ c.requires.place.0 c.requires.place.1 (unspent_of _ _ _ c.args.pass.now.known)
-          o.3 o.2 g.J.Turn.config c.requires.domain
-          g.J.Turn.kind g.J.Turn.tells (λ n w. g.J.Turn.tells n w × RunsOn (view c.args.pass.now) w) (λ x w t. t.0)
+      load_allows _ _ _ _ _ _ g.J.Transition.place _ c.requires.place.0 c.requires.place.1 (unspent_of _ _ _ c.args.pass.now.known)
+          o.3 o.2 g.J.Transition.config c.requires.domain
+          g.J.Transition.kind g.J.Transition.tells (λ n w. g.J.Transition.tells n w × RunsOn (view c.args.pass.now) w) (λ x w t. t.0)
           c.requires.moves c.requires.rule,
     )
 

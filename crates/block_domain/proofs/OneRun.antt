@@ -8,7 +8,7 @@ use Rattle.run_report.proofs.history.Changes.{IsQuiet, quiet_same}
 use Rattle.run_report.proofs.history.Weights.{weight}
 use Rattle.mv_history.specs.declared.answers.LogTable.{LogTable}
 use Rattle.mv_history.specs.declared.history.Entry.TheVariants.{Change}
-use Rattle.set_script.proofs.Opening.{opening_empty}
+use Rattle.set_model.proofs.Opening.{opening_empty}
 use Rattle.run_report.proofs.Pairs.{pairs_permuted}
 use Rattle.run_report.proofs.history.Inserted.{some_order}
 use Rattle.run_report.proofs.history.OneRun.{lines_permuted, made_by_seat}

@@ -8,7 +8,7 @@ pub use Rattle.std.specs.List.Sorted.{IsPermutation}
 pub use Rattle.std.proofs.lemmas.List.Sorted.{IsPermutation-refl, IsPermutation-sym, IsPermutation-trans, IsPermutation-map, All-permutation}
 pub use Rattle.std.proofs.lemmas.List.Sorted.{IsPermutation-swap, IsPermutation-keeps}
 pub use Rattle.mv_history.specs.State.{state_after}
-pub use Rattle.set_script.specs.Catalogue.{Maps, empty}
+pub use Rattle.set_model.specs.Catalogue.{Maps, empty}
 pub use Rattle.set_blocks.specs.BlockRules.{IsBlockCommit}
 pub use Rattle.run_report.specs.Order.{IsOrdered}
 pub use Rattle.run_report.specs.Legal.{EachPair, IsAlone, IsInTime, id_of, ids_of, ids_from, is_last, is_commit}

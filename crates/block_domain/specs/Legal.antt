@@ -25,11 +25,11 @@ use Rattle.std.specs.Prelude.{
 use Rattle.std.specs.Option.{IsSomeAnd}
 use Rattle.std.specs.List.{flat_map}
 use Rattle.std.specs.List.Sorted.{IsPermutation}
-use Rattle.set_script.specs.Catalogue.{Maps, empty}
-use Rattle.set_script.specs.declared.commands.Command.{Command}
+use Rattle.set_model.specs.Catalogue.{Maps, empty}
+use Rattle.set_model.specs.declared.commands.Command.{Command}
 use Rattle.section_work.specs.declared.place.Place.{Place}
 use Rattle.section_work.specs.declared.place.Place.TheVariants.{Commit, Read}
-use Rattle.set_script.specs.declared.commands.Reply.TheVariants.{No}
+use Rattle.set_model.specs.declared.commands.Reply.TheVariants.{No}
 use Rattle.set_blocks.specs.BlockReplies.{block_replies, block_changes, block_next}
 use Rattle.run_report.specs.declared.line.Line.{Line}
 use Rattle.run_report.specs.Order.{time_of, IsOrdered}

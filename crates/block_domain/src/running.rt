@@ -1,8 +1,8 @@
 // The run of scripts of blocks over a domain, up to the meeting of its seats.
 ghost use Rattle.std.specs.Prelude.{◌≡◌, ◌≤◌, length, map, All, IfOk, IfErr};
-ghost use Rattle.set_script.specs.CatalogueOf.{catalogue_of};
-ghost use Rattle.set_script.specs.Lawful.{IsOpening};
-ghost use Rattle.set_script.specs.declared.script.TheConstants.{MOST_COMMANDS};
+ghost use Rattle.set_model.specs.CatalogueOf.{catalogue_of};
+ghost use Rattle.set_model.specs.Lawful.{IsOpening};
+ghost use Rattle.set_model.specs.declared.script.TheConstants.{MOST_COMMANDS};
 ghost use Rattle.mvrlu.specs.Meant.{numbers_of, opening_of, seat_of, whole_of};
 ghost use Rattle.mvrlu.specs.Whole.{last_state};
 ghost use Rattle.block_workers.specs.BlockRuns.{AllRanBlocks};
@@ -17,8 +17,8 @@ ghost use Rattle.block_domain.specs.Whole.{BlocksRunOf};
 
 use block_workers::run_blocks;
 use domain_loan::{lend_all, meet_all, take_back};
+use host_io::Gate;
 use mvrlu::{Closing, Domain, Seat};
-use run_outside::Gate;
 use run_report::Line;
 use set_blocks::{Block, BlockRules};
 use std::alloc::{AllocError, Global};

@@ -5,10 +5,10 @@ use Rattle.std.specs.List.{ends_with, list_any}
 use Rattle.std.specs.Option.{option_map}
 use Rattle.std.specs.Str.{bytes_eq}
 use Rattle.std.specs.declared.vec.Vec.{Vec}
-use Rattle.set_script.specs.declared.commands.Command.{Command}
+use Rattle.set_model.specs.declared.commands.Command.{Command}
 use Rattle.script_parser.specs.declared.faults.FaultKind.{FaultKind}
 use Rattle.script_parser.specs.declared.faults.FaultKind.TheVariants.{Count, Many}
-use Rattle.set_script.specs.declared.script.TheConstants.{MOST_COMMANDS}
+use Rattle.set_model.specs.declared.script.TheConstants.{MOST_COMMANDS}
 use Rattle.script_parser.specs.Grammar.{◌>>=◌, is_line_end, lines_of, words_of, reading_in, format_after}
 use Rattle.set_blocks.specs.declared.block.TheConstants.{MOST_IN_BLOCK}
 use Rattle.block_parser.specs.declared.faults.BlockKind.{BlockKind}

@@ -4,7 +4,7 @@ ghost use Rattle.script_parser.specs.Grammar.{words_of, format_after};
 ghost use Rattle.block_parser.specs.BlockGrammar.{bracket_of, bracket_in, line_said};
 
 use script_parser::{FaultKind, Format, first_word, read_line, strip_carriage_return};
-use set_script::Command;
+use set_model::Command;
 
 /// What a line says.
 #[derive(Clone, Copy, Drop)]

@@ -6,7 +6,7 @@ use crate::faults::{BlockFault, BlockKind};
 use crate::line::Said;
 use script_parser::FaultKind;
 use set_blocks::{Block, MOST_IN_BLOCK, stands_alone};
-use set_script::{Command, MOST_COMMANDS};
+use set_model::{Command, MOST_COMMANDS};
 use std::alloc::Global;
 use std::marker::Model;
 

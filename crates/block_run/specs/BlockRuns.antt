@@ -7,16 +7,16 @@ use Rattle.run_kinds.specs.domain_loan.Shown.{handle_causes}
 use Rattle.mv_history.specs.Meaning.{Seat}
 use Rattle.run_kinds.specs.mvrlu.declared.closing.Closing.{Closing}
 use Rattle.run_kinds.specs.Kinds.{IsTextOfRead, Kind, config_of, kind_along, usual_options}
-use Rattle.run_outside.specs.Outside.{Texts}
+use Rattle.host_io.specs.Outside.{Texts}
 use Rattle.run_report.specs.declared.line.Line.{Line}
 use Rattle.run_report.specs.Text.{text_of_run}
 use Rattle.run_words.specs.declared.request.Options.{Options}
 use Rattle.script_files.specs.Scripts.{AllScripts}
 use Rattle.script_files.specs.set_blocks.BlockRules.{IsBlockCommit}
 use Rattle.script_files.specs.set_blocks.declared.rules.BlockRules.{BlockRules}
-use Rattle.set_script.specs.Catalogue.{Maps}
-use Rattle.set_script.specs.Lawful.{IsOpening}
-use Rattle.set_script.specs.declared.commands.Command.{Command}
+use Rattle.set_model.specs.Catalogue.{Maps}
+use Rattle.set_model.specs.Lawful.{IsOpening}
+use Rattle.set_model.specs.declared.commands.Command.{Command}
 
 -- the chains of blocks that each seat did in turn, by the lines of one seat after those of another
 abbrev pub block_chain_of : List (List (List Command)) → List Seat → List Seat → List Line → Type 0

@@ -7,13 +7,13 @@ ghost use Rattle.block_run.specs.BlockRuns.{IsTextOfBlocks, block_runs};
 ghost use Rattle.script_files.specs.Scripts.{AnyStop, NoneFails, blocks as by_block};
 
 use block_domain::run_block_domain;
+use host_io::{Files, Gate};
 use run_kinds::{FromRun, RunAnswer, USUAL, open_run, ran_or_met, tell};
-use run_outside::{Files, Gate};
 use run_words::Options;
 use script_files::set_blocks::{Block, BlockRules};
 use script_files::{Stop, read_block_scripts};
 use set_catalog::read_all;
-use set_script::Catalogue;
+use set_model::Catalogue;
 use std::alloc::{AllocError, Global};
 use std::sync::Wait;
 use std::thread::Threads;

@@ -8,9 +8,9 @@ ghost use Rattle.block_workers.specs.Workers.{blocks_of, count_of, most_in_block
 
 use crate::blocks::Blocks;
 use crate::rows::{lines_room, make_lines};
+use host_io::Gate;
 use item_workers::run_lists;
 use mv_history::Store;
-use run_outside::Gate;
 use run_report::Line;
 use set_blocks::{Block, BlockRules};
 use std::alloc::{AllocError, Global};

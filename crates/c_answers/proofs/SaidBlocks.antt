@@ -7,8 +7,8 @@ use Rattle.std.proofs.Math.Seq.{drop-cons}
 use Rattle.std.proofs.lemmas.List.{append_assoc, map-append, length-map}
 use Rattle.std.proofs.lemmas.Option.{slice_get_within, get_or_from_slice_get}
 use Rattle.section_work.specs.declared.place.Place.{Place}
-use Rattle.set_script.specs.declared.commands.Command.{Command}
-use Rattle.set_script.specs.declared.commands.Reply.{Reply}
+use Rattle.set_model.specs.declared.commands.Command.{Command}
+use Rattle.set_model.specs.declared.commands.Reply.{Reply}
 use Rattle.c_answers.specs.declared.blocks.MvrluCommand.{MvrluCommand}
 use Rattle.c_answers.specs.declared.replies.MvrluReply.{MvrluReply}
 use Rattle.c_answers.specs.declared.status.Status.{Status}

@@ -1,7 +1,7 @@
 -- What commands of C say, by their numbers, and which of them are a block.
 use Rattle.std.specs.Prelude.{◌≡◌, ◌<◌, ◌==◌, nat_lt, ℕ, List, map, length, Contains, Result, Ok, Err, if◌then◌else◌}
-use Rattle.set_script.specs.declared.commands.Command.{Command}
-use Rattle.set_script.specs.declared.commands.Command.TheVariants.{Add, Del, Move, Put, Has, Get, Pair, Size, Next}
+use Rattle.set_model.specs.declared.commands.Command.{Command}
+use Rattle.set_model.specs.declared.commands.Command.TheVariants.{Add, Del, Move, Put, Has, Get, Pair, Size, Next}
 use Rattle.set_blocks.specs.Blocks.{IsBlock}
 use Rattle.c_answers.specs.declared.blocks.MvrluCommand.{MvrluCommand}
 use Rattle.c_answers.specs.declared.status.Status.{Status}

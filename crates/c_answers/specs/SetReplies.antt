@@ -5,8 +5,8 @@ use Rattle.section_work.specs.declared.causes.Cause.TheVariants.{Lock, Rival, Lo
 use Rattle.section_work.specs.declared.causes.Refusal.TheVariants as refusal
 use Rattle.section_work.specs.declared.place.Place.{Place}
 use Rattle.section_work.specs.declared.place.Place.TheVariants.{Commit, Read}
-use Rattle.set_script.specs.declared.commands.Reply.{Reply}
-use Rattle.set_script.specs.declared.commands.Reply.TheVariants as reply
+use Rattle.set_model.specs.declared.commands.Reply.{Reply}
+use Rattle.set_model.specs.declared.commands.Reply.TheVariants as reply
 use Rattle.set_catalog.specs.declared.answer.CommandAttempt.{CommandAttempt}
 use Rattle.set_catalog.specs.declared.answer.CommandAttempt.TheVariants.{Done, Again}
 use Rattle.c_answers.specs.declared.replies.MvrluReply.{MvrluReply}

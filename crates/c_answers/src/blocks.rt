@@ -9,7 +9,7 @@ use crate::replies::{MvrluReply, done_at, given_up, of_cause};
 use crate::status::Status;
 use section_work::Place;
 use set_blocks::{Block, BlockAttempt, Replies};
-use set_script::{Command, Name, Reply};
+use set_model::{Command, Name, Reply};
 use std::alloc::{AllocError, Global};
 
 /// A command of a block.

@@ -1,11 +1,11 @@
 // The commands of C on the sets, by the numbers of their sets.
 ghost use Rattle.std.specs.Prelude.{◌≡◌, ◌≢◌, ◌<◌, ◌≤◌, ◌⊎◌, Ok, Err};
-ghost use Rattle.set_script.specs.declared.commands.Command.TheVariants as command;
+ghost use Rattle.set_model.specs.declared.commands.Command.TheVariants as command;
 ghost use Rattle.c_answers.specs.Commands.{in_set};
 ghost use Rattle.c_answers.specs.declared.status.Status.TheVariants.{BadSet, SameSet};
 
 use crate::status::Status;
-use set_script::{Command, Name};
+use set_model::{Command, Name};
 
 /// The set of this number.
 #[inline(always)]

@@ -5,7 +5,7 @@ ghost use Rattle.c_answers.specs.SetReplies.{status_of_reply, status_of_cause, v
 use crate::status::Status;
 use section_work::{Cause, Place, Refusal};
 use set_catalog::CommandAttempt;
-use set_script::Reply;
+use set_model::Reply;
 
 /// What a command of the sets came to.
 #[repr(C)]

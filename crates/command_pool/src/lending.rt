@@ -9,7 +9,7 @@ use crate::queue::{Hand, Queue, WorkerPart};
 use crate::turns::PoolSource;
 use crossbeam_queue::Pass;
 use item_workers::take_first;
-use set_script::Command;
+use set_model::Command;
 
 // Gives each of so many workers a part of the pass. There is room for their turns.
 pub(crate) fn share_out<'s>(

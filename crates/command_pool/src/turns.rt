@@ -4,7 +4,7 @@ use crossbeam_queue::Pass;
 use item_workers::{Given, Source};
 use mv_history::Store;
 use script_workers::Hinted;
-use set_script::{Command, SetRules};
+use set_model::{Command, SetRules};
 use std::sync::Wait;
 
 // The queue, the worker's own pass of it, and the commands, which are the same for all workers.

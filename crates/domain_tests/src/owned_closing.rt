@@ -3,7 +3,7 @@ use crate::comparing::assert_same;
 use mv_history::AnyRules;
 use mv_layout::Config;
 use object_seats::{ObjectSeat, open_seats};
-use set_script::{Command, Name};
+use set_model::{Command, Name};
 use set_seats::{OpenSets, open_set_seats};
 use shared_domain::Closed;
 use std::alloc::{AllocError, Global};

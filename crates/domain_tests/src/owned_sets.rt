@@ -5,7 +5,7 @@ use section_work::Place;
 use section_work::Place::{Commit, Read};
 use set_blocks::{Block, BlockAttempt};
 use set_catalog::CommandAttempt;
-use set_script::{Command, Name, Reply};
+use set_model::{Command, Name, Reply};
 use set_seats::{KeyValue, OpenSets, SetSeat, SetsFault, Walked, open_set_seats};
 use std::alloc::{AllocError, Global};
 use std::process::Abort;

@@ -5,7 +5,7 @@ use grow_seats::{GrowCommand, GrowSeat, GrownFault, OpenGrown, open_grow_seats};
 use mv_layout::ConfigFault;
 use section_work::Place;
 use section_work::Place::{Commit, Read};
-use set_script::Reply;
+use set_model::Reply;
 use shared_domain::Closed;
 use std::alloc::{AllocError, Global};
 use std::process::Abort;

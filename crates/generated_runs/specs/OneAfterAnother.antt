@@ -1,9 +1,9 @@
 -- Scripts replayed one after another: what their commands reply, and what they leave.
 use Rattle.std.specs.Prelude.{◌≡◌, ◌≢◌, ℕ, ◌+◌, Bool, false, All, count_by, List, [], ◌∷◌, ◌++◌, codes, if◌then◌else◌}
-use Rattle.set_script.specs.Catalogue.{Maps, empty}
-use Rattle.set_script.specs.Replies.{reply, changes, next}
-use Rattle.set_script.specs.declared.commands.Command.{Command}
-use Rattle.set_script.specs.declared.commands.Reply.TheVariants.{Worn}
+use Rattle.set_model.specs.Catalogue.{Maps, empty}
+use Rattle.set_model.specs.Replies.{reply, changes, next}
+use Rattle.set_model.specs.declared.commands.Command.{Command}
+use Rattle.set_model.specs.declared.commands.Reply.TheVariants.{Worn}
 use Rattle.run_report.specs.declared.line.Line.{Line}
 use Rattle.run_report.specs.Summary.{says_yes, says_no, is_yes, is_no, is_made, text_of_count, text_of_sizes}
 use Rattle.script_gen.specs.Script.{IsGenerated, script}

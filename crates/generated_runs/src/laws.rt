@@ -1,9 +1,9 @@
 // Laws of the runs of generated scripts, over all legal runs.
 ghost use Rattle.std.specs.Prelude.{◌≡◌, ◌≢◌, ◌≤◌, ℕ, All, List, [], ◌∷◌, codes};
-ghost use Rattle.set_script.specs.Catalogue.{Maps};
-ghost use Rattle.set_script.specs.declared.commands.Command.{Command};
-ghost use Rattle.set_script.specs.declared.commands.Command.TheVariants.{Add, Del, Has, Move};
-ghost use Rattle.set_script.specs.declared.commands.Reply.TheVariants.{Full};
+ghost use Rattle.set_model.specs.Catalogue.{Maps};
+ghost use Rattle.set_model.specs.declared.commands.Command.{Command};
+ghost use Rattle.set_model.specs.declared.commands.Command.TheVariants.{Add, Del, Has, Move};
+ghost use Rattle.set_model.specs.declared.commands.Reply.TheVariants.{Full};
 ghost use Rattle.run_report.specs.declared.line.Line.{Line};
 ghost use Rattle.run_report.specs.Legal.{LegalRun};
 ghost use Rattle.run_report.specs.Summary.{summary};

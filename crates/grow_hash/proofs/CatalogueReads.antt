@@ -1,5 +1,5 @@
 -- The catalogue of a growing hash set, node by node from the last one.
-use Rattle.set_script.specs.CatalogueOf.{map_among}
+use Rattle.set_model.specs.CatalogueOf.{map_among}
 use Rattle.std.proofs.Common.{◌≡◌, ◌≢◌, ◌-◌, ◌^◌, ◌<◌, ◌≤◌, ◌∷◌, ℕ, zero, suc, Bool, cond, List, [], length, drop, set, refl, sym, ap, ◌∙◌, subst, arith}
 use Rattle.grow_hash.proofs.Terms.{State, words_at, Map, Maps, empty, map_of, put, owner, key, word, bucket, IsGrown, is_used, grown_name, first_grown}
 use Rattle.grow_hash.proofs.GrownMaps.{used_owned, used_vacant}

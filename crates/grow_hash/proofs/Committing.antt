@@ -1,6 +1,6 @@
 -- When a command's commit is one of a growing hash set.
-use Rattle.set_script.proofs.Replying.{overflows-fits, Works, works}
-use Rattle.set_script.specs.Catalogue.{cost}
+use Rattle.set_model.proofs.Replying.{overflows-fits, Works, works}
+use Rattle.set_model.specs.Catalogue.{cost}
 use Rattle.std.proofs.Common.{◌≡◌, ◌≤◌}
 use Rattle.grow_hash.proofs.Terms.{true, false, length, sym, ap, ◌∙◌, subst, arith, Some, State, Writes, written, words_at, length-written, Command, changed}
 use Rattle.grow_hash.proofs.Terms.{applies, overflows, tag_of, grown_catalogue, grown_capacity, makes, growing_of, KeepsGrown, Grows, IsGrowCommit, ℕ}

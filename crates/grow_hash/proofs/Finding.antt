@@ -1,10 +1,10 @@
 -- From what the searches of a growing hash set read to what they find.
 use Rattle.std.proofs.Common.{◌≡◌, ◌+◌, ◌<◌, ◌≤◌}
-use Rattle.grow_hash.proofs.Terms.{ℕ, suc, inl, inr, List, length, Option, sym, ap, ◌∙◌, subst, arith, cases_eq, State, next_key, map_at, IsLinked, IsSpot}
+use Rattle.grow_hash.proofs.Terms.{ℕ, suc, inl, inr, List, length, Option, sym, ap, ◌∙◌, subst, arith, cases_eq, State, next_key, map_at, IsLinked, IsWindow}
 use Rattle.grow_hash.proofs.Terms.{level, split_place, buckets_at, bucket_of, bucket, buckets, IsGrown, head_at, head_of}
 use Rattle.grow_hash.proofs.Buckets.{few_buckets, more_buckets, twice_buckets}
 use Rattle.grow_hash.proofs.GrownStates.{bucket_low}
-use Rattle.set_script.specs.Objects.{most_objects}
+use Rattle.set_model.specs.Objects.{most_objects}
 use Rattle.grow_hash.proofs.Terms.{most_buckets, most_level, most_levels, hash}
 
 -- the table that was read
@@ -43,11 +43,11 @@ linked_bucket levels s t b l same lt =
 pub few_found : (levels : ℕ) (s t : State) → IsGrown levels s → t ≡ s → length t ≤ most_objects
 few_found levels s t l same = subst (λ u. length u ≤ most_objects) (sym same) l.few
 
-pub spot_found : (levels : ℕ) (s t : State) (h k p : ℕ) (words : List ℕ) (node : ℕ) (node_words : List ℕ) → t ≡ s → h ≡ head_of levels s k
-    → IsSpot t h k p words node node_words
-    → IsSpot s (head_of levels s k) k p words node node_words
-spot_found levels s t h k p words node node_words same e i =
-    subst (λ u. IsSpot s u k p words node node_words) e (subst (λ u. IsSpot u h k p words node node_words) same i)
+pub window_found : (levels : ℕ) (s t : State) (h k p : ℕ) (words : List ℕ) (node : ℕ) (node_words : List ℕ) → t ≡ s → h ≡ head_of levels s k
+    → IsWindow t h k p words node node_words
+    → IsWindow s (head_of levels s k) k p words node node_words
+window_found levels s t h k p words node node_words same e i =
+    subst (λ u. IsWindow s u k p words node node_words) e (subst (λ u. IsWindow u h k p words node node_words) same i)
 
 pub next_found : (s t : State) (k b : ℕ) (r : Option ℕ) → t ≡ s → r ≡ next_key k (map_at t (b + 1)) → r ≡ next_key k (map_at s (head_at b))
 next_found s t k b r same e =

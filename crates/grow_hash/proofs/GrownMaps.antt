@@ -1,6 +1,6 @@
 -- The set for which a grown lawful state stands.
-use Rattle.set_script.specs.Catalogue.{cost}
-use Rattle.set_script.specs.CatalogueOf.{map_among}
+use Rattle.set_model.specs.Catalogue.{cost}
+use Rattle.set_model.specs.CatalogueOf.{map_among}
 use Rattle.std.proofs.Common.{◌≡◌, ◌≢◌, ◌+◌, ◌-◌, ◌<◌, ◌≤◌, ℕ, suc, inl, inr, true, false, not, eqb, ne_eqb, List, [], length, set, drop, refl, sym, ap, ◌∙◌}
 use Rattle.grow_hash.proofs.Terms.{arith, get_or-drop, length-drop, drop-set-lt, drop-set-add, cases_lt, nat_tests, State, words_at, Map, has_key, put}
 use Rattle.grow_hash.proofs.Terms.{take_out, empty, owner, key, value, relink, word, owned_in_range, owner-relink, key-relink, value-relink, map_among-same}

@@ -1,6 +1,6 @@
 -- The keys of a bucket and those of the set.
-use Rattle.set_script.proofs.Heads.{is_key_at-from}
-use Rattle.set_script.proofs.ListMaps.{holds-map_at, map_at-holds}
+use Rattle.set_model.proofs.Heads.{is_key_at-from}
+use Rattle.set_model.proofs.ListMaps.{holds-map_at, map_at-holds}
 use Rattle.list_set.proofs.Walking.{node_picked}
 use Rattle.std.proofs.Common.{◌≡◌, ℕ, Bool, true, false, refl, sym, ap, ◌∙◌}
 use Rattle.grow_hash.proofs.Terms.{State, words_at, has_key, map_at, IsNodeOf, bucket, IsGrown, head_at, grown_map, head_of}

@@ -1,5 +1,5 @@
 -- The least key of the set that is not below one, bucket by bucket.
-use Rattle.set_script.proofs.NextKeys.{IsLeast, next_is, next_none, least_from, none_from}
+use Rattle.set_model.proofs.NextKeys.{IsLeast, next_is, next_none, least_from, none_from}
 use Rattle.std.proofs.Common.{◌≡◌, ◌≢◌, ◌+◌, ◌<◌, ◌≤◌, ℕ, inl, inr, Bool, true, cond, eqb, ne_eqb, eq-eqb, refl, sym, ap, ◌∙◌, subst, arith, Option, Some, None}
 use Rattle.grow_hash.proofs.Terms.{min, List, MatchOption, cases_lt, State, has_key, next_key, map_at, word, IsMap-map_among, level, split_place, bucket}
 use Rattle.grow_hash.proofs.Terms.{buckets, IsGrown, head_at, grown_map, hash}

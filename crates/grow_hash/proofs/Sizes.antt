@@ -6,7 +6,7 @@ use Rattle.grow_hash.proofs.Terms.{split_place, bucket, buckets, IsGrown, head_a
 use Rattle.grow_hash.proofs.Buckets.{bucket_present, many_heads}
 use Rattle.grow_hash.proofs.GrownMaps.{used-from, used_vacant}
 use Rattle.grow_hash.proofs.GrownStates.{low_unowned, key_once}
-use Rattle.set_script.specs.Objects.{most_objects}
+use Rattle.set_model.specs.Objects.{most_objects}
 use Rattle.std.proofs.Common.{◌-◌}
 
 -- where a test picks what one of two others does, and no object is picked by both

@@ -1,7 +1,7 @@
 -- What a command on a growing hash set comes to in a state, before anything is locked.
 use Rattle.mv_history.specs.Drift.{IsFit}
 use Rattle.mv_history.specs.Legal.{are_distinct, AreWithin}
-use Rattle.set_script.specs.declared.commands.Reply.TheVariants.{Worn}
+use Rattle.set_model.specs.declared.commands.Reply.TheVariants.{Worn}
 use Rattle.std.specs.Prelude.{◌≡◌}
 use Rattle.grow_hash.specs.Terms.{Bool, true, false, length, State, Writes, tag_of, Command, Reply, ℕ}
 use Rattle.grow_hash.specs.GrowRules.{IsGrowCommit}

@@ -8,7 +8,7 @@ use Rattle.grow_hash.specs.Terms.{key, link, value, head_words, list_words, no_w
 use Rattle.grow_hash.specs.Tables.{grow_levels, most_levels, level, split_place, most_level, buckets_at, bucket, table_words, next_table, IsTable}
 use Rattle.grow_hash.specs.Grown.{IsGrown, IsGrownOpening, first_grown, most_buckets, head_at, grown_catalogue, grown_capacity}
 use Rattle.grow_hash.specs.GrowRules.{Growing, makes, splits, growing_of, KeepsGrown, MakesGrown, SplitsGrown, Grows, IsGrowCommit}
-use Rattle.set_script.specs.Objects.{most_objects}
+use Rattle.set_model.specs.Objects.{most_objects}
 
 pub IsGrownOpening-prop : (levels : ℕ) (s : State) → IsProp (IsGrownOpening levels s)
 IsGrownOpening-prop levels s x y =

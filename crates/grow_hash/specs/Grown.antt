@@ -1,9 +1,9 @@
 -- The states that stand for a growing hash set, and the set for which they stand.
-use Rattle.set_script.specs.Catalogue.{Map, Maps, empty}
+use Rattle.set_model.specs.Catalogue.{Map, Maps, empty}
 use Rattle.std.specs.Prelude.{◌≡◌, ◌≢◌, ◌-◌, ◌^◌, ◌<◌, ◌≤◌, ◌==◌, ℕ, suc, Bool, not, List, length, drop, set, slice_index_or}
 use Rattle.grow_hash.specs.Terms.{State, words_at, map_among, owner, key, link, value, head_words, list_words, no_words, IsLinked}
 use Rattle.grow_hash.specs.Tables.{grow_levels, most_levels, bucket, IsTable}
-use Rattle.set_script.specs.Objects.{most_objects}
+use Rattle.set_model.specs.Objects.{most_objects}
 
 -- how many buckets there are at most
 abbrev pub most_buckets : ℕ → ℕ

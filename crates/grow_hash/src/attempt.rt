@@ -1,6 +1,6 @@
 // What attempts on a growing hash set answer.
 use section_work::{Cause, Place};
-use set_script::Reply;
+use set_model::Reply;
 
 /// What an attempt of a command on a growing hash set answers.
 #[derive(Clone, Copy, Debug, PartialEq, Eq)]

@@ -12,7 +12,7 @@ use crate::grow_work::GrowWork;
 use crate::rules::GrowingRules;
 use mv_history::Store;
 use section_work::{Attempt, attempt_work};
-use set_script::{Command, Reply};
+use set_model::{Command, Reply};
 use std::marker::PhantomData;
 
 /// Attempts a command of a growing hash set in one section of the store, and gives the store back.

@@ -4,11 +4,12 @@ ghost use Rattle.grow_hash.specs.Terms.{length, take, map_at, IsLinked};
 ghost use Rattle.grow_hash.specs.Tables.{most_levels, most_level, buckets_at, next_table};
 ghost use Rattle.grow_hash.specs.Grown.{most_buckets};
 ghost use Rattle.grow_hash.specs.BucketReads.{IsRead, ArePartedWrites, IsMoved};
-ghost use Rattle.set_script.specs.Objects.{most_objects};
+ghost use Rattle.set_model.specs.Objects.{most_objects};
 
 use crate::mixing::hash;
 use crate::table::{buckets_at, next_table};
 use mv_history::{View, Words};
+use set_model::word;
 
 /// How many keys a bucket has at most that is split: a section may hold 64 objects, and the table and both heads are three of them.
 pub(crate) const MOST_SPLIT: u32 = 61;
@@ -47,14 +48,14 @@ pub(crate) fn read_bucket<V: View>(view: &mut V, head: u32) -> Bucket
 {
     let mut nodes = [(0, [0; 6]); MOST_SPLIT as usize];
     let mut keys = 0;
-    let mut node = view.read(head)[3];
+    let mut node = view.read(head)[word::NEXT];
     while node != 0 {
         let object = node as u32;
         let words = view.read(object);
         if keys < MOST_SPLIT {
             nodes[keys as usize] = (object, words);
         }
-        node = words[3];
+        node = words[word::NEXT];
         keys += 1;
     }
     Bucket { nodes, keys }
@@ -92,8 +93,8 @@ fn moved(words: Words, bucket: u64, next: u32) -> Words
     ensures { IsMoved words bucket next result }
 {
     let mut words = words;
-    words[0] = bucket + 2;
-    words[3] = next as u64;
+    words[word::OWNER] = bucket + 2;
+    words[word::NEXT] = next as u64;
     words
 }
 
@@ -113,7 +114,7 @@ pub(crate) fn part(levels: u32, level: u32, place: u32, bucket: &Bucket) -> Part
     while index > 0 {
         index -= 1;
         let (node, words) = bucket.nodes[index];
-        let number = hash(levels, words[2]);
+        let number = hash(levels, words[word::KEY]);
         let goes_to = number % (2 * buckets) as u64;
         let next = firsts.put(goes_to == place as u64, node);
         writes[FIRST + index] = (node, moved(words, goes_to, next));

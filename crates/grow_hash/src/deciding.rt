@@ -1,5 +1,5 @@
 // What a command on a growing hash set comes to in a state, before anything is locked.
-ghost use Rattle.set_script.specs.declared.commands.Reply.TheVariants.{Yes, No};
+ghost use Rattle.set_model.specs.declared.commands.Reply.TheVariants.{Yes, No};
 ghost use Rattle.std.specs.Prelude.{◌≡◌, if◌then◌else◌};
 ghost use Rattle.grow_hash.specs.Terms.{Add, Del};
 ghost use Rattle.grow_hash.specs.Grown.{IsGrown, grown_name};
@@ -8,7 +8,7 @@ ghost use Rattle.grow_hash.specs.GrowFindings.{IsGrowFound, reply_at_last};
 
 use crate::search::{find, next, size, vacant};
 use mv_history::{View, Words};
-use set_script::{Command, Reply};
+use set_model::{Command, Reply};
 
 /// What a command comes to.
 #[derive(Drop)]
@@ -43,7 +43,7 @@ pub fn find_change<const LEVELS: u32, V: View>(view: &mut V, command: &Command) 
         Command::Add { key, .. } => find_add::<LEVELS, V>(view, key),
         Command::Del { key, .. } => find_del::<LEVELS, V>(view, key),
         Command::Has { key, .. } => GrowFinding::Settled(yes_or_no(
-            find::<LEVELS, V>(view, key).spot.has(key),
+            find::<LEVELS, V>(view, key).window.has(key),
         )),
         Command::Size { .. } => GrowFinding::Settled(Reply::Count {
             count: size::<LEVELS, V>(view),
@@ -68,12 +68,12 @@ fn find_add<const LEVELS: u32, V: View>(view: &mut V, key: u32) -> GrowFinding
     ensures as_before { V.as_before view.old view.new }
 {
     let search = find::<LEVELS, V>(view, key);
-    if search.spot.has(key) {
+    if search.window.has(key) {
         return GrowFinding::Settled(Reply::No);
     }
     match vacant::<LEVELS, V>(view, key) {
         None => GrowFinding::Settled(Reply::Full),
-        Some(node) => GrowFinding::Open(search.spot.add_writes(search.head, key, 0, node)),
+        Some(node) => GrowFinding::Open(search.window.add_writes(search.head, key, 0, node)),
     }
 }
 
@@ -83,8 +83,8 @@ fn find_del<const LEVELS: u32, V: View>(view: &mut V, key: u32) -> GrowFinding
     ensures as_before { V.as_before view.old view.new }
 {
     let search = find::<LEVELS, V>(view, key);
-    if search.spot.has(key) {
-        GrowFinding::Open(search.spot.del_writes())
+    if search.window.has(key) {
+        GrowFinding::Open(search.window.del_writes())
     } else {
         GrowFinding::Settled(Reply::No)
     }

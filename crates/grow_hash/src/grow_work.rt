@@ -1,14 +1,12 @@
 // A command on a growing hash set, as a work.
 ghost use Rattle.std.specs.Prelude.{◌≡◌};
-ghost use Rattle.set_script.specs.Tags.{tag_of as command_tag};
 ghost use Rattle.grow_hash.specs.GrowPlans.{IsOfGrown};
 
 use crate::deciding::{GrowFinding, find_change};
 use crate::rules::GrowingRules;
-use crate::search::NAME;
 use mv_history::{Tag, View, Words};
 use section_work::{Decision, Work};
-use set_script::{Command, Reply};
+use set_model::{Command, Reply};
 use std::marker::PhantomData;
 
 /// A command of a growing hash set.
@@ -20,7 +18,7 @@ pub struct GrowWork<const LEVELS: u32, R> {
 
 impl<const LEVELS: u32, R: GrowingRules<LEVELS>> Work for GrowWork<LEVELS, R> {
     ghost use Rattle.std.specs.Prelude.{⊤};
-    ghost use Rattle.set_script.specs.Tags.{tag_of as command_tag};
+    ghost use Rattle.set_model.specs.Tags.{tag_of as command_tag};
     ghost use Rattle.grow_hash.specs.GrowPlans.{IsOfGrown};
     ghost use Rattle.grow_hash.specs.GrowMeaning.{grow_meaning};
     ghost use Rattle.grow_hash.specs.GrowMeaningLaws.{makes_grown};
@@ -68,7 +66,7 @@ impl<const LEVELS: u32, R: GrowingRules<LEVELS>> Work for GrowWork<LEVELS, R> {
     }
 
     fn tag(&self, _plan: &[(u32, Words); 2]) -> Tag {
-        tag(&self.command)
+        self.command.tag()
     }
 
     fn at_last(&self, _reply: Reply) -> Reply {
@@ -79,16 +77,4 @@ impl<const LEVELS: u32, R: GrowingRules<LEVELS>> Work for GrowWork<LEVELS, R> {
 
     ghost makes = { λ w s before tag ws reply accepts plan drifts allowed. makes_grown LEVELS w.command s before tag ws reply accepts plan
         (R.allowed_grows tag before ws allowed) };
-}
-
-// The tag of a command that changes something.
-fn tag(command: &Command) -> Tag
-    requires command { IsOfGrown command.now }
-    ensures { result ≡ command_tag command.now }
-{
-    match *command {
-        Command::Add { key, .. } => [1, NAME as u64, 0, key as u64],
-        Command::Del { key, .. } => [2, NAME as u64, 0, key as u64],
-        _ => [0; 4],
-    }
 }

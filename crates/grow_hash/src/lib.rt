@@ -63,7 +63,7 @@
 //!
 //! # Its place
 //!
-//! It stands on `mv_history`, whose traits it is generic over, on `set_script` for commands and
+//! It stands on `mv_history`, whose traits it is generic over, on `set_model` for commands and
 //! catalogues, on `list_set` for one list, and on `section_work`, whose attempt makes a section of each
 //! command and of each split: what these decide and write is all that stands here. It knows no store.
 #![tactic(auto)]

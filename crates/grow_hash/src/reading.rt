@@ -5,7 +5,7 @@ ghost use Rattle.grow_hash.specs.Grown.{IsGrown, grown_catalogue};
 use crate::search::NAME;
 use crate::table::first_node;
 use mv_history::View;
-use set_script::Catalogue;
+use set_model::Catalogue;
 use std::alloc::{AllocError, Global};
 
 /// Reads the catalogue of a growing hash set: its keys, with their values, in `h0`, and nothing else.

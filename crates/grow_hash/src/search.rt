@@ -1,16 +1,17 @@
 // What a growing hash set has.
 ghost use Rattle.std.specs.Prelude.{◌≡◌, ◌<◌, ◌≤◌, ℕ, length, min, MatchOption};
-ghost use Rattle.set_script.specs.Catalogue.{next_key};
-ghost use Rattle.list_set.specs.Spots.{EndsHere};
+ghost use Rattle.set_model.specs.Catalogue.{next_key};
+ghost use Rattle.list_set.specs.Windows.{EndsHere};
 ghost use Rattle.grow_hash.specs.Tables.{grow_levels, most_levels};
 ghost use Rattle.grow_hash.specs.Grown.{IsGrown, first_grown, grown_map};
 ghost use Rattle.grow_hash.specs.GrowPlans.{head_of, IsFree};
-ghost use Rattle.set_script.specs.Objects.{most_objects};
+ghost use Rattle.set_model.specs.Objects.{most_objects};
 
 use crate::mixing::hash;
 use crate::table::{bucket_of, buckets, first_node, table_of};
-use list_set::{Spot, find_linked, size_linked};
+use list_set::{Window, find_linked, size_linked};
 use mv_history::View;
+use set_model::word;
 
 // The number of the name `h0`, which is that of the set.
 pub(crate) const NAME: u32 = 10;
@@ -19,21 +20,21 @@ pub(crate) const NAME: u32 = 10;
 #[derive(Clone, Copy)]
 pub(crate) struct Search {
     pub head: u32,
-    pub spot: Spot,
+    pub window: Window,
 }
 
 // Searches the bucket of the key.
 pub(crate) fn find<const LEVELS: u32, V: View>(view: &mut V, key: u32) -> Search
     requires lawful { IsGrown LEVELS (V.state view.old) }
     ensures head { result.head ≡ head_of LEVELS (V.state view.old) key }
-    ensures spot { EndsHere (V.state view.old) (head_of LEVELS (V.state view.old) key) key result.spot }
+    ensures window { EndsHere (V.state view.old) (head_of LEVELS (V.state view.old) key) key result.window }
     ensures as_before { V.as_before view.old view.new }
 {
     let (level, place) = table_of::<LEVELS, V>(view);
     let number = hash(LEVELS, key as u64);
     let head = bucket_of(level, place, number) + 1;
-    let spot = find_linked(view, head, key);
-    Search { head, spot }
+    let window = find_linked(view, head, key);
+    Search { head, window }
 }
 
 // The number of keys. It reads each object of each list.
@@ -59,9 +60,9 @@ pub(crate) fn next<const LEVELS: u32, V: View>(view: &mut V, key: u32) -> Option
     let (level, place) = table_of::<LEVELS, V>(view);
     let mut least = None;
     for bucket in 0..buckets(level, place) {
-        let spot = find_linked(view, bucket + 1, key);
-        if spot.node != 0 {
-            least = Some(lesser(least, spot.node_words[2] as u32));
+        let window = find_linked(view, bucket + 1, key);
+        if window.node != 0 {
+            least = Some(lesser(least, window.node_words[word::KEY] as u32));
         }
     }
     least
@@ -105,7 +106,7 @@ fn vacant_between<const LEVELS: u32, V: View>(view: &mut V, from: u32, end: u32)
     ensures as_before { V.as_before view.old view.new }
 {
     for object in from..end {
-        if view.read(object)[0] == 0 {
+        if view.read(object)[word::OWNER] == 0 {
             return Some(object);
         }
     }

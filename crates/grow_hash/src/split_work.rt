@@ -10,6 +10,9 @@ use mv_history::{Tag, View, Words};
 use section_work::{Decision, Work};
 use std::marker::PhantomData;
 
+// The first number of the tag of a split's commit.
+const SPLIT: u64 = 7;
+
 /// What a look at the bucket at the split place comes to.
 #[derive(Clone, Copy, Debug, Drop, PartialEq, Eq)]
 pub(crate) enum Looked {
@@ -75,7 +78,7 @@ impl<const LEVELS: u32, R: GrowingRules<LEVELS>> Work for SplitWork<LEVELS, R> {
     }
 
     fn tag(&self, plan: &Parted) -> Tag {
-        [7, plan.place as u64, 0, 0]
+        [SPLIT, plan.place as u64, 0, 0]
     }
 
     fn at_last(&self, _reply: Looked) -> Looked {

@@ -5,6 +5,11 @@ ghost use Rattle.grow_hash.specs.Grown.{IsGrown, first_grown};
 
 use mv_history::{View, Words};
 
+// The words of object 0 that say how far the table has grown.
+const LEVEL: usize = 2;
+
+const SPLIT_PLACE: usize = 3;
+
 /// The level of the table, 0 to `LEVELS - 4`, and its split place: the set has `16 * 2^level` buckets, and one
 /// more for each bucket before the split place.
 ///
@@ -16,7 +21,7 @@ pub fn table_of<const LEVELS: u32, V: View>(view: &mut V) -> (u32, u32)
     ensures as_before { V.as_before view.old view.new }
 {
     let words = view.read(0);
-    (words[2] as u32, words[3] as u32)
+    (words[LEVEL] as u32, words[SPLIT_PLACE] as u32)
 }
 
 // The number of buckets with which the level begins.

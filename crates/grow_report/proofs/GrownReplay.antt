@@ -8,9 +8,9 @@ use Rattle.mv_history.specs.declared.history.Commit.{Commit}
 use Rattle.mv_history.specs.declared.history.TheConstants.{LAST}
 use Rattle.mv_history.specs.State.{state_after, state_at}
 use Rattle.mv_history.specs.Legal.{IsAllowed}
-use Rattle.set_script.specs.Catalogue.{Maps}
-use Rattle.set_script.specs.Replies.{reply, changes, next}
-use Rattle.set_script.specs.declared.commands.Command.{Command}
+use Rattle.set_model.specs.Catalogue.{Maps}
+use Rattle.set_model.specs.Replies.{reply, changes, next}
+use Rattle.set_model.specs.declared.commands.Command.{Command}
 use Rattle.section_work.specs.declared.place.Place.{Place}
 use Rattle.section_work.specs.declared.place.Place.TheVariants.{Commit as AtCommit, Read}
 use Rattle.run_report.specs.declared.line.Line.{Line}

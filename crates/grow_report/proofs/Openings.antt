@@ -4,9 +4,9 @@ use Rattle.std.proofs.Common.{ap, ◌∙◌, arith}
 use Rattle.std.proofs.lemmas.List.{get_or-drop, length-drop}
 use Rattle.mv_history.specs.State.{State}
 use Rattle.mv_history.specs.Meaning.{words_at}
-use Rattle.set_script.specs.Catalogue.{empty, put}
-use Rattle.set_script.specs.CatalogueOf.{map_among}
-use Rattle.set_script.proofs.ObjectWords.{word}
+use Rattle.set_model.specs.Catalogue.{empty, put}
+use Rattle.set_model.specs.CatalogueOf.{map_among}
+use Rattle.set_model.proofs.ObjectWords.{word}
 use Rattle.grow_hash.specs.Grown.{IsGrownOpening, grown_catalogue, grown_map, grown_name, is_used}
 use Rattle.grow_hash.specs.Tables.{grow_levels}
 

@@ -8,7 +8,7 @@ use Rattle.mv_history.specs.declared.history.Entry.TheVariants.{Rest, Change}
 use Rattle.mv_history.specs.State.{State, Writes, written, state_after, state_at}
 use Rattle.mv_history.specs.Legal.{IsAllowed}
 use Rattle.mv_history.proofs.Histories.{split_at}
-use Rattle.set_script.specs.Catalogue.{Maps}
+use Rattle.set_model.specs.Catalogue.{Maps}
 use Rattle.run_report.proofs.history.Changes.{IsQuiet, state_next}
 use Rattle.grow_hash.specs.Grown.{grown_catalogue}
 use Rattle.grow_hash.specs.GrowRules.{Growing, makes, splits, growing_of, Grows, IsGrowCommit}

@@ -1,8 +1,8 @@
 -- The tag of a command is none of a split, and that of a split is one.
 use Rattle.std.proofs.Common.{◌≡◌, ℕ, Bool, true, false, cond, ◌==◌, ◌&&◌, Some, None, refl}
-use Rattle.set_script.specs.Tags.{tag_of}
-use Rattle.set_script.specs.declared.commands.Command.{Command}
-use Rattle.set_script.specs.declared.commands.Command.TheVariants.{Add, Put, Del, Has, Get, Move, Pair, Size, Next}
+use Rattle.set_model.specs.Tags.{tag_of}
+use Rattle.set_model.specs.declared.commands.Command.{Command}
+use Rattle.set_model.specs.declared.commands.Command.TheVariants.{Add, Put, Del, Has, Get, Move, Pair, Size, Next}
 use Rattle.grow_hash.specs.GrowRules.{makes, growing_of, split_tag}
 use Rattle.grow_hash.specs.Splits.{is_splitting}
 

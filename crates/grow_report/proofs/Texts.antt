@@ -3,7 +3,7 @@ use Rattle.std.proofs.Common.{◌≡◌, ℕ, List, [], ◌++◌, ap, ◌∙◌}
 use Rattle.std.specs.List.{flat_map}
 use Rattle.std.proofs.lemmas.List.{append-nil}
 use Rattle.mv_history.specs.declared.answers.LogTable.{LogTable}
-use Rattle.set_script.specs.Catalogue.{Maps, empty}
+use Rattle.set_model.specs.Catalogue.{Maps, empty}
 use Rattle.run_report.specs.declared.line.Line.{Line}
 use Rattle.run_report.specs.Text.{text_of_line, text_of_sets, text_of_tables, text_of_run}
 use Rattle.grow_report.specs.Text.{text_of_buckets, text_of_grown}

@@ -2,7 +2,7 @@
 use Rattle.std.specs.Prelude.{ℕ, ◌+◌, List, ◌++◌, codes, decimal}
 use Rattle.std.specs.List.{flat_map}
 use Rattle.mv_history.specs.declared.answers.LogTable.{LogTable}
-use Rattle.set_script.specs.Catalogue.{Maps}
+use Rattle.set_model.specs.Catalogue.{Maps}
 use Rattle.run_report.specs.declared.line.Line.{Line}
 use Rattle.run_report.specs.Text.{text_of_line, text_of_sets, text_of_tables}
 

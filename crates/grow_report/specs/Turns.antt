@@ -31,13 +31,13 @@ use Rattle.mv_history.specs.declared.history.Commit.{Commit}
 use Rattle.mv_history.specs.declared.history.Entry.TheVariants.{Change}
 use Rattle.mv_history.specs.Meaning.{Seat}
 use Rattle.mv_history.specs.Calls.{Continues}
-use Rattle.set_script.specs.Replies.{reply, changes, next}
-use Rattle.set_script.specs.Tags.{tag_of}
-use Rattle.set_script.specs.declared.commands.Command.{Command}
-use Rattle.set_script.specs.declared.commands.Command.TheVariants.{Add, Put, Del, Has, Get, Move, Pair, Size, Next}
+use Rattle.set_model.specs.Replies.{reply, changes, next}
+use Rattle.set_model.specs.Tags.{tag_of}
+use Rattle.set_model.specs.declared.commands.Command.{Command}
+use Rattle.set_model.specs.declared.commands.Command.TheVariants.{Add, Put, Del, Has, Get, Move, Pair, Size, Next}
 use Rattle.section_work.specs.declared.place.Place.{Place}
 use Rattle.section_work.specs.declared.place.Place.TheVariants.{Commit as AtCommit, Read}
-use Rattle.set_script.specs.declared.commands.Reply.{Reply}
+use Rattle.set_model.specs.declared.commands.Reply.{Reply}
 use Rattle.run_report.specs.declared.line.Line.{Line}
 use Rattle.run_report.specs.Legal.{Follows}
 use Rattle.run_report.specs.Order.{time_of}

@@ -9,8 +9,8 @@ use Rattle.mv_history.specs.declared.history.Commit.{Commit}
 use Rattle.mv_history.specs.declared.history.Entry.TheVariants.{Change}
 use Rattle.mv_history.specs.State.{state_after, commits_of}
 use Rattle.mv_history.specs.Legal.{IsLegal, IsAllowed}
-use Rattle.set_script.specs.Catalogue.{Maps}
-use Rattle.set_script.specs.declared.commands.Command.{Command}
+use Rattle.set_model.specs.Catalogue.{Maps}
+use Rattle.set_model.specs.declared.commands.Command.{Command}
 use Rattle.run_report.specs.declared.line.Line.{Line}
 use Rattle.run_report.specs.Legal.{LegalRun, command_of}
 use Rattle.run_report.specs.Whole.{IsTableOf, commit_lines}

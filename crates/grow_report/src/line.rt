@@ -2,8 +2,8 @@
 ghost use Rattle.std.specs.Prelude.{ℕ, List};
 ghost use Rattle.std.specs.List.Sorted.{IsPermutation};
 ghost use Rattle.mv_history.specs.declared.answers.LogTable.{LogTable};
-ghost use Rattle.set_script.specs.Catalogue.{Maps};
-ghost use Rattle.set_script.specs.declared.commands.Command.{Command};
+ghost use Rattle.set_model.specs.Catalogue.{Maps};
+ghost use Rattle.set_model.specs.declared.commands.Command.{Command};
 ghost use Rattle.run_report.specs.Order.{IsOrdered};
 ghost use Rattle.run_report.specs.Worked.{Past};
 ghost use Rattle.grow_report.specs.Whole.{GrowRunOf};

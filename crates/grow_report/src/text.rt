@@ -4,7 +4,7 @@ ghost use Rattle.grow_report.specs.Text.{text_of_buckets, text_of_grown};
 
 use mv_history::LogTable;
 use run_report::{Line, render};
-use set_script::Catalogue;
+use set_model::Catalogue;
 use std::alloc::{AllocError, Global};
 use std::fmt::Write;
 

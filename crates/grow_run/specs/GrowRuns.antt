@@ -13,11 +13,11 @@ use Rattle.mv_history.specs.Meaning.{Seat}
 use Rattle.run_kinds.specs.mvrlu.declared.closing.Closing.{Closing}
 use Rattle.run_kinds.specs.Kinds.{IsTextOfRead, Kind, config_of, kind_along, usual_options}
 use Rattle.grow_run.specs.declared.growing.GrownEnd.{GrownEnd}
-use Rattle.run_outside.specs.Outside.{Texts}
+use Rattle.host_io.specs.Outside.{Texts}
 use Rattle.run_report.specs.declared.line.Line.{Line}
 use Rattle.run_words.specs.declared.request.Options.{Options}
 use Rattle.script_files.specs.Scripts.{AllScripts}
-use Rattle.set_script.specs.declared.commands.Command.{Command}
+use Rattle.set_model.specs.declared.commands.Command.{Command}
 
 -- the chains of commands on a growing set that each seat did in turn, by their lines, each with the split that was due behind it
 abbrev pub grow_chain_of : List (List Command) → List Seat → List Seat → List Line → Type 0

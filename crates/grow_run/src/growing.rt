@@ -14,12 +14,12 @@ ghost use Rattle.script_files.specs.Scripts.{AnyStop, NoneFails, commands as by_
 use grow_domain::run_grow_domain;
 use grow_hash::{GROW_LEVELS, GrowRules, read_grown, table_of};
 use grow_report::{order_grown, render_grown};
+use host_io::{Files, Gate};
 use mv_history::View;
 use run_kinds::{FromRun, RunAnswer, USUAL, open_run, ran_or_met};
-use run_outside::{Files, Gate};
 use run_words::Options;
 use script_files::{Grammar, Stop, read_scripts};
-use set_script::{Catalogue, Command};
+use set_model::{Catalogue, Command};
 use std::alloc::{AllocError, Global};
 use std::sync::Wait;
 use std::thread::Threads;

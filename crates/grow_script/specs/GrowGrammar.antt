@@ -1,10 +1,10 @@
 -- What a script of a growing hash set says: what a script of format 1 says, with five commands and one name.
 use Rattle.std.specs.Prelude.{ℕ, ◌||◌, ◌==◌, not, Bool, true, false, List, [], ◌∷◌, Some, None, Result, Ok, Err, if◌then◌else◌, codes}
 use Rattle.std.specs.Str.{bytes_eq}
-use Rattle.set_script.specs.declared.commands.Command.{Command}
+use Rattle.set_model.specs.declared.commands.Command.{Command}
 use Rattle.script_parser.specs.declared.faults.FaultKind.{FaultKind}
 use Rattle.script_parser.specs.declared.faults.FaultKind.TheVariants.{Word, Key, Name, Format}
-use Rattle.set_script.specs.declared.commands.Command.TheVariants.{Add, Put, Del, Has, Get, Move, Pair, Size, Next}
+use Rattle.set_model.specs.declared.commands.Command.TheVariants.{Add, Put, Del, Has, Get, Move, Pair, Size, Next}
 use Rattle.script_parser.specs.Grammar.{◌>>=◌, Reading, lines_of, words_of, command_of, format_of, is_format_word, parsed_after}
 
 -- whether a word is one of the two commands of format 1 that a growing hash set lacks: those on two sets

@@ -2,13 +2,13 @@
 //!
 //! # The model
 //!
-//! A script is one of format 1 (`set_script`) whose commands are `add`, `del`, `has`, `size` and
+//! A script is one of format 1 (`set_model`) whose commands are `add`, `del`, `has`, `size` and
 //! `next` on `h0`. The first line with words may be `format 1`; `format` and any other one word
 //! there is an unknown format. `move` and `pair` are unknown commands, and every name but `h0` is
-//! unknown. A line's faults come in the order of `set_script`: its command, the number of its
+//! unknown. A line's faults come in the order of `set_model`: its command, the number of its
 //! words, the format, its name, its key; then that it is one command too many.
 //!
-//! `specs/GrowGrammar.antt` says this as a function on bytes, over the one of `set_script`.
+//! `specs/GrowGrammar.antt` says this as a function on bytes, over the one of `set_model`.
 //!
 //! # The contract
 //!
@@ -16,7 +16,7 @@
 //!
 //! # Its place
 //!
-//! It stands on the grammar of `set_script`. Its commands are those that `grow_hash` takes.
+//! It stands on the grammar of `set_model`. Its commands are those that `grow_hash` takes.
 #![tactic(auto)]
 
 mod line;
@@ -27,7 +27,7 @@ ghost use Rattle.grow_script.specs.GrowGrammar.{grow_reading, has_words, is_of_s
 
 use line::read_line;
 use script_parser::{FaultKind, ScriptFault};
-use set_script::{Command, MOST_COMMANDS};
+use set_model::{Command, MOST_COMMANDS};
 use std::alloc::Global;
 
 /// The commands of a script of a growing hash set, in the order of its lines.

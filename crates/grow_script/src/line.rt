@@ -4,7 +4,7 @@ ghost use Rattle.script_parser.specs.Grammar.{words_in, words_of};
 ghost use Rattle.grow_script.specs.GrowGrammar.{is_on_two, is_of_set, names_set, is_misnamed, grow_command, grow_format, grow_first, grow_reading, has_words};
 
 use script_parser::{FaultKind, Format, first_word, parse_line, strip_carriage_return};
-use set_script::Command;
+use set_model::Command;
 
 /// Reads a line of a script of a growing hash set, given without its LF, and notes whether a line has had words: its command,
 /// and `None` for a line without words and for the one on the format.

@@ -8,7 +8,7 @@ use Rattle.mvrlu.specs.Opened.{IsOpened}
 use Rattle.mvrlu.specs.declared.domain.Domain.{Domain}
 use Rattle.mvrlu.specs.declared.domain.Seat.{Seat}
 use Rattle.mvrlu.proofs.AllSeats.{all_from_places}
-use Rattle.set_script.specs.Objects.{no_words}
+use Rattle.set_model.specs.Objects.{no_words}
 use Rattle.grow_seats.specs.Opening.{AreOpened, HasObjects, MayShare, Shares, TableRules, config_of}
 use Rattle.grow_seats.specs.declared.opening.OpenGrown.{OpenGrown}
 use Rattle.grow_seats.specs.declared.seat.GrowSeat.{GrowSeat}

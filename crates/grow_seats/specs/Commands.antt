@@ -1,8 +1,8 @@
 -- The set of a domain, and the commands on it.
 use Rattle.std.specs.Prelude.{ℕ, List}
 use Rattle.mv_history.specs.State.{State, Writes}
-use Rattle.set_script.specs.declared.commands.Command.{Command}
-use Rattle.set_script.specs.declared.commands.Command.TheVariants.{Add, Del, Has, Size, Next}
+use Rattle.set_model.specs.declared.commands.Command.{Command}
+use Rattle.set_model.specs.declared.commands.Command.TheVariants.{Add, Del, Has, Size, Next}
 use Rattle.grow_hash.specs.Grown.{grown_name, IsGrownOpening}
 use Rattle.grow_hash.specs.GrowRules.{IsGrowCommit}
 use Rattle.grow_seats.specs.declared.command.GrowCommand.{GrowCommand}

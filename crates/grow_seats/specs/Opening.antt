@@ -7,7 +7,7 @@ use Rattle.mvrlu.specs.Meant.{IsSeatOf, seat_of}
 use Rattle.mvrlu.specs.declared.domain.Domain.{Domain}
 use Rattle.mvrlu.specs.declared.domain.Seat.{Seat}
 use Rattle.grow_hash.specs.declared.rules.GrowRules.{GrowRules}
-use Rattle.set_script.specs.Objects.{no_words, most_objects}
+use Rattle.set_model.specs.Objects.{no_words, most_objects}
 use Rattle.shared_domain.specs.Met.{domain_of}
 use Rattle.grow_seats.specs.Commands.{table_levels}
 use Rattle.grow_seats.specs.declared.opening.OpenGrown.{OpenGrown}

@@ -4,7 +4,7 @@ ghost use Rattle.grow_hash.specs.GrowPlans.{IsOfGrown};
 ghost use Rattle.grow_hash.specs.Grown.{grown_name};
 ghost use Rattle.grow_seats.specs.Commands.{as_command};
 
-use set_script::{Command, Name};
+use set_model::{Command, Name};
 
 /// A command on a growing set.
 #[derive(Clone, Copy)]

@@ -2,14 +2,14 @@
 ghost use Rattle.std.specs.Prelude.{◌≡◌, ◌+◌, ◌<◌, ◌≤◌, map, All, IfOk, IfErr, replicate};
 ghost use Rattle.mvrlu.specs.Opened.{IsOpened};
 ghost use Rattle.shared_domain.specs.Met.{domain_of};
-ghost use Rattle.set_script.specs.Objects.{no_words, most_objects};
+ghost use Rattle.set_model.specs.Objects.{no_words, most_objects};
 ghost use Rattle.grow_seats.specs.Opening.{AreOpened, HasObjects, MayShare, Refuses, Shares, config_of};
 
 use crate::seat::GrowSeat;
 use grow_hash::GrowRules;
 use mv_layout::{Config, ConfigFault};
 use mvrlu::{Domain, Seat, open_zeros};
-use set_script::MOST_OBJECTS;
+use set_model::MOST_OBJECTS;
 use shared_domain::Share;
 use std::alloc::{AllocError, Global};
 
@@ -21,7 +21,7 @@ pub const TABLE_LEVELS: u32 = 20;
 pub struct OpenGrown {
     /// How many seats, 1 to 64.
     pub seats: u32,
-    /// How many objects, 1,048,578 to 16,777,216 (`set_script::MOST_OBJECTS`): the table, the heads of 1,048,576 buckets, and
+    /// How many objects, 1,048,578 to 16,777,216 (`set_model::MOST_OBJECTS`): the table, the heads of 1,048,576 buckets, and
     /// a node for each key.
     pub objects: u32,
     /// How many slots the log of each seat has, 65 to 4,096.

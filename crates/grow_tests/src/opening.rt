@@ -1,7 +1,7 @@
 // New domains of a growing hash set, with the numbers of the program.
 ghost use Rattle.std.specs.Prelude.{◌≡◌, ◌<◌, IfOk, replicate};
 ghost use Rattle.mvrlu.specs.Opened.{IsOpened};
-ghost use Rattle.set_script.specs.Objects.{no_words};
+ghost use Rattle.set_model.specs.Objects.{no_words};
 
 use grow_hash::{GROW_LEVELS, GrowRules};
 use mv_layout::Config;

@@ -4,7 +4,7 @@ use grow_report::{order_grown, render_grown};
 use mv_history::LogTable;
 use run_report::Line;
 use section_work::Place;
-use set_script::{Catalogue, Reply};
+use set_model::{Catalogue, Reply};
 use std::alloc::{AllocError, Global};
 use std::test::Fail;
 

@@ -7,7 +7,7 @@ use crate::steps::{Keys, Step};
 use grow_hash::Split::{Done, Long, Whole, Worn};
 use mv_history::LAST;
 use section_work::Place::{Commit, Read};
-use set_script::Reply;
+use set_model::Reply;
 use std::alloc::Global;
 use std::process::Abort;
 use std::test::Fail;

@@ -3,7 +3,7 @@ use crate::comparing::{assert_read, assert_same, must};
 use crate::steps::{Ask, command};
 use grow_script::parse_grow;
 use script_parser::{FaultKind, ScriptFault};
-use set_script::{Command, MOST_COMMANDS};
+use set_model::{Command, MOST_COMMANDS};
 use std::alloc::{AllocError, Global};
 use std::process::Abort;
 use std::test::Fail;

@@ -10,7 +10,7 @@ use grow_hash::{
 };
 use mv_history::{Section, Store};
 use section_work::Place;
-use set_script::{Catalogue, Command, Name, Reply};
+use set_model::{Catalogue, Command, Name, Reply};
 use std::alloc::{AllocError, Global};
 use std::process::Abort;
 

@@ -1,10 +1,10 @@
 -- The place of a command and of a split: what their tries say of it, and what one attempt leaves.
 use Rattle.std.proofs.lemmas.Bool.Decides.{nat_tests}
 use Rattle.mv_history.proofs.Writing.{length-state_after}
-use Rattle.set_script.specs.Replies.{next, applies, overflows, reply, changes}
+use Rattle.set_model.specs.Replies.{next, applies, overflows, reply, changes}
 use Rattle.section_work.specs.Attempts.{IsReadAt}
 use Rattle.section_work.specs.Works.{Meaning}
-use Rattle.set_script.specs.declared.commands.Reply.TheVariants.{Yes, No, Full, Worn}
+use Rattle.set_model.specs.declared.commands.Reply.TheVariants.{Yes, No, Full, Worn}
 use Rattle.grow_hash.specs.GrowPlans.{GrowPlan}
 use Rattle.grow_hash.specs.SplitAttempts.{SplitTried}
 use Rattle.grow_hash.specs.declared.answer.Split.{Split}
@@ -19,7 +19,7 @@ use Rattle.grow_workers.proofs.Terms.{CannotSplit, IsGrowCommit, GrowAttempted, 
 use Rattle.grow_workers.proofs.Terms.{AtCommit, Read, Reply, Causes, past_of, state_of_time, last_by, ran_commit, ran_read, ran_after, LinkedCommand}
 use Rattle.grow_workers.proofs.Terms.{IsAnsweredBy, LinkedIf, OnTried, under_still, is_added, odd_with, CommitsNone, IsUnder, none_begun, GrowKept, kept}
 use Rattle.grow_workers.proofs.Terms.{LinkedTurn, LinkedDone, IsUnderTurn}
-use Rattle.set_script.specs.declared.commands.Command.TheVariants as commands
+use Rattle.set_model.specs.declared.commands.Command.TheVariants as commands
 use Rattle.grow_hash.specs.declared.answer.Split.TheVariants as splits
 use Rattle.item_workers.specs.declared.runner.Tried.TheVariants as tries
 

@@ -9,7 +9,7 @@ use grow_hash::{GROW_LEVELS, GrowRules, GrowStep, Split, attempt_grow, try_split
 use item_workers::{Runner, Tried};
 use mv_history::Store;
 use section_work::Place;
-use set_script::{Command, Reply};
+use set_model::{Command, Reply};
 use std::alloc::{AllocError, Global};
 
 /// A store of a growing set that does commands, each by attempts; behind each second add that replied yes it tries a split

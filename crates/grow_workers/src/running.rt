@@ -10,12 +10,12 @@ ghost use Rattle.grow_workers.specs.Links.{AllLinkedTurns};
 
 use crate::growing::Growing;
 use grow_hash::{GROW_LEVELS, GrowRules};
+use host_io::Gate;
 use item_workers::run_lists;
 use mv_history::Store;
-use run_outside::Gate;
 use run_report::Line;
 use script_workers::{lines_room, make_lines};
-use set_script::Command;
+use set_model::Command;
 use std::alloc::{AllocError, Global};
 use std::sync::Wait;
 use std::thread::Threads;

@@ -4,17 +4,17 @@ use Rattle.std.proofs.Common.{true, false, cond, List, [], ◌∷◌, length, dr
 use Rattle.std.proofs.lemmas.Bool.{cases_eq, false_from_ne_true}
 use Rattle.mv_history.specs.State.{State}
 use Rattle.mv_history.specs.Meaning.{words_at}
-use Rattle.set_script.specs.Catalogue.{map_of}
-use Rattle.set_script.specs.CatalogueOf.{is_key_of, is_key_at, map_at, map_in, catalogue_of}
-use Rattle.set_script.specs.Lawful.{IsLawful}
-use Rattle.set_script.proofs.ObjectWords.{word}
-use Rattle.set_script.proofs.Mapped.{is_key-from, map_of-catalogue_of}
-use Rattle.set_script.proofs.Heads.{is_key_at-from, is_key_at-to, at_named}
-use Rattle.set_script.proofs.ListMaps.{owned_key_once, key_once}
-use Rattle.set_script.proofs.Tally.{tally, tally-bound, length-map_among, node_at}
+use Rattle.set_model.specs.Catalogue.{map_of}
+use Rattle.set_model.specs.CatalogueOf.{is_key_of, is_key_at, map_at, map_in, catalogue_of}
+use Rattle.set_model.specs.Lawful.{IsLawful}
+use Rattle.set_model.proofs.ObjectWords.{word}
+use Rattle.set_model.proofs.Mapped.{is_key-from, map_of-catalogue_of}
+use Rattle.set_model.proofs.Heads.{is_key_at-from, is_key_at-to, at_named}
+use Rattle.set_model.proofs.ListMaps.{owned_key_once, key_once}
+use Rattle.set_model.proofs.Tally.{tally, tally-bound, length-map_among, node_at}
 use Rattle.hash_set.specs.Buckets.{bucket_at, count_in}
 use Rattle.hash_set.proofs.SetMaps.{bucket_low, bucket_name, bucket_is}
-use Rattle.set_script.specs.Objects.{most_objects}
+use Rattle.set_model.specs.Objects.{most_objects}
 
 -- each node that holds a key of the head or the name has a key of its own
 length-map_at : (s : State) (head : ℕ) → IsLawful s → head < 170 → length (map_at s head) ≡ tally (is_key_at head) (drop 180 s)

@@ -5,14 +5,14 @@ use Rattle.std.proofs.lemmas.Bool.{cases_eq, cases_lt}
 use Rattle.std.proofs.lemmas.Bool.Decides.{nat_tests}
 use Rattle.mv_history.specs.State.{State}
 use Rattle.mv_history.specs.Meaning.{words_at}
-use Rattle.set_script.specs.Catalogue.{has_key, next_key, map_of}
-use Rattle.set_script.specs.CatalogueOf.{is_key_of, is_key_at, map_at, map_in, catalogue_of}
-use Rattle.set_script.specs.Objects.{owner, key}
-use Rattle.set_script.specs.Lawful.{IsLawful}
-use Rattle.set_script.proofs.Mapped.{map_in-holds, holds-map_in, IsMap-map_among, is_key-from, map_of-catalogue_of}
-use Rattle.set_script.proofs.Heads.{is_key_at-from, is_key_at-to, at_named, home, owned_fits}
-use Rattle.set_script.proofs.ListMaps.{holds-map_at, map_at-holds}
-use Rattle.set_script.proofs.NextKeys.{IsLeast, next_is, next_none, least_from, none_from}
+use Rattle.set_model.specs.Catalogue.{has_key, next_key, map_of}
+use Rattle.set_model.specs.CatalogueOf.{is_key_of, is_key_at, map_at, map_in, catalogue_of}
+use Rattle.set_model.specs.Objects.{owner, key}
+use Rattle.set_model.specs.Lawful.{IsLawful}
+use Rattle.set_model.proofs.Mapped.{map_in-holds, holds-map_in, IsMap-map_among, is_key-from, map_of-catalogue_of}
+use Rattle.set_model.proofs.Heads.{is_key_at-from, is_key_at-to, at_named, home, owned_fits}
+use Rattle.set_model.proofs.ListMaps.{holds-map_at, map_at-holds}
+use Rattle.set_model.proofs.NextKeys.{IsLeast, next_is, next_none, least_from, none_from}
 use Rattle.hash_set.specs.Buckets.{bucket_at, asked, lesser_of, is_within, least_in}
 use Rattle.hash_set.proofs.SetMaps.{bucket_low, bucket_name, bucket_is}
 

@@ -3,13 +3,13 @@ use Rattle.std.proofs.Common.{◌≡◌, ℕ, ◌+◌, ◌-◌, ◌*◌, ◌/◌
 use Rattle.std.proofs.lemmas.Bool.{cases_lt}
 use Rattle.mv_history.specs.State.{State}
 use Rattle.mv_history.specs.Meaning.{InSection, state_of}
-use Rattle.set_script.specs.Catalogue.{map_of, has_key, value_of, with_key, without_key}
-use Rattle.set_script.specs.CatalogueOf.{name_of, map_at, catalogue_of}
-use Rattle.set_script.specs.Lists.{FitsHead}
-use Rattle.set_script.specs.Lawful.{IsLawful}
-use Rattle.set_script.proofs.Heads.{name_of-list, name_of-bucket}
-use Rattle.set_script.proofs.Heads.{head_low as name_low}
-use Rattle.set_script.proofs.NameMaps.{map_of-has, map_of-value}
+use Rattle.set_model.specs.Catalogue.{map_of, has_key, value_of, with_key, without_key}
+use Rattle.set_model.specs.CatalogueOf.{name_of, map_at, catalogue_of}
+use Rattle.set_model.specs.Lists.{FitsHead}
+use Rattle.set_model.specs.Lawful.{IsLawful}
+use Rattle.set_model.proofs.Heads.{name_of-list, name_of-bucket}
+use Rattle.set_model.proofs.Heads.{head_low as name_low}
+use Rattle.set_model.proofs.NameMaps.{map_of-has, map_of-value}
 use Rattle.list_set.specs.Calls.{Adds, Takes, Puts}
 use Rattle.hash_set.specs.Buckets.{bucket_at, head_of}
 

@@ -1,8 +1,8 @@
 -- The buckets of hash tables, and what is gathered over them.
 use Rattle.std.specs.Prelude.{ℕ, zero, suc, ◌+◌, ◌*◌, ◌%◌, nat_lt, if◌then◌else◌, length, Bool, false, not, Option, Some, None}
 use Rattle.mv_history.specs.State.{State}
-use Rattle.set_script.specs.Catalogue.{next_key}
-use Rattle.set_script.specs.CatalogueOf.{map_at}
+use Rattle.set_model.specs.Catalogue.{next_key}
+use Rattle.set_model.specs.CatalogueOf.{map_at}
 
 -- the head of this bucket of a set
 abbrev pub bucket_at : ℕ → ℕ → ℕ

@@ -5,7 +5,7 @@
 //! The set of number i, 0 to 9, is the name 10 + i of the catalogue, `h`i of scripts. Its sixteen
 //! buckets are lists: that of bucket b has the head 10 + 16 * i + b, and a key stands in the bucket
 //! `key % 16`. A lawful state has in each bucket keys of that remainder alone, with rising keys
-//! (`set_script::specs::Lawful`), so the map of the name has exactly the keys of its buckets.
+//! (`set_model::specs::Lawful`), so the map of the name has exactly the keys of its buckets.
 //!
 //! # The contract
 //!

@@ -1,10 +1,10 @@
 // The calls.
 ghost use Rattle.std.specs.Prelude.{true, false, ◌≡◌, ℕ, ◌+◌, ◌<◌, ◌≤◌, ◌↔◌, [], ◌∷◌, length, Some};
 ghost use Rattle.mv_history.specs.Meaning.{state_of};
-ghost use Rattle.set_script.specs.Catalogue.{map_of, has_key, value_of, next_key, with_key, without_key};
-ghost use Rattle.set_script.specs.CatalogueOf.{catalogue_of};
-ghost use Rattle.set_script.specs.Lawful.{IsLawful};
-ghost use Rattle.set_script.specs.Objects.{owner};
+ghost use Rattle.set_model.specs.Catalogue.{map_of, has_key, value_of, next_key, with_key, without_key};
+ghost use Rattle.set_model.specs.CatalogueOf.{catalogue_of};
+ghost use Rattle.set_model.specs.Lawful.{IsLawful};
+ghost use Rattle.set_model.specs.Objects.{owner};
 ghost use Rattle.list_set.specs.Places.{IsAddPlace, IsDelPlace, IsPutPlace};
 ghost use Rattle.section_work.specs.Held.{HasRoom};
 ghost use Rattle.list_set.specs.Calls.{Adds, Takes, Puts};

@@ -37,7 +37,7 @@
 //!
 //! # Its place
 //!
-//! It stands on `mv_history` for what a seat is, and on `run_outside` for the gate. Crates above say what an item is, how
+//! It stands on `mv_history` for what a seat is, and on `host_io` for the gate. Crates above say what an item is, how
 //! one attempt of it is made and what its link is, and make lines of the answers.
 #![tactic(auto)]
 

@@ -6,7 +6,7 @@ ghost use Rattle.item_workers.specs.Serving.{IsServed};
 use crate::runner::{Answer, Runner, Tried};
 use crate::source::{Given, Source};
 use core::mem::replace_with;
-use run_outside::Gate;
+use host_io::Gate;
 use std::sync::Wait;
 use std::thread;
 

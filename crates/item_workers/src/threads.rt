@@ -10,7 +10,7 @@ use crate::loading::{RunRoom, load, make_room, unload};
 use crate::runner::{Answer, Runner};
 use crate::running::run_from;
 use crate::source::{Own, Source};
-use run_outside::Gate;
+use host_io::Gate;
 use std::alloc::{AllocError, Global};
 use std::sync::Wait;
 use std::sync::atomic::{AtomicU64, Ordering};

@@ -4,17 +4,17 @@ use Rattle.std.proofs.Common.{length, set, refl, sym, ap, ◌∙◌, subst, arit
 use Rattle.std.proofs.lemmas.Bool.{cases_eq, false_from_ne_true}
 use Rattle.mv_history.specs.State.{State, written}
 use Rattle.mv_history.specs.Meaning.{words_at}
-use Rattle.set_script.specs.Catalogue.{has_key, put, map_of, with_key}
-use Rattle.set_script.specs.CatalogueOf.{name_of, is_key_of, map_in, catalogue_of}
-use Rattle.set_script.specs.Objects.{owner, key, link, list_words, relink}
-use Rattle.set_script.specs.Lists.{Node, Nodes, first_of, FitsHead, Links, IsAbove, IsList}
-use Rattle.set_script.specs.Lawful.{IsLawful}
-use Rattle.set_script.proofs.ObjectWords.{word}
-use Rattle.set_script.proofs.Chains.{IsAmong, only_among, last_of, last_among, Links-node, Links-right, IsRising-right, above_key, IsAmong-left, IsAmong-cases}
-use Rattle.set_script.proofs.Frames.{IsOf, IsWithin, lawful_by_list}
-use Rattle.set_script.proofs.Mapped.{Holds, map_in-holds, is_key-to, is_key-vacant, is_key-other, map_in-none, map_in-more, map_of-catalogue_of, catalogue_set}
-use Rattle.set_script.proofs.Heads.{name_bound, home_is}
-use Rattle.set_script.proofs.Edits.{map_in-relink}
+use Rattle.set_model.specs.Catalogue.{has_key, put, map_of, with_key}
+use Rattle.set_model.specs.CatalogueOf.{name_of, is_key_of, map_in, catalogue_of}
+use Rattle.set_model.specs.Objects.{owner, key, link, list_words, relink}
+use Rattle.set_model.specs.Lists.{Node, Nodes, first_of, FitsHead, Links, IsAbove, IsList}
+use Rattle.set_model.specs.Lawful.{IsLawful}
+use Rattle.set_model.proofs.ObjectWords.{word}
+use Rattle.set_model.proofs.Chains.{IsAmong, only_among, last_of, last_among, Links-node, Links-right, IsRising-right, above_key, IsAmong-left, IsAmong-cases}
+use Rattle.set_model.proofs.Frames.{IsOf, IsWithin, lawful_by_list}
+use Rattle.set_model.proofs.Mapped.{Holds, map_in-holds, is_key-to, is_key-vacant, is_key-other, map_in-none, map_in-more, map_of-catalogue_of, catalogue_set}
+use Rattle.set_model.proofs.Heads.{name_bound, home_is}
+use Rattle.set_model.proofs.Edits.{map_in-relink}
 use Rattle.list_set.specs.Places.{IsInList, IsAddPlace, add_writes}
 use Rattle.list_set.proofs.Changes.{Added, add_list, IsAbove-below, front_upto}
 use Rattle.list_set.proofs.Parts.{part_at, whole_list, in_list_range, place_not_vacant, relink_owner}

@@ -3,11 +3,11 @@ use Rattle.std.proofs.Common.{◌≡◌, ◌≢◌, ℕ, suc, ◌<◌, ◌≤◌
 use Rattle.std.proofs.lemmas.Bool.{cases_eq}
 use Rattle.mv_history.specs.State.{State}
 use Rattle.mv_history.specs.Meaning.{words_at}
-use Rattle.set_script.specs.Objects.{owner, key, head_words, list_words, no_words, relink}
-use Rattle.set_script.specs.Lists.{Node, Nodes, first_of, FitsHead, Links, IsAbove, IsRising, IsList}
-use Rattle.set_script.proofs.ObjectWords.{word, owner-relink}
-use Rattle.set_script.proofs.Chains.{IsAmong, is_among-from, only_among, last_of, last_among, Links-kept, Links-owner, Links-node, Links-right}
-use Rattle.set_script.proofs.Chains.{IsRising-right, Links-splice, above_key, IsAmong-left, IsAmong-right, IsAmong-cases}
+use Rattle.set_model.specs.Objects.{owner, key, head_words, list_words, no_words, relink}
+use Rattle.set_model.specs.Lists.{Node, Nodes, first_of, FitsHead, Links, IsAbove, IsRising, IsList}
+use Rattle.set_model.proofs.ObjectWords.{word, owner-relink}
+use Rattle.set_model.proofs.Chains.{IsAmong, is_among-from, only_among, last_of, last_among, Links-kept, Links-owner, Links-node, Links-right}
+use Rattle.set_model.proofs.Chains.{IsRising-right, Links-splice, above_key, IsAmong-left, IsAmong-right, IsAmong-cases}
 
 IsAbove-more : (k : ℕ) (x : Node) (fs bs : Nodes) → k < x.key → IsAbove k (fs ++ bs) → IsAbove k (fs ++ x ∷ bs)
 IsAbove-more k x [] bs h a = (h, a)

@@ -7,7 +7,7 @@ use Rattle.mv_history.specs.Meaning.{Seat, InSection, words_at, snapshot_of, sta
 use Rattle.mv_history.specs.Calls.{Enters}
 use Rattle.mv_history.proofs.Writing.{length-written, length-rewritten}
 use Rattle.mv_history.proofs.Steps.{state_at-later}
-use Rattle.set_script.specs.Objects.{owner}
+use Rattle.set_model.specs.Objects.{owner}
 use Rattle.list_set.specs.Places.{add_writes, del_writes}
 use Rattle.section_work.specs.OwnWrites.{with_locks, with_writes, objects_of}
 use Rattle.section_work.specs.Held.{count_unheld, HasRoom}

@@ -4,11 +4,11 @@ use Rattle.std.proofs.Common.{length, drop, refl, sym, ap, ◌∙◌, subst, ari
 use Rattle.std.proofs.lemmas.Bool.{cases_eq, cases_lt, and_parts, false_from_ne_true}
 use Rattle.mv_history.specs.State.{State}
 use Rattle.mv_history.specs.Meaning.{words_at}
-use Rattle.set_script.specs.CatalogueOf.{is_key_at, map_at}
-use Rattle.set_script.specs.Objects.{key, link, most_objects}
-use Rattle.set_script.proofs.ObjectWords.{word}
-use Rattle.set_script.proofs.Heads.{is_key_at-from}
-use Rattle.set_script.proofs.Tally.{tally, tally-none, tally-bound, tally-same, length-map_among, node_at}
+use Rattle.set_model.specs.CatalogueOf.{is_key_at, map_at}
+use Rattle.set_model.specs.Objects.{key, link, most_objects}
+use Rattle.set_model.proofs.ObjectWords.{word}
+use Rattle.set_model.proofs.Heads.{is_key_at-from}
+use Rattle.set_model.proofs.Tally.{tally, tally-none, tally-bound, tally-same, length-map_among, node_at}
 use Rattle.list_set.specs.Places.{IsInList}
 use Rattle.list_set.specs.Linked.{IsNodeOf, IsAfter, IsLinked}
 use Rattle.list_set.specs.Walks.{walk_left}

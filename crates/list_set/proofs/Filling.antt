@@ -6,16 +6,16 @@ use Rattle.mv_history.specs.Meaning.{Seat, InSection, state_of}
 use Rattle.mv_history.specs.Calls.{Enters, IsAsBefore}
 use Rattle.mv_history.proofs.Writing.{length-written}
 use Rattle.mv_history.proofs.Holding.{state_of-as_before}
-use Rattle.set_script.specs.Objects.{owner}
-use Rattle.set_script.proofs.ObjectWords.{word}
+use Rattle.set_model.specs.Objects.{owner}
+use Rattle.set_model.proofs.ObjectWords.{word}
 use Rattle.section_work.specs.Held.{count_unheld, HasRoom}
-use Rattle.set_script.specs.Lawful.{IsLawful, IsOpening}
-use Rattle.set_script.proofs.Opening.{opening_owner, opening_lawful}
+use Rattle.set_model.specs.Lawful.{IsLawful, IsOpening}
+use Rattle.set_model.proofs.Opening.{opening_owner, opening_lawful}
 use Rattle.list_set.specs.Places.{add_writes, put_writes}
 use Rattle.list_set.specs.Calls.{Adds, Takes, Puts}
 use Rattle.list_set.specs.Filling.{IsFilled}
 use Rattle.list_set.proofs.Parts.{place_not_vacant}
-use Rattle.list_set.proofs.Spots.{two_distinct}
+use Rattle.list_set.proofs.Windows.{two_distinct}
 use Rattle.list_set.proofs.Clients.{count_unheld-two, room_for_two, rewritten-held, adds-length, adds-others, takes-length, state-entered}
 
 -- there is room for one more

@@ -6,7 +6,7 @@ pub mod Putting
 pub mod Linking
 pub mod Walking
 pub mod Counting
-pub mod Spots
+pub mod Windows
 pub mod Answering
 pub mod Clients
 pub mod Filling

@@ -1,13 +1,13 @@
 -- The lists of a lawful state, by their links alone.
 use Rattle.std.proofs.Common.{◌≡◌, ◌≢◌, ℕ, suc, ◌<◌, ◌≤◌, inl, inr, [], ◌∷◌, ◌++◌, sym, ap, ◌∙◌, subst, arith}
 use Rattle.mv_history.specs.State.{State}
-use Rattle.set_script.specs.Objects.{owner, key, link}
-use Rattle.set_script.specs.Lists.{Node, Nodes, first_of, Links, IsRising, IsList}
-use Rattle.set_script.specs.Lawful.{IsLawful}
-use Rattle.set_script.proofs.ObjectWords.{word, in_range}
-use Rattle.set_script.proofs.Chains.{IsAmong, only_among, last_of, last_among, Links-node, Links-owner, Links-fits, Links-kind, Links-right}
-use Rattle.set_script.proofs.Chains.{IsRising-right, above_key, IsAmong-left, IsAmong-cases}
-use Rattle.set_script.proofs.ListMaps.{owned_key_once}
+use Rattle.set_model.specs.Objects.{owner, key, link}
+use Rattle.set_model.specs.Lists.{Node, Nodes, first_of, Links, IsRising, IsList}
+use Rattle.set_model.specs.Lawful.{IsLawful}
+use Rattle.set_model.proofs.ObjectWords.{word, in_range}
+use Rattle.set_model.proofs.Chains.{IsAmong, only_among, last_of, last_among, Links-node, Links-owner, Links-fits, Links-kind, Links-right}
+use Rattle.set_model.proofs.Chains.{IsRising-right, above_key, IsAmong-left, IsAmong-cases}
+use Rattle.set_model.proofs.ListMaps.{owned_key_once}
 use Rattle.list_set.specs.Linked.{IsNodeOf, IsAfter, IsLinked}
 use Rattle.list_set.proofs.Changes.{front_upto, front_below}
 use Rattle.list_set.proofs.Parts.{part_at, whole_list}

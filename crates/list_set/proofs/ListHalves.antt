@@ -3,23 +3,23 @@ use Rattle.std.proofs.Common.{◌≡◌, ◌≢◌, ℕ, suc, ◌<◌, ◌≤◌
 use Rattle.std.proofs.lemmas.Bool.{cases_eq}
 use Rattle.mv_history.specs.State.{State, Writes, written, touches}
 use Rattle.mv_history.specs.Meaning.{words_at}
-use Rattle.set_script.specs.Catalogue.{map_of, has_key, value_of, put, take_out}
-use Rattle.set_script.specs.CatalogueOf.{name_of, map_at, catalogue_of}
-use Rattle.set_script.specs.Objects.{owner, kind, key, link, value, relink, revalue}
-use Rattle.set_script.specs.Trees.{EndsAt}
-use Rattle.set_script.specs.Lists.{Nodes, first_of, FitsHead, Links, IsList}
-use Rattle.set_script.specs.Lawful.{IsLawful}
-use Rattle.set_script.proofs.ObjectWords.{word, kind-relink, key-relink, kind-revalue, key-revalue}
-use Rattle.set_script.proofs.Chains.{Links-right}
-use Rattle.set_script.proofs.Frames.{IsWithin, ends_stay}
-use Rattle.set_script.proofs.MapLemmas.{has_key-some}
-use Rattle.set_script.proofs.Entries.{has_entry-other}
-use Rattle.set_script.proofs.Mapped.{map_of-catalogue_of}
-use Rattle.set_script.proofs.Heads.{name_bound, owned_fits}
-use Rattle.set_script.proofs.ListMaps.{node_value}
-use Rattle.set_script.proofs.NameMaps.{map_of-value}
-use Rattle.set_script.proofs.Halves.{KeepsOf, Half}
-use Rattle.set_script.proofs.Ways.{Has, Lacks, HasOther}
+use Rattle.set_model.specs.Catalogue.{map_of, has_key, value_of, put, take_out}
+use Rattle.set_model.specs.CatalogueOf.{name_of, map_at, catalogue_of}
+use Rattle.set_model.specs.Objects.{owner, kind, key, link, value, relink, revalue}
+use Rattle.set_model.specs.Trees.{EndsAt}
+use Rattle.set_model.specs.Lists.{Nodes, first_of, FitsHead, Links, IsList}
+use Rattle.set_model.specs.Lawful.{IsLawful}
+use Rattle.set_model.proofs.ObjectWords.{word, kind-relink, key-relink, kind-revalue, key-revalue}
+use Rattle.set_model.proofs.Chains.{Links-right}
+use Rattle.set_model.proofs.Frames.{IsWithin, ends_stay}
+use Rattle.set_model.proofs.MapLemmas.{has_key-some}
+use Rattle.set_model.proofs.Entries.{has_entry-other}
+use Rattle.set_model.proofs.Mapped.{map_of-catalogue_of}
+use Rattle.set_model.proofs.Heads.{name_bound, owned_fits}
+use Rattle.set_model.proofs.ListMaps.{node_value}
+use Rattle.set_model.proofs.NameMaps.{map_of-value}
+use Rattle.set_model.proofs.Halves.{KeepsOf, Half}
+use Rattle.set_model.proofs.Ways.{Has, Lacks, HasOther}
 use Rattle.list_set.specs.Places.{IsInList, IsAddPlace, add_writes, IsDelPlace, del_writes, IsPutPlace, put_writes}
 use Rattle.list_set.proofs.Changes.{Added, Taken}
 use Rattle.list_set.proofs.Parts.{part_at, whole_list, place_in_range, place_not_vacant}

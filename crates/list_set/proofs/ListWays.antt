@@ -2,12 +2,12 @@
 use Rattle.std.proofs.Common.{List, [], ap, arith, inl, inr, refl, subst, sym, ℕ, ◌<◌, ◌∙◌, ◌∷◌, ◌≡◌, ◌≢◌}
 use Rattle.mv_history.specs.Meaning.{words_at}
 use Rattle.mv_history.specs.State.{State}
-use Rattle.set_script.specs.Lawful.{IsLawful}
-use Rattle.set_script.specs.Lists.{FitsHead}
-use Rattle.set_script.specs.Objects.{link, list_words, no_words, relink, revalue, value}
-use Rattle.set_script.proofs.ObjectWords.{word}
+use Rattle.set_model.specs.Lawful.{IsLawful}
+use Rattle.set_model.specs.Lists.{FitsHead}
+use Rattle.set_model.specs.Objects.{link, list_words, no_words, relink, revalue, value}
+use Rattle.set_model.proofs.ObjectWords.{word}
 use Rattle.section_work.proofs.Objects.{IsIn, distinct-pair}
-use Rattle.set_script.proofs.Ways.{AddWay, DelWay, IsAt, PutWay}
+use Rattle.set_model.proofs.Ways.{AddWay, DelWay, IsAt, PutWay}
 use Rattle.list_set.proofs.ListHalves.{add_half, add_place_stays, del_half, put_half, still_in}
 use Rattle.list_set.proofs.Parts.{place_not_vacant}
 use Rattle.list_set.proofs.Removing.{removal}

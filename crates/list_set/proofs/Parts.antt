@@ -2,11 +2,11 @@
 use Rattle.std.proofs.Common.{◌≡◌, ◌≢◌, ℕ, suc, ◌<◌, ◌≤◌, inl, inr, [], ◌∷◌, ◌++◌, length, refl, sym, ap, ◌∙◌, subst, arith}
 use Rattle.mv_history.specs.State.{State}
 use Rattle.mv_history.specs.Meaning.{words_at}
-use Rattle.set_script.specs.Objects.{owner, link, relink}
-use Rattle.set_script.specs.Lists.{Nodes, first_of, Links, IsList}
-use Rattle.set_script.specs.Lawful.{IsLawful}
-use Rattle.set_script.proofs.ObjectWords.{word, in_range, owned_in_range, owner-relink}
-use Rattle.set_script.proofs.Chains.{only_among, last_of, last_leads, part_behind}
+use Rattle.set_model.specs.Objects.{owner, link, relink}
+use Rattle.set_model.specs.Lists.{Nodes, first_of, Links, IsList}
+use Rattle.set_model.specs.Lawful.{IsLawful}
+use Rattle.set_model.proofs.ObjectWords.{word, in_range, owned_in_range, owner-relink}
+use Rattle.set_model.proofs.Chains.{only_among, last_of, last_leads, part_behind}
 use Rattle.list_set.specs.Places.{IsInList}
 
 -- the list parted behind p

@@ -4,18 +4,18 @@ use Rattle.std.proofs.Common.{[], ◌∷◌, length, refl, sym, ap, ◌∙◌, a
 use Rattle.std.proofs.lemmas.Bool.{cases_eq}
 use Rattle.mv_history.specs.State.{State, written}
 use Rattle.mv_history.specs.Meaning.{words_at}
-use Rattle.set_script.specs.Catalogue.{put, map_of, with_key}
-use Rattle.set_script.specs.CatalogueOf.{name_of, is_key_of, map_in, catalogue_of}
-use Rattle.set_script.specs.Objects.{owner, key, head_words, list_words, revalue}
-use Rattle.set_script.specs.Lists.{Nodes, first_of, Links, IsAbove, IsRising, IsList}
-use Rattle.set_script.specs.Lawful.{IsLawful}
-use Rattle.set_script.proofs.ObjectWords.{word, owned_in_range, owner-revalue, key-revalue}
-use Rattle.set_script.proofs.Chains.{IsAmong, is_among-from, only_among}
-use Rattle.set_script.proofs.Frames.{IsOf, IsWithin, lawful_by_list}
-use Rattle.set_script.proofs.Mapped.{is_key-other, map_in-none, map_of-catalogue_of, catalogue_set}
-use Rattle.set_script.proofs.Heads.{name_low, name_bound, at_named, owned_key_at}
-use Rattle.set_script.proofs.ListMaps.{key_once}
-use Rattle.set_script.proofs.Edits.{is_key-revalue, IsAlone, map_in-put}
+use Rattle.set_model.specs.Catalogue.{put, map_of, with_key}
+use Rattle.set_model.specs.CatalogueOf.{name_of, is_key_of, map_in, catalogue_of}
+use Rattle.set_model.specs.Objects.{owner, key, head_words, list_words, revalue}
+use Rattle.set_model.specs.Lists.{Nodes, first_of, Links, IsAbove, IsRising, IsList}
+use Rattle.set_model.specs.Lawful.{IsLawful}
+use Rattle.set_model.proofs.ObjectWords.{word, owned_in_range, owner-revalue, key-revalue}
+use Rattle.set_model.proofs.Chains.{IsAmong, is_among-from, only_among}
+use Rattle.set_model.proofs.Frames.{IsOf, IsWithin, lawful_by_list}
+use Rattle.set_model.proofs.Mapped.{is_key-other, map_in-none, map_of-catalogue_of, catalogue_set}
+use Rattle.set_model.proofs.Heads.{name_low, name_bound, at_named, owned_key_at}
+use Rattle.set_model.proofs.ListMaps.{key_once}
+use Rattle.set_model.proofs.Edits.{is_key-revalue, IsAlone, map_in-put}
 use Rattle.list_set.specs.Places.{IsPutPlace, put_writes}
 
 -- the nodes, where that of this object has this value

@@ -4,18 +4,18 @@ use Rattle.std.proofs.Common.{set, refl, sym, ap, ◌∙◌, subst, arith, get_o
 use Rattle.std.proofs.lemmas.Bool.{cases_eq, false_from_ne_true}
 use Rattle.mv_history.specs.State.{State, written}
 use Rattle.mv_history.specs.Meaning.{words_at}
-use Rattle.set_script.specs.Catalogue.{has_key, take_out, map_of, without_key}
-use Rattle.set_script.specs.CatalogueOf.{name_of, is_key_of, is_key_at, map_in, map_at, catalogue_of}
-use Rattle.set_script.specs.Objects.{owner, kind, key, link, no_words, relink}
-use Rattle.set_script.specs.Lists.{Node, Nodes, first_of, Links, IsList}
-use Rattle.set_script.specs.Lawful.{IsLawful}
-use Rattle.set_script.proofs.ObjectWords.{word, owned_in_range, key-relink}
-use Rattle.set_script.proofs.Chains.{IsAmong, last_of, last_among, Links-right}
-use Rattle.set_script.proofs.Frames.{IsOf, IsWithin, lawful_by_list}
-use Rattle.set_script.proofs.Mapped.{map_in-holds, is_key-from, is_key-vacant, is_key-other, map_in-none, map_in-less, map_of-catalogue_of, catalogue_set}
-use Rattle.set_script.proofs.Heads.{name_low, name_bound, at_named, is_key_at-to}
-use Rattle.set_script.proofs.ListMaps.{holds-map_at, key_once}
-use Rattle.set_script.proofs.Edits.{is_key-relink, map_in-relink}
+use Rattle.set_model.specs.Catalogue.{has_key, take_out, map_of, without_key}
+use Rattle.set_model.specs.CatalogueOf.{name_of, is_key_of, is_key_at, map_in, map_at, catalogue_of}
+use Rattle.set_model.specs.Objects.{owner, kind, key, link, no_words, relink}
+use Rattle.set_model.specs.Lists.{Node, Nodes, first_of, Links, IsList}
+use Rattle.set_model.specs.Lawful.{IsLawful}
+use Rattle.set_model.proofs.ObjectWords.{word, owned_in_range, key-relink}
+use Rattle.set_model.proofs.Chains.{IsAmong, last_of, last_among, Links-right}
+use Rattle.set_model.proofs.Frames.{IsOf, IsWithin, lawful_by_list}
+use Rattle.set_model.proofs.Mapped.{map_in-holds, is_key-from, is_key-vacant, is_key-other, map_in-none, map_in-less, map_of-catalogue_of, catalogue_set}
+use Rattle.set_model.proofs.Heads.{name_low, name_bound, at_named, is_key_at-to}
+use Rattle.set_model.proofs.ListMaps.{holds-map_at, key_once}
+use Rattle.set_model.proofs.Edits.{is_key-relink, map_in-relink}
 use Rattle.list_set.specs.Places.{IsInList, IsDelPlace, del_writes}
 use Rattle.list_set.proofs.Changes.{Taken, del_list, front_below}
 use Rattle.list_set.proofs.Parts.{part_at, whole_list, in_list_range, relink_owner}

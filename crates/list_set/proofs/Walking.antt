@@ -4,18 +4,18 @@ use Rattle.std.proofs.Common.{◌&&◌, eqb, eqb-true, eq-eqb, List, [], ◌∷�
 use Rattle.std.proofs.lemmas.Bool.{cases_eq, cases_lt, false_from_ne_true}
 use Rattle.mv_history.specs.State.{State}
 use Rattle.mv_history.specs.Meaning.{words_at}
-use Rattle.set_script.specs.Catalogue.{has_key, value_of, next_key}
-use Rattle.set_script.specs.CatalogueOf.{is_key_at, map_at}
-use Rattle.set_script.specs.Objects.{first_node, owner, kind, key, link, value}
-use Rattle.set_script.proofs.ObjectWords.{word, owned_in_range}
-use Rattle.set_script.proofs.Heads.{is_key_at-from, is_key_at-to}
-use Rattle.set_script.proofs.MapLemmas.{has_key-none, has_key-some}
-use Rattle.set_script.proofs.Mapped.{IsMap-map_among}
-use Rattle.set_script.proofs.NextKeys.{next_is, next_none}
-use Rattle.set_script.proofs.ListMaps.{holds-map_at, map_at-holds, map_at-value}
+use Rattle.set_model.specs.Catalogue.{has_key, value_of, next_key}
+use Rattle.set_model.specs.CatalogueOf.{is_key_at, map_at}
+use Rattle.set_model.specs.Objects.{first_node, owner, kind, key, link, value}
+use Rattle.set_model.proofs.ObjectWords.{word, owned_in_range}
+use Rattle.set_model.proofs.Heads.{is_key_at-from, is_key_at-to}
+use Rattle.set_model.proofs.MapLemmas.{has_key-none, has_key-some}
+use Rattle.set_model.proofs.Mapped.{IsMap-map_among}
+use Rattle.set_model.proofs.NextKeys.{next_is, next_none}
+use Rattle.set_model.proofs.ListMaps.{holds-map_at, map_at-holds, map_at-value}
 use Rattle.list_set.specs.Places.{IsInList}
 use Rattle.list_set.specs.Linked.{IsNodeOf, IsLinked}
-use Rattle.list_set.specs.Walks.{walk_left, IsBehind, IsSpot, IsWindow}
+use Rattle.list_set.specs.Walks.{walk_left, IsBehind, IsWindow, IsKeyWindow}
 use Rattle.list_set.proofs.Linking.{head_no_node}
 
 pub left_at : (s : State) (node : ℕ) → node ≢ 0 → walk_left s node ≡ 2 ^ 32 - key s node
@@ -108,14 +108,14 @@ module _ (s : State) (head k p : ℕ) (l : IsLinked s head) (within : IsInList s
     })
 
 -- What the search's loop keeps: `next` is the link of `previous`, an object of the list with a key below k.
-pub record IsSpotLoop (s t : State) (head k previous next : ℕ) : Type 0 where
+pub record IsWindowLoop (s t : State) (head k previous next : ℕ) : Type 0 where
   pub same : t ≡ s
   pub within : IsInList s head previous
   pub leads : next ≡ link s previous
   pub below : (previous ≡ head) ⊎ (key s previous < k)
 
-pub spot_start : (s : State) (head k previous next : ℕ) → IsBehind s head k previous next → IsSpotLoop s s head k previous next
-spot_start s head k previous next b = record { same = refl; within = b.within; leads = b.leads; below = b.below }
+pub window_start : (s : State) (head k previous next : ℕ) → IsBehind s head k previous next → IsWindowLoop s s head k previous next
+window_start s head k previous next b = record { same = refl; within = b.within; leads = b.leads; below = b.below }
 
 -- a walk may go on from the head, whose link was read
 pub behind_head : (s t : State) (head k first : ℕ) → t ≡ s → first ≡ link t head → IsBehind s head k head first
@@ -134,21 +134,21 @@ behind_node s t head k node owned found next same from own is ky lt e =
     }
 
 -- the node to which the link leads
-ahead_node : (s t : State) (head k previous next : ℕ) → IsLinked s head → IsSpotLoop s t head k previous next → next ≢ 0 → IsNodeOf s head next
+ahead_node : (s t : State) (head k previous next : ℕ) → IsLinked s head → IsWindowLoop s t head k previous next → next ≢ 0 → IsNodeOf s head next
 ahead_node s t head k previous next l i n = subst (IsNodeOf s head) (sym i.leads) (l.leads previous i.within (λ z. n (i.leads ∙ z))).0
 
 -- both objects are in range
-pub next_in_range : (s t : State) (head k previous next : ℕ) → IsLinked s head → IsSpotLoop s t head k previous next → next ≢ 0 → next < length s
+pub next_in_range : (s t : State) (head k previous next : ℕ) → IsLinked s head → IsWindowLoop s t head k previous next → next ≢ 0 → next < length s
 next_in_range s t head k previous next l i n = node_in_range s head next (ahead_node s t head k previous next l i n)
 
-pub previous_in_range : (s t : State) (head k previous next : ℕ) → IsLinked s head → IsSpotLoop s t head k previous next → previous < length s
+pub previous_in_range : (s t : State) (head k previous next : ℕ) → IsLinked s head → IsWindowLoop s t head k previous next → previous < length s
 previous_in_range s t head k previous next l i = elim i.within [
   | inl e ↦ subst (λ (u : ℕ). u < length s) (sym e) l.here
   | inr j ↦ node_in_range s head previous j
 ]
 
 -- The key and the link of the node that comes next were read.
-module _ (s t : State) (head k previous node : ℕ) (l : IsLinked s head) (i : IsSpotLoop s t head k previous node) (n : node ≢ 0) where
+module _ (s t : State) (head k previous node : ℕ) (l : IsLinked s head) (i : IsWindowLoop s t head k previous node) (n : node ≢ 0) where
   ahead_is : IsNodeOf s head node
   ahead_is = ahead_node s t head k previous node l i n
 
@@ -162,14 +162,14 @@ module _ (s t : State) (head k previous node : ℕ) (l : IsLinked s head) (i : I
         let b : walk_left u next ≡ walk_left s (link s node) = ap (λ (v : State). walk_left v next) (f ∙ i.same) ∙ ap (walk_left s) next_link in
         let lt : walk_left s (link s node) < walk_left s node = list_falls s head node l ahead_is in omega arith
 
-    pub spot_step : (found : ℕ) → found ≡ key t node → found < k → IsSpotLoop s u head k node next
-    spot_step found is lt =
+    pub window_step : (found : ℕ) → found ≡ key t node → found < k → IsWindowLoop s u head k node next
+    window_step found is lt =
         let ky : found ≡ key s node = is ∙ ap (λ (v : State). key v node) i.same in
         record { same = f ∙ i.same; within = inr ahead_is; leads = next_link; below = inr (omega arith) }
 
   module _ (found : ℕ) (is : found ≡ key t node) (le : k ≤ found) where
-    pub window_found : IsWindow s head k previous node found
-    window_found =
+    pub key_window_found : IsKeyWindow s head k previous node found
+    key_window_found =
         let own : found ≡ key s node = is ∙ ap (λ (v : State). key v node) i.same in
         let fit : key s node < 2 ^ 32 = l.fits node ahead_is in
         let some : link s previous ≢ 0 = λ z. n (i.leads ∙ z) in
@@ -193,9 +193,9 @@ module _ (s t : State) (head k previous node : ℕ) (l : IsLinked s head) (i : I
               ∙ sym (node_least s head k previous l i.within i.below some up);
         }
 
-pub window_end : (s t : State) (head k previous next : ℕ) → IsLinked s head → IsSpotLoop s t head k previous next → next ≡ 0
-    → IsWindow s head k previous 0 0
-window_end s t head k previous next l i e =
+pub key_window_end : (s t : State) (head k previous next : ℕ) → IsLinked s head → IsWindowLoop s t head k previous next → next ≡ 0
+    → IsKeyWindow s head k previous 0 0
+key_window_end s t head k previous next l i e =
     let z : link s previous ≡ 0 = sym i.leads ∙ e in
     let none : has_key k (map_at s head) ≡ false = end_has s head k previous l i.within i.below z in
     record {
@@ -209,18 +209,18 @@ window_end s t head k previous next l i e =
       least = sym (end_least s head k previous l i.within i.below z);
     }
 
--- both objects of a window are in range
-module _ (s : State) (head k previous node found : ℕ) (l : IsLinked s head) (w : IsWindow s head k previous node found) where
-  pub window_previous : previous < length s
-  window_previous = previous_in_range s s head k previous node l (record { same = refl; within = w.within; leads = w.next; below = w.below })
+-- both objects of a key_window are in range
+module _ (s : State) (head k previous node found : ℕ) (l : IsLinked s head) (w : IsKeyWindow s head k previous node found) where
+  pub key_window_previous : previous < length s
+  key_window_previous = previous_in_range s s head k previous node l (record { same = refl; within = w.within; leads = w.next; below = w.below })
 
-  pub window_node : node ≢ 0 → node < length s
-  window_node n = next_in_range s s head k previous node l (record { same = refl; within = w.within; leads = w.next; below = w.below }) n
+  pub key_window_node : node ≢ 0 → node < length s
+  key_window_node n = next_in_range s s head k previous node l (record { same = refl; within = w.within; leads = w.next; below = w.below }) n
 
 -- where a walk ended at no node there is none to read
-pub spot_none : (s : State) (head k previous node found : ℕ) (words : List ℕ) → IsWindow s head k previous node found → node ≡ 0
-    → words ≡ words_at s previous → IsSpot s head k previous words node (0 ∷ 0 ∷ 0 ∷ 0 ∷ 0 ∷ 0 ∷ [])
-spot_none s head k previous node found words w z words_are =
+pub window_none : (s : State) (head k previous node found : ℕ) (words : List ℕ) → IsKeyWindow s head k previous node found → node ≡ 0
+    → words ≡ words_at s previous → IsWindow s head k previous words node (0 ∷ 0 ∷ 0 ∷ 0 ∷ 0 ∷ 0 ∷ [])
+window_none s head k previous node found words w z words_are =
     let off : (x : ℕ) → (not (eqb node 0) && eqb x k) ≡ false = λ x. ap (λ (u : ℕ). not (eqb u 0) && eqb x k) z in
     record {
       within = w.within;
@@ -234,10 +234,10 @@ spot_none s head k previous node found words w z words_are =
       least = ap (λ (u : ℕ). cond (eqb u 0) None (Some 0)) z ∙ sym (ap (λ (u : ℕ). cond (eqb u 0) None (Some found)) z) ∙ w.least;
     }
 
--- where it ended at a node, both objects' words make it a spot
-pub spot_read : (s : State) (head k previous node found : ℕ) (words node_words : List ℕ) → IsWindow s head k previous node found → node ≢ 0
-    → words ≡ words_at s previous → node_words ≡ words_at s node → IsSpot s head k previous words node node_words
-spot_read s head k previous node found words node_words w n words_are read = elim w.found [
+-- where it ended at a node, both objects' words make it a window
+pub window_read : (s : State) (head k previous node found : ℕ) (words node_words : List ℕ) → IsKeyWindow s head k previous node found → node ≢ 0
+    → words ≡ words_at s previous → node_words ≡ words_at s node → IsWindow s head k previous words node node_words
+window_read s head k previous node found words node_words w n words_are read = elim w.found [
   | inl z ↦ absurd (n z)
   | inr r ↦
       let same : word 2 node_words ≡ found = ap (word 2) read ∙ sym r.key_is in

@@ -1,9 +1,9 @@
 -- What the calls that lock leave, by their answers.
 use Rattle.std.specs.Prelude.{ℕ, ◌≡◌, [], ◌∷◌}
 use Rattle.mv_history.specs.Meaning.{InSection, state_of}
-use Rattle.set_script.specs.Catalogue.{with_key, without_key}
-use Rattle.set_script.specs.CatalogueOf.{name_of, catalogue_of}
-use Rattle.set_script.specs.Lawful.{IsLawful}
+use Rattle.set_model.specs.Catalogue.{with_key, without_key}
+use Rattle.set_model.specs.CatalogueOf.{name_of, catalogue_of}
+use Rattle.set_model.specs.Lawful.{IsLawful}
 use Rattle.list_set.specs.Places.{IsAddPlace, add_writes, IsDelPlace, del_writes, IsPutPlace, put_writes}
 use Rattle.section_work.specs.Locking.{Rewritten}
 

@@ -1,8 +1,8 @@
 -- A section of 186 objects in which tests fill one node after another.
 use Rattle.std.specs.Prelude.{ℕ, ◌+◌, ◌*◌, ◌≡◌, ◌≤◌, length}
 use Rattle.mv_history.specs.Meaning.{InSection, state_of}
-use Rattle.set_script.specs.Lawful.{IsLawful}
-use Rattle.set_script.specs.Objects.{owner}
+use Rattle.set_model.specs.Lawful.{IsLawful}
+use Rattle.set_model.specs.Objects.{owner}
 
 -- the first n nodes at most are not vacant, and at most two objects for each of them are held
 pub record IsFilled (s : InSection) (n : ℕ) : Type 0 where

@@ -1,6 +1,6 @@
 pub mod Places
 pub mod Calls
 pub mod Walks
-pub mod Spots
+pub mod Windows
 pub mod Filling
 pub mod Linked

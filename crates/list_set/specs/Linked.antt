@@ -1,7 +1,7 @@
 -- A list by its links alone.
 use Rattle.std.specs.Prelude.{ℕ, suc, ◌≡◌, ◌≢◌, ◌^◌, ◌<◌, ◌≤◌, length}
 use Rattle.mv_history.specs.State.{State}
-use Rattle.set_script.specs.Objects.{first_node, owner, kind, key, link}
+use Rattle.set_model.specs.Objects.{first_node, owner, kind, key, link}
 use Rattle.list_set.specs.Places.{IsInList}
 
 -- the object is a node of the head's list

@@ -2,7 +2,7 @@
 use Rattle.std.specs.Prelude.{ℕ, suc, ◌≡◌, ◌≢◌, ◌<◌, ◌≤◌, ◌⊎◌, [], ◌∷◌}
 use Rattle.mv_history.specs.State.{State, Writes}
 use Rattle.mv_history.specs.Meaning.{words_at}
-use Rattle.set_script.specs.Objects.{first_node, owner, key, link, list_words, no_words, relink, revalue}
+use Rattle.set_model.specs.Objects.{first_node, owner, key, link, list_words, no_words, relink, revalue}
 
 -- the object is the head, or a node of its list
 abbrev pub IsInList : State → ℕ → ℕ → Type 0

@@ -3,9 +3,9 @@ use Rattle.std.specs.Prelude.{ℕ, suc, ◌≡◌, ◌-◌, ◌^◌, ◌<◌, �
 use Rattle.std.specs.Prelude.{slice_index_or, Some, None, if◌then◌else◌}
 use Rattle.mv_history.specs.State.{State}
 use Rattle.mv_history.specs.Meaning.{words_at}
-use Rattle.set_script.specs.Catalogue.{has_key, value_of, next_key}
-use Rattle.set_script.specs.CatalogueOf.{map_at}
-use Rattle.set_script.specs.Objects.{first_node, owner, key, link, value}
+use Rattle.set_model.specs.Catalogue.{has_key, value_of, next_key}
+use Rattle.set_model.specs.CatalogueOf.{map_at}
+use Rattle.set_model.specs.Objects.{first_node, owner, key, link, value}
 use Rattle.list_set.specs.Places.{IsInList}
 
 -- how far a walk can go on: keys rise, and are below 2^32
@@ -26,7 +26,7 @@ pub record IsFound (s : State) (head k node : ℕ) (words : List ℕ) : Type 0 w
   pub above : k ≤ key s node
 
 -- What a search for key k found: the first node whose key is not below k, 0 at the end, and its predecessor, both with their words.
-pub record IsSpot (s : State) (head k previous : ℕ) (words : List ℕ) (node : ℕ) (node_words : List ℕ) : Type 0 where
+pub record IsWindow (s : State) (head k previous : ℕ) (words : List ℕ) (node : ℕ) (node_words : List ℕ) : Type 0 where
   pub within : IsInList s head previous
   pub words_are : words ≡ words_at s previous
   pub below : (previous ≡ head) ⊎ (key s previous < k)
@@ -45,7 +45,7 @@ pub record IsReached (s : State) (head k node node_key : ℕ) : Type 0 where
   pub above : k ≤ node_key
 
 -- What a walk for key k found by keys alone: the first node whose key is not below k, 0 at the end, with its key, and its predecessor.
-pub record IsWindow (s : State) (head k previous node node_key : ℕ) : Type 0 where
+pub record IsKeyWindow (s : State) (head k previous node node_key : ℕ) : Type 0 where
   pub within : IsInList s head previous
   pub below : (previous ≡ head) ⊎ (key s previous < k)
   pub next : node ≡ link s previous

@@ -1,13 +1,13 @@
 // Searches that begin at a node where an earlier one ended.
 ghost use Rattle.std.specs.Prelude.{◌≡◌, ◌<◌, ◌≤◌, IfSome};
-ghost use Rattle.set_script.specs.Catalogue.{has_key, value_of, next_key};
-ghost use Rattle.set_script.specs.CatalogueOf.{map_at};
-ghost use Rattle.set_script.specs.Lawful.{IsLawful};
-ghost use Rattle.list_set.specs.Spots.{EndsHere, StopsHere};
+ghost use Rattle.set_model.specs.Catalogue.{has_key, value_of, next_key};
+ghost use Rattle.set_model.specs.CatalogueOf.{map_at};
+ghost use Rattle.set_model.specs.Lawful.{IsLawful};
+ghost use Rattle.list_set.specs.Windows.{EndsHere, StopsHere};
 ghost use Rattle.list_set.specs.Walks.{IsBehind};
 
-use crate::search::{Spot, spot_at};
-use crate::window::{KEY, Window, walk_from};
+use crate::key_window::{KEY, KeyWindow, walk_from};
+use crate::search::{Window, window_at};
 use mv_history::View;
 use std::alloc::{AllocError, Global};
 
@@ -69,16 +69,16 @@ impl Finger {
     }
 
     // The last node before the key that was looked for, or the first node where none is before it.
-    fn at(window: &Window) -> Finger {
-        if window.previous >= FIRST_NODE {
+    fn at(key_window: &KeyWindow) -> Finger {
+        if key_window.previous >= FIRST_NODE {
             Finger {
-                node: window.previous,
-                key: window.previous_key,
+                node: key_window.previous,
+                key: key_window.previous_key,
             }
         } else {
             Finger {
-                node: window.node,
-                key: window.node_key,
+                node: key_window.node,
+                key: key_window.node_key,
             }
         }
     }
@@ -191,14 +191,14 @@ fn is_long(head: u32, passed: u32) -> bool {
 /// It needs what `find` needs. It begins at the finger of the list with the greatest key below `key`
 /// where that still is a node of the list, and else at the head; from there on it reads as `find` does.
 /// A long walk leaves a finger. It takes no memory.
-pub fn find_near<V: View>(view: &mut V, fingers: &mut Fingers, head: u32, key: u32) -> Spot
+pub fn find_near<V: View>(view: &mut V, fingers: &mut Fingers, head: u32, key: u32) -> Window
     requires head_in { head < 170 }
     requires lawful { IsLawful (V.state view.old) }
-    ensures spot { EndsHere (V.state view.old) head key result }
+    ensures window { EndsHere (V.state view.old) head key result }
     ensures as_before { V.as_before view.old view.new }
 {
-    let window = walk_near(view, fingers, head, key);
-    spot_at(view, head, key, window)
+    let key_window = walk_near(view, fingers, head, key);
+    window_at(view, head, key, key_window)
 }
 
 /// Whether the list of this head has the key, as `has_in` answers it.
@@ -224,9 +224,9 @@ pub fn get_near<V: View>(view: &mut V, fingers: &mut Fingers, head: u32, key: u3
     ensures value { result ≡ value_of key (map_at (V.state view.old) head) }
     ensures as_before { V.as_before view.old view.new }
 {
-    let window = walk_near(view, fingers, head, key);
-    if window.has(key) {
-        let (_, value) = view.read_pair(window.node, BEFORE_VALUE);
+    let key_window = walk_near(view, fingers, head, key);
+    if key_window.has(key) {
+        let (_, value) = view.read_pair(key_window.node, BEFORE_VALUE);
         Some(value)
     } else {
         None
@@ -248,7 +248,7 @@ pub fn next_near<V: View>(view: &mut V, fingers: &mut Fingers, head: u32, key: u
 
 // Where the key is, or belongs, in the list of the head, by keys alone. It begins at a finger, and a long
 // walk leaves one.
-fn walk_near<V: View>(view: &mut V, fingers: &mut Fingers, head: u32, key: u32) -> Window
+fn walk_near<V: View>(view: &mut V, fingers: &mut Fingers, head: u32, key: u32) -> KeyWindow
     requires head_in { head < 170 }
     requires lawful { IsLawful (V.state view.old) }
     ensures stops { StopsHere (V.state view.old) head key result }
@@ -256,13 +256,13 @@ fn walk_near<V: View>(view: &mut V, fingers: &mut Fingers, head: u32, key: u32) 
 {
     let (place, finger) = fingers.nearest(head, key);
     let (from, first) = begin(view, head, key, finger);
-    let (window, passed) = walk_from(view, head, key, from, finger.key, first);
+    let (key_window, passed) = walk_from(view, head, key, from, finger.key, first);
     if finger.node != 0 && from == head {
-        fingers.keep(place, Finger::at(&window));
+        fingers.keep(place, Finger::at(&key_window));
     } else if is_long(head, passed) {
-        fingers.keep_more(head, Finger::at(&window));
+        fingers.keep_more(head, Finger::at(&key_window));
     }
-    window
+    key_window
 }
 
 // Where a walk along the list of the head begins that looks for the key, and the link there: at the

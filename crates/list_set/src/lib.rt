@@ -5,8 +5,8 @@
 //! The heads are objects 0 to 169: those of the lists `l0` to `l9`, and those of the sixteen buckets
 //! of each hash table. A state is lawful where each head leads through nodes with strictly rising
 //! keys, in a bucket of its remainder alone, and each node is vacant or in the list of the head that
-//! it names (`set_script::specs::Lawful`). A lawful state stands for a catalogue
-//! (`set_script::specs::CatalogueOf`): the map of a list's name has the keys of its nodes with their
+//! it names (`set_model::specs::Lawful`). A lawful state stands for a catalogue
+//! (`set_model::specs::CatalogueOf`): the map of a list's name has the keys of its nodes with their
 //! values, and the map of a hash table's name those of its sixteen buckets. `map_at` is the map of
 //! one head alone. These definitions fold over the nodes and follow no link, so a clause about them
 //! says nothing of how a list is walked.
@@ -23,10 +23,10 @@
 //!
 //! Each call of a key makes one walk, which reads the key and the link of each object up to the key. A
 //! call that only asks is answered by that, and by the value of one node. `find` reads all words of the
-//! two objects between which the walk ended too, and answers a `Spot`, which says whether the key is
+//! two objects between which the walk ended too, and answers a `Window`, which says whether the key is
 //! there and gives the writes of an add, a del or a put with no other read. A changing call decides by
-//! that spot alone, and ends with `section_work::rewrite`, which locks some objects in order and then
-//! writes them. Who decides before anything is locked takes the spot and its writes, and then calls
+//! that window alone, and ends with `section_work::rewrite`, which locks some objects in order and then
+//! writes them. Who decides before anything is locked takes the window and its writes, and then calls
 //! `rewrite`.
 //!
 //! `find_near`, `has_near`, `get_near` and `next_near` answer as `find`, `has_in`, `get_in` and `next_in`
@@ -54,16 +54,16 @@
 //! # Its place
 //!
 //! It stands on `mv_history`, whose traits `View` and `Section` it is generic over, on `section_work`,
-//! whose `rewrite` locks and writes, and on `set_script`, which has the definitions. It knows no store.
+//! whose `rewrite` locks and writes, and on `set_model`, which has the definitions. It knows no store.
 #![tactic(auto)]
 
 mod answers;
 mod fingers;
+mod key_window;
 mod lists;
 mod search;
-mod window;
 
 pub use answers::{Removed, SetStep};
 pub use fingers::{Fingers, find_near, get_near, has_near, next_near};
 pub use lists::{add_in, del_in, get_in, has_in, next_in, put_in, size_in, size_linked};
-pub use search::{Spot, find, find_linked};
+pub use search::{Window, find, find_linked};

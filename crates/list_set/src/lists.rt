@@ -1,11 +1,11 @@
 // The calls.
 ghost use Rattle.std.specs.Prelude.{true, false, ◌≡◌, ℕ, ◌<◌, ◌≤◌, ◌↔◌, [], ◌∷◌, length, Some};
 ghost use Rattle.mv_history.specs.Meaning.{state_of};
-ghost use Rattle.set_script.specs.Catalogue.{has_key, value_of, next_key};
-ghost use Rattle.set_script.specs.CatalogueOf.{map_at};
-ghost use Rattle.set_script.specs.Lawful.{IsLawful};
-ghost use Rattle.set_script.specs.Lists.{FitsHead};
-ghost use Rattle.set_script.specs.Objects.{owner, most_objects};
+ghost use Rattle.set_model.specs.Catalogue.{has_key, value_of, next_key};
+ghost use Rattle.set_model.specs.CatalogueOf.{map_at};
+ghost use Rattle.set_model.specs.Lawful.{IsLawful};
+ghost use Rattle.set_model.specs.Lists.{FitsHead};
+ghost use Rattle.set_model.specs.Objects.{owner, most_objects};
 ghost use Rattle.list_set.specs.Places.{IsAddPlace, IsDelPlace, IsPutPlace};
 ghost use Rattle.section_work.specs.Held.{HasRoom};
 ghost use Rattle.list_set.specs.Linked.{IsLinked};
@@ -17,10 +17,11 @@ ghost use Rattle.list_set.specs.declared.answers.Removed.TheVariants.{Took, Abse
 
 use crate::answers::{Removed, SetStep};
 use crate::fingers::{Fingers, get_near, has_near, next_near};
+use crate::key_window::KEY;
 use crate::search::find;
-use crate::window::KEY;
 use mv_history::{Section, View};
 use section_work::rewrite;
+use set_model::word;
 
 /// Whether the list of this head has the key.
 ///
@@ -122,11 +123,11 @@ pub fn add_in<S: Section>(section: &mut S, head: u32, key: u32, value: u64, node
     ensures again { (refusal : Refusal) → result ≡ Again refusal → (previous : ℕ) × IsAddPlace (state_of (S.section section.old)) head key previous
         × Refuses S.may_refuse S.found_held (S.section section.old) (S.section section.new) (previous ∷ node ∷ []) refusal }
 {
-    let spot = find(section, head, key);
-    if spot.has(key) {
+    let window = find(section, head, key);
+    if window.has(key) {
         return SetStep::No;
     }
-    match rewrite(section, &spot.add_writes(head, key, value, node)) {
+    match rewrite(section, &window.add_writes(head, key, value, node)) {
         Ok(()) => SetStep::Yes,
         Err(refusal) => SetStep::Again(refusal),
     }
@@ -156,11 +157,11 @@ pub fn put_in<S: Section>(section: &mut S, head: u32, key: u32, value: u64) -> S
     ensures again { (refusal : Refusal) → result ≡ Again refusal → (node : ℕ) × IsPutPlace (state_of (S.section section.old)) head key node
         × Refuses S.may_refuse S.found_held (S.section section.old) (S.section section.new) (node ∷ []) refusal }
 {
-    let spot = find(section, head, key);
-    if spot.node_words[5] == value {
+    let window = find(section, head, key);
+    if window.node_words[word::VALUE] == value {
         return SetStep::No;
     }
-    match rewrite(section, &spot.put_writes(value)) {
+    match rewrite(section, &window.put_writes(value)) {
         Ok(()) => SetStep::Yes,
         Err(refusal) => SetStep::Again(refusal),
     }
@@ -194,13 +195,13 @@ pub fn del_in<S: Section>(section: &mut S, head: u32, key: u32) -> Removed
         → (previous node : ℕ) × IsDelPlace (state_of (S.section section.old)) head key previous node
         × Refuses S.may_refuse S.found_held (S.section section.old) (S.section section.new) (previous ∷ node ∷ []) refusal }
 {
-    let spot = find(section, head, key);
-    if !spot.has(key) {
+    let window = find(section, head, key);
+    if !window.has(key) {
         return Removed::Absent;
     }
-    match rewrite(section, &spot.del_writes()) {
+    match rewrite(section, &window.del_writes()) {
         Ok(()) => Removed::Took {
-            node: spot.node,
+            node: window.node,
             inner: 0,
         },
         Err(refusal) => Removed::Again(refusal),

@@ -1,31 +1,32 @@
 // The search for a key, and what a change writes where it ended.
 ghost use Rattle.std.specs.Prelude.{◌≡◌, ◌<◌, ◌≤◌, ◌==◌, ◌&&◌, not, [], ◌∷◌, length, slice_index_or};
-ghost use Rattle.set_script.specs.Lawful.{IsLawful};
+ghost use Rattle.set_model.specs.Lawful.{IsLawful};
 ghost use Rattle.section_work.specs.OwnWrites.{objects_of};
 ghost use Rattle.list_set.specs.Linked.{IsLinked};
-ghost use Rattle.list_set.specs.Spots.{EndsHere, StopsHere, AreAddWrites, AreDelWrites, ArePutWrites};
-ghost use Rattle.set_script.specs.Objects.{most_objects};
+ghost use Rattle.list_set.specs.Windows.{EndsHere, StopsHere, AreAddWrites, AreDelWrites, ArePutWrites};
+ghost use Rattle.set_model.specs.Objects.{most_objects};
 
-use crate::window::{KEY, Window, walk_from};
+use crate::key_window::{KEY, KeyWindow, walk_from};
 use mv_history::{View, Words};
+use set_model::word;
 
 /// Where a search for a key ended: at the first node whose key is not below the one looked for, or
 /// at 0 behind the last node. `previous` is its predecessor, the head or a node. Both have their
 /// words here, so that a change is known without another read.
 #[derive(Clone, Copy)]
-pub struct Spot {
+pub struct Window {
     pub previous: u32,
     pub words: Words,
     pub node: u32,
     pub node_words: Words,
 }
 
-impl Spot {
+impl Window {
     /// Whether the node has this key.
     pub fn has(&self, key: u32) -> bool
         ensures { result ≡ (not (self.now.node == 0) && (slice_index_or self.now.node_words 2 0 == key)) }
     {
-        self.node != 0 && self.node_words[2] == key as u64
+        self.node != 0 && self.node_words[word::KEY] == key as u64
     }
 
     /// The writes of an add of the key that was looked for, with this value, in this new node: the
@@ -35,7 +36,7 @@ impl Spot {
         ensures objects { objects_of result ≡ self.now.previous ∷ node ∷ [] }
     {
         let mut words = self.words;
-        words[3] = node as u64;
+        words[word::NEXT] = node as u64;
         let node_words = [head as u64 + 1, 0, key as u64, self.node as u64, 0, value];
         [(self.previous, words), (node, node_words)]
     }
@@ -46,7 +47,7 @@ impl Spot {
         ensures objects { objects_of result ≡ self.now.previous ∷ self.now.node ∷ [] }
     {
         let mut words = self.words;
-        words[3] = self.node_words[3];
+        words[word::NEXT] = self.node_words[word::NEXT];
         [(self.previous, words), (self.node, [0; 6])]
     }
 
@@ -56,7 +57,7 @@ impl Spot {
         ensures objects { objects_of result ≡ self.now.node ∷ [] }
     {
         let mut words = self.node_words;
-        words[5] = value;
+        words[word::VALUE] = value;
         [(self.node, words)]
     }
 }
@@ -66,10 +67,10 @@ impl Spot {
 /// It needs a lawful state and the head of a list or a bucket, 0 to 169. It reads the key and the link
 /// of each object of the list up to the first node whose key is not below `key`, and then all words of
 /// that node and of its predecessor. It never refuses, and takes no memory.
-pub fn find<V: View>(view: &mut V, head: u32, key: u32) -> Spot
+pub fn find<V: View>(view: &mut V, head: u32, key: u32) -> Window
     requires head_in { head < 170 }
     requires lawful { IsLawful (V.state view.old) }
-    ensures spot { EndsHere (V.state view.old) head key result }
+    ensures window { EndsHere (V.state view.old) head key result }
     ensures as_before { V.as_before view.old view.new }
 {
     find_linked(view, head, key)
@@ -79,29 +80,29 @@ pub fn find<V: View>(view: &mut V, head: u32, key: u32) -> Spot
 /// that name it, whatever else the state has.
 ///
 /// It needs such a head, and at most 16,777,216 objects. It reads as `find` does.
-pub fn find_linked<V: View>(view: &mut V, head: u32, key: u32) -> Spot
+pub fn find_linked<V: View>(view: &mut V, head: u32, key: u32) -> Window
     requires linked { IsLinked (V.state view.old) head }
     requires few { length (V.state view.old) ≤ most_objects }
-    ensures spot { EndsHere (V.state view.old) head key result }
+    ensures window { EndsHere (V.state view.old) head key result }
     ensures as_before { V.as_before view.old view.new }
 {
     let (_, link) = view.read_pair(head, KEY);
-    let (window, _) = walk_from(view, head, key, head, 0, link);
-    spot_at(view, head, key, window)
+    let (key_window, _) = walk_from(view, head, key, head, 0, link);
+    window_at(view, head, key, key_window)
 }
 
-// The spot of a walk that ended here: it reads all words of both objects.
-pub(crate) fn spot_at<V: View>(view: &mut V, head: u32, key: u32, window: Window) -> Spot
+// The window of a walk that ended here: it reads all words of both objects.
+pub(crate) fn window_at<V: View>(view: &mut V, head: u32, key: u32, key_window: KeyWindow) -> Window
     requires linked { IsLinked (V.state view.old) head }
     requires few { length (V.state view.old) ≤ most_objects }
-    requires stops { StopsHere (V.state view.old) head key window }
-    ensures spot { EndsHere (V.state view.old) head key result }
+    requires stops { StopsHere (V.state view.old) head key key_window }
+    ensures window { EndsHere (V.state view.old) head key result }
     ensures as_before { V.as_before view.old view.new }
 {
-    let Window { previous, node, .. } = window;
+    let KeyWindow { previous, node, .. } = key_window;
     let words = view.read(previous);
     let node_words = if node == 0 { [0; 6] } else { view.read(node) };
-    Spot {
+    Window {
         previous,
         words,
         node,

@@ -1,5 +1,5 @@
 -- Moves: that each keeps the rule, and that there is one history.
-pub mod Grown
+pub mod LaterHistory
 pub mod Kept
 pub mod Calls
 pub mod Kinds

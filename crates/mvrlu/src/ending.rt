@@ -19,7 +19,7 @@ use object_lock::mv_core::{Shared, Steps};
 use std::sync::ledger::{Blank, Ledger};
 
 // Tries to commit what is held.
-pub(crate) fn committed<P: Protocol, L: Ledger>(
+pub(crate) fn commit_at<P: Protocol, L: Ledger>(
     shared: &Shared<P>,
     busy: Busy<P>,
     tag: Tag,
@@ -56,7 +56,7 @@ pub(crate) fn committed<P: Protocol, L: Ledger>(
 }
 
 // Gives up what is held.
-pub(crate) fn aborted<P: Protocol, L: Ledger>(
+pub(crate) fn abort_at<P: Protocol, L: Ledger>(
     shared: &Shared<P>,
     busy: Busy<P>,
     blank: Blank,
@@ -78,7 +78,7 @@ pub(crate) fn aborted<P: Protocol, L: Ledger>(
 }
 
 // Leaves a section that holds nothing.
-pub(crate) fn left<P: Protocol, L: Ledger>(
+pub(crate) fn leave_at<P: Protocol, L: Ledger>(
     shared: &Shared<P>,
     busy: Busy<P>,
     blank: Blank,
@@ -93,5 +93,5 @@ pub(crate) fn left<P: Protocol, L: Ledger>(
     ensures aborts { result.log.aborts ≡ busy.log.aborts }
     ensures bound { MakesAtMost (section_from busy).seat (seat_from result) 1 }
 {
-    aborted::<P, L>(shared, busy, blank)
+    abort_at::<P, L>(shared, busy, blank)
 }

@@ -13,7 +13,7 @@ use object_lock::reader_marks::enter;
 use std::sync::ledger::{Blank, Ledger};
 
 // Begins a section.
-pub(crate) fn entered<P: Protocol, L: Ledger>(
+pub(crate) fn enter_at<P: Protocol, L: Ledger>(
     shared: &Shared<P>,
     idle: Idle<P>,
     blank: Blank,

@@ -13,7 +13,7 @@ use std::marker::Brand;
 use std::sync::ledger::{Blank, Ledger};
 
 // Scans the marks of all seats, and answers the time of the watermark.
-pub(crate) fn scanned<P: Protocol, L: Ledger>(
+pub(crate) fn scan_at<P: Protocol, L: Ledger>(
     shared: &Shared<P>,
     idle: &mut Idle<P>,
     blank: Blank,
@@ -50,6 +50,6 @@ impl<'d, P: Protocol> Handle<'d, P> {
     {
         let domain = self.domain;
         let seat = &mut self.seat;
-        scanned::<P, Brand>(&domain.shared, &mut seat.idle, Blank::new(1))
+        scan_at::<P, Brand>(&domain.shared, &mut seat.idle, Blank::new(1))
     }
 }

@@ -2,8 +2,8 @@
 ghost use Rattle.mvrlu.specs.Placed.{Fits};
 
 use crate::domain::{Domain, Seat};
-use crate::entering::entered;
-use crate::reclaiming::{made_room, tidied};
+use crate::entering::enter_at;
+use crate::reclaiming::{make_room, tidy_at};
 use crate::session::{SectionState, Session};
 use log_reclaim::Tidy;
 use mv_history::{LogTable, Protocol, Room, Section, Store};
@@ -69,7 +69,7 @@ impl<'d, P: Protocol> Store for Handle<'d, P> {
     {
         let domain = self.domain;
         let seat = &mut self.seat;
-        made_room::<P, Brand>(&domain.shared, &mut seat.idle, Blank::new(1))
+        make_room::<P, Brand>(&domain.shared, &mut seat.idle, Blank::new(1))
     }
 
     fn enter(self) -> Session<'d, P>
@@ -80,7 +80,7 @@ impl<'d, P: Protocol> Store for Handle<'d, P> {
     {
         let Handle { domain, seat } = self;
         let Seat { idle } = seat;
-        let busy = entered::<P, Brand>(&domain.shared, idle, Blank::new(1));
+        let busy = enter_at::<P, Brand>(&domain.shared, idle, Blank::new(1));
         let part = SectionState { busy };
         Session { domain, part }
     }
@@ -132,7 +132,7 @@ impl<'d, P: Protocol> Handle<'d, P> {
     {
         let domain = self.domain;
         let seat = &mut self.seat;
-        tidied::<P, Brand>(&domain.shared, &mut seat.idle, Blank::new(1))
+        tidy_at::<P, Brand>(&domain.shared, &mut seat.idle, Blank::new(1))
     }
 
     /// The counts of the seat's log, each by its definition: `commits` and `rests` by the seat's part of the

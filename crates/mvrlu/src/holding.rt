@@ -20,7 +20,7 @@ use object_lock::{lock_new, write};
 use std::sync::ledger::{Blank, Ledger};
 
 // The note of the section's version of an object, if it holds the object.
-fn noted(log: &Log, object: u32) -> Option<Note>
+fn find_note(log: &Log, object: u32) -> Option<Note>
     ensures some { IfSome result (λ n. (i : ℕ) × IsNoteAt log.now i n × (held_from log.now ≤ i) × (n.object ≡ object)) }
     ensures none { IfNone result (HoldsObject log.now object → ⊥) }
 {
@@ -43,14 +43,14 @@ pub(crate) fn held_words<P: Protocol>(busy: &Busy<P>, object: u32) -> Option<Wor
     ensures none { IfNone result (Lacks (section_from busy.now) object) }
     ensures lawful { IsSection P.start P.allowed (section_from busy.now) }
 {
-    match noted(&busy.place.log, object) {
+    match find_note(&busy.place.log, object) {
         Some(version) => Some(version.words),
         None => None,
     }
 }
 
 // Tries to hold an object that isn't held, with the given words, or else with those that the section reads.
-pub(crate) fn locked<P: Protocol, L: Ledger>(
+pub(crate) fn lock_at<P: Protocol, L: Ledger>(
     shared: &Shared<P>,
     busy: &mut Busy<P>,
     object: u32,
@@ -84,7 +84,7 @@ pub(crate) fn locked<P: Protocol, L: Ledger>(
 }
 
 // Gives a held object these words.
-pub(crate) fn written<P: Protocol, L: Ledger>(
+pub(crate) fn write_at<P: Protocol, L: Ledger>(
     shared: &Shared<P>,
     busy: &mut Busy<P>,
     object: u32,

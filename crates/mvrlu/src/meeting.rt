@@ -33,7 +33,7 @@ fn pass_of<P: Protocol>(shared: &Shared<P>, seat: Seat<P>) -> Pass<P>
 }
 
 // The table of each of these seats' logs, in their order. There is room for them. It takes no memory.
-fn taken<P: Protocol>(seats: &[Seat<P>], mut tables: Vec<LogTable>) -> Vec<LogTable>
+fn take_tables<P: Protocol>(seats: &[Seat<P>], mut tables: Vec<LogTable>) -> Vec<LogTable>
     requires none { length tables.items ≡ 0 }
     requires room { length seats.now ≤ vec_capacity tables }
     ensures taken { AreTablesOf (map seat_of seats.now) result.items }
@@ -45,7 +45,7 @@ fn taken<P: Protocol>(seats: &[Seat<P>], mut tables: Vec<LogTable>) -> Vec<LogTa
 }
 
 // Joins all these seats into the last of them.
-fn joined<P: Protocol, L: Ledger>(
+fn join_all<P: Protocol, L: Ledger>(
     shared: &Shared<P>,
     mut seats: Vec<Seat<P>>,
     steps: &mut Steps<L>,
@@ -70,7 +70,7 @@ fn joined<P: Protocol, L: Ledger>(
 }
 
 // Meets, with a counter of steps.
-fn met<P: Protocol, L: Ledger>(
+fn meet_at<P: Protocol, L: Ledger>(
     domain: Domain<P>,
     seats: Vec<Seat<P>>,
     steps: &mut Steps<L>,
@@ -86,8 +86,8 @@ fn met<P: Protocol, L: Ledger>(
     ensures cost { steps.new ≤ steps.old + ((numbers_of domain).seats + 7) }
 {
     let Domain { shared, room } = domain;
-    let tables = taken(&seats, room);
-    let mut pass = joined(&shared, seats, steps);
+    let tables = take_tables(&seats, room);
+    let mut pass = join_all(&shared, seats, steps);
     let _ = shared.load_joined(&mut pass, steps);
     let _ = enter(&shared, &mut pass, steps);
     let _ = shared.load_joined(&mut pass, steps);
@@ -99,7 +99,11 @@ fn met<P: Protocol, L: Ledger>(
 }
 
 // Meets, with a counter of its own.
-fn begun<P: Protocol, L: Ledger>(domain: Domain<P>, seats: Vec<Seat<P>>, blank: Blank) -> Last<P>
+fn begin_meeting<P: Protocol, L: Ledger>(
+    domain: Domain<P>,
+    seats: Vec<Seat<P>>,
+    blank: Blank,
+) -> Last<P>
     requires name { blank.name ≡ L.name }
     requires parts { (blank.parts ≡ L.parts) × (0 < L.parts) }
     requires all { AreAll domain seats.items }
@@ -111,7 +115,7 @@ fn begun<P: Protocol, L: Ledger>(domain: Domain<P>, seats: Vec<Seat<P>>, blank: 
     ensures numbers { result.config ≡ numbers_of domain }
     ensures short { IsAtMostBehindOneOf seats.items result ((numbers_of domain).seats + 7) }
 {
-    met(domain, seats, &mut Steps::<L>::open(blank))
+    meet_at(domain, seats, &mut Steps::<L>::open(blank))
 }
 
 impl<P: Protocol> Domain<P> {
@@ -139,7 +143,7 @@ impl<P: Protocol> Domain<P> {
         ensures numbers { (whole_of result).config ≡ numbers_of self }
         ensures short { IsAtMostBehindOneOf seats.items (whole_of result) ((numbers_of self).seats + 7) }
     {
-        let last = begun::<P, Brand>(self, seats, Blank::new(1));
+        let last = begin_meeting::<P, Brand>(self, seats, Blank::new(1));
         Closing { last }
     }
 }

@@ -51,7 +51,7 @@ fn with_logs<P: Protocol>(
 }
 
 // A seat of these.
-fn seated<P: Protocol>(shared: &Shared<P>, ready: Ready<P>) -> Seat<P>
+fn make_seat<P: Protocol>(shared: &Shared<P>, ready: Ready<P>) -> Seat<P>
     requires ready { IsReady shared.now ready.place.value.pass.number ready }
     ensures new { IsNewSeatOf shared.now ready.place.value.pass.number result }
 {
@@ -61,7 +61,7 @@ fn seated<P: Protocol>(shared: &Shared<P>, ready: Ready<P>) -> Seat<P>
 }
 
 // The seats of these, in order of number, in a row that has room for them.
-fn all_seated<P: Protocol>(
+fn make_seats<P: Protocol>(
     shared: &Shared<P>,
     mut ready: Vec<Ready<P>>,
     mut seats: Vec<Seat<P>>,
@@ -74,7 +74,7 @@ fn all_seated<P: Protocol>(
     ensures seats { AreSeats shared.now result.items }
 {
     while let Some(last) = ready.pop() {
-        seats.push_reserved(seated(shared, last));
+        seats.push_reserved(make_seat(shared, last));
     }
     seats
 }
@@ -93,12 +93,12 @@ fn with_seats<P: Protocol>(
     let room = Vec::with_capacity(alloc, ready.len())?;
     // A row of seats can't be let go, so nothing is refused from here on.
     let seats = Vec::with_capacity(alloc, ready.len())?;
-    let seats = all_seated(&shared, ready, seats);
+    let seats = make_seats(&shared, ready, seats);
     Ok((Domain { shared, room }, seats))
 }
 
 // Opens a domain of numbers that are in range.
-fn opened<P: Protocol>(
+fn open_shared<P: Protocol>(
     alloc: Global,
     config: &Config,
     start: &[Words],
@@ -112,7 +112,7 @@ fn opened<P: Protocol>(
 }
 
 // The same, where all words of all objects are 0.
-fn opened_zeros<P: Protocol>(
+fn open_zeroed<P: Protocol>(
     alloc: Global,
     config: &Config,
 ) -> Result<(Domain<P>, Vec<Seat<P>>), AllocError>
@@ -142,7 +142,7 @@ pub fn open<P: Protocol>(
     if let Err(fault) = config.check() {
         return Err(OpenFault::Config(fault));
     }
-    match opened(alloc, &config, start) {
+    match open_shared(alloc, &config, start) {
         Ok(domain_and_seats) => Ok(domain_and_seats),
         Err(AllocError) => Err(OpenFault::Memory),
     }
@@ -164,7 +164,7 @@ pub fn open_zeros<P: Protocol>(
     if let Err(fault) = config.check() {
         return Err(OpenFault::Config(fault));
     }
-    match opened_zeros(alloc, &config) {
+    match open_zeroed(alloc, &config) {
         Ok(opened) => Ok(opened),
         Err(AllocError) => Err(OpenFault::Memory),
     }

@@ -16,7 +16,7 @@ use object_lock::seat_log::live;
 use std::sync::ledger::{Blank, Ledger};
 
 // Reclaims what it can.
-pub(crate) fn tidied<P: Protocol, L: Ledger>(
+pub(crate) fn tidy_at<P: Protocol, L: Ledger>(
     shared: &Shared<P>,
     idle: &mut Idle<P>,
     blank: Blank,
@@ -37,7 +37,7 @@ pub(crate) fn tidied<P: Protocol, L: Ledger>(
 }
 
 // Makes one round, with write-backs.
-pub(crate) fn rounded<P: Protocol, L: Ledger>(
+pub(crate) fn round_at<P: Protocol, L: Ledger>(
     shared: &Shared<P>,
     idle: &mut Idle<P>,
     blank: Blank,
@@ -56,7 +56,7 @@ pub(crate) fn rounded<P: Protocol, L: Ledger>(
 }
 
 // Makes room: nothing below `low` live slots, a round below `high`, and else a tidy.
-pub(crate) fn made_room<P: Protocol, L: Ledger>(
+pub(crate) fn make_room<P: Protocol, L: Ledger>(
     shared: &Shared<P>,
     idle: &mut Idle<P>,
     blank: Blank,
@@ -81,10 +81,10 @@ pub(crate) fn made_room<P: Protocol, L: Ledger>(
         return Room::Enough;
     }
     if used < config.high {
-        let _ = rounded::<P, L>(shared, idle, blank);
+        let _ = round_at::<P, L>(shared, idle, blank);
         return Room::Enough;
     }
-    let left = tidied::<P, L>(shared, idle, blank);
+    let left = tidy_at::<P, L>(shared, idle, blank);
     match left.held {
         Some(holder) if config.slots - left.live < config.write_max => Room::Short(holder),
         _ => Room::Enough,

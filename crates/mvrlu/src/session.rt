@@ -4,9 +4,9 @@ ghost use Rattle.mv_history.specs.Meaning.{IsSection};
 ghost use Rattle.mvrlu.specs.Placed.{section_from, Fits};
 
 use crate::domain::{Domain, Seat};
-use crate::ending::{aborted, committed, left};
+use crate::ending::{abort_at, commit_at, leave_at};
 use crate::handle::Handle;
-use crate::holding::{held_words, locked, written};
+use crate::holding::{held_words, lock_at, write_at};
 use crate::places::Busy;
 use crate::reading::{read_four_in, read_in, read_pair_in};
 use mv_history::{CommitAnswer, LockAnswer, Protocol, Section, Tag, View, Words};
@@ -175,7 +175,7 @@ impl<'d, P: Protocol> Section for Session<'d, P> {
         }
         let domain = self.domain;
         let part = &mut self.part;
-        locked::<P, Brand>(&domain.shared, &mut part.busy, object, None, Blank::new(1))
+        lock_at::<P, Brand>(&domain.shared, &mut part.busy, object, None, Blank::new(1))
     }
 
     // In a domain of one seat it never answers `Busy` or `Stale`. It makes at most 18 steps.
@@ -203,7 +203,7 @@ impl<'d, P: Protocol> Section for Session<'d, P> {
         }
         let domain = self.domain;
         let part = &mut self.part;
-        locked::<P, Brand>(
+        lock_at::<P, Brand>(
             &domain.shared,
             &mut part.busy,
             object,
@@ -221,7 +221,7 @@ impl<'d, P: Protocol> Section for Session<'d, P> {
     {
         let domain = self.domain;
         let part = &mut self.part;
-        written::<P, Brand>(&domain.shared, &mut part.busy, object, words, Blank::new(1))
+        write_at::<P, Brand>(&domain.shared, &mut part.busy, object, words, Blank::new(1))
     }
 
     // In a domain of one seat it never answers `Again`.
@@ -245,7 +245,7 @@ impl<'d, P: Protocol> Section for Session<'d, P> {
     {
         let Session { domain, part } = self;
         let SectionState { busy } = part;
-        match committed::<P, Brand>(&domain.shared, busy, tag, Blank::new(1)) {
+        match commit_at::<P, Brand>(&domain.shared, busy, tag, Blank::new(1)) {
             CommitAnswer::Done(idle, time) => {
                 let seat = Seat { idle };
                 CommitAnswer::Done(Handle { domain, seat }, time)
@@ -268,7 +268,7 @@ impl<'d, P: Protocol> Section for Session<'d, P> {
     {
         let Session { domain, part } = self;
         let SectionState { busy } = part;
-        let idle = aborted::<P, Brand>(&domain.shared, busy, Blank::new(1));
+        let idle = abort_at::<P, Brand>(&domain.shared, busy, Blank::new(1));
         let seat = Seat { idle };
         Handle { domain, seat }
     }
@@ -282,7 +282,7 @@ impl<'d, P: Protocol> Section for Session<'d, P> {
     {
         let Session { domain, part } = self;
         let SectionState { busy } = part;
-        let idle = left::<P, Brand>(&domain.shared, busy, Blank::new(1));
+        let idle = leave_at::<P, Brand>(&domain.shared, busy, Blank::new(1));
         let seat = Seat { idle };
         Handle { domain, seat }
     }

@@ -3,7 +3,7 @@ use Rattle.std.proofs.Common.{◌≡◌, ℕ, Bool, true, false, refl, List, len
 use Rattle.crossbeam_utils.specs.Padded.{padded_value}
 use Rattle.mv_history.specs.Meaning.{Seat}
 use Rattle.section_work.specs.declared.place.Place.TheVariants.{Commit as AtCommit, Read}
-use Rattle.set_script.specs.declared.commands.Command.{Command}
+use Rattle.set_model.specs.declared.commands.Command.{Command}
 use Rattle.set_blocks.specs.declared.attempt.BlockAttempt.{BlockAttempt}
 use Rattle.set_blocks.specs.declared.attempt.BlockAttempt.TheVariants.{Done, Again}
 use Rattle.set_blocks.proofs.SingleBlocks.{length-block_replies}

@@ -1,6 +1,6 @@
 -- What a call on the sets tells, read back from its 32 bits.
 use Rattle.std.proofs.Common.{◌≡◌, ℤ, w32, to_z, of_z, Result, Ok, Err, IfOk, IfErr, subst}
-use Rattle.set_script.specs.declared.commands.Command.{Command}
+use Rattle.set_model.specs.declared.commands.Command.{Command}
 use Rattle.c_answers.proofs.Numbers.{answer_back, code_back}
 use Rattle.mvrlu_c.specs.declared.sets_handle.MvrluSets.{MvrluSets}
 use Rattle.c_answers.specs.declared.replies.MvrluReply.{MvrluReply}

@@ -3,7 +3,7 @@ use Rattle.std.specs.Prelude.{◌≡◌, ◌≢◌, ℤ, true, false, List, leng
 use Rattle.crossbeam_utils.specs.Padded.{padded_value}
 use Rattle.mvrlu.specs.Meant.{seat_of}
 use Rattle.section_work.specs.Sections.{TriesOne}
-use Rattle.set_script.specs.declared.commands.Command.{Command}
+use Rattle.set_model.specs.declared.commands.Command.{Command}
 use Rattle.set_blocks.specs.declared.attempt.BlockAttempt.{BlockAttempt}
 use Rattle.set_seats.specs.Calls.{AttemptedBlock, GoesOn}
 use Rattle.set_seats.specs.declared.seat.SetSeat.{SetSeat}

@@ -1,6 +1,6 @@
 -- What a call on the sets leaves, by the number that it answers.
 use Rattle.std.specs.Prelude.{ℕ, ℤ}
-use Rattle.set_script.specs.declared.commands.Command.{Command}
+use Rattle.set_model.specs.declared.commands.Command.{Command}
 use Rattle.set_catalog.specs.declared.answer.CommandAttempt.{CommandAttempt}
 use Rattle.set_seats.specs.Calls.{Attempted, Replied, GoesOn}
 use Rattle.set_seats.specs.declared.seat.SetSeat.{SetSeat}

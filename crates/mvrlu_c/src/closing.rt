@@ -4,7 +4,7 @@ ghost use Rattle.crossbeam_utils.specs.Padded.{padded_value};
 ghost use Rattle.grow_seats.specs.Commands.{IsTableOpening, IsTableCommit};
 ghost use Rattle.object_seats.specs.Rules.{IsAnyState, IsAnyCommit};
 ghost use Rattle.set_blocks.specs.BlockRules.{IsBlockCommit};
-ghost use Rattle.set_script.specs.Lawful.{IsOpening};
+ghost use Rattle.set_model.specs.Lawful.{IsOpening};
 ghost use Rattle.shared_domain.specs.Met.{Closes, gathering_of};
 ghost use Rattle.c_answers.specs.Statuses.{code_of};
 ghost use Rattle.mvrlu_c.specs.Closing.{TellsClose};

@@ -1,7 +1,7 @@
 // The calls of C on one seat of the sets.
 ghost use Rattle.std.specs.Prelude.{◌≡◌, ◌≢◌, ◌<◌, ◌≤◌, ◌⊎◌, IfOk, IfErr};
 ghost use Rattle.mvrlu.specs.Meant.{seat_of};
-ghost use Rattle.set_script.specs.declared.commands.Command.TheVariants as command;
+ghost use Rattle.set_model.specs.declared.commands.Command.TheVariants as command;
 ghost use Rattle.set_seats.specs.Calls.{Tidies, Counts};
 ghost use Rattle.mvrlu_c.specs.OnHandle.{IsRefused};
 ghost use Rattle.mvrlu_c.specs.SetsTold.{Answers, TellsCommand, TellsSeat, live_told};
@@ -12,7 +12,7 @@ ghost use Rattle.c_answers.specs.declared.status.Status.TheVariants.{BadSet, Sam
 use crate::handle::on_open;
 use crate::sets_handle::MvrluSets;
 use c_answers::{MvrluCounts, MvrluReply, Status, commands, counts_of, tell_attempt};
-use set_script::Command;
+use set_model::Command;
 use set_seats::SetSeat;
 use std::alloc::Global;
 

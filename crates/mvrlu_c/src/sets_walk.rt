@@ -6,7 +6,7 @@ ghost use Rattle.c_answers.specs.declared.status.Status.TheVariants.{BadSet};
 use crate::handle::on_open;
 use crate::sets_handle::MvrluSets;
 use c_answers::Status;
-use set_script::Name;
+use set_model::Name;
 use set_seats::{KeyValue, SetSeat, Walked};
 use std::alloc::{AllocError, Global};
 

@@ -4,8 +4,8 @@
 //! UTF-8 is out of form; want of memory for the words ends as any want of memory does.
 #![tactic(auto)]
 
+use host_io::{OpenGate, RealErr, RealFiles, RealOut, Sink};
 use mvrlu_run::{Ran, run_program};
-use run_outside::{OpenGate, RealErr, RealFiles, RealOut, Sink};
 use std::io::ErrorKind;
 use std::process::ExitCode;
 use std::{env, io};

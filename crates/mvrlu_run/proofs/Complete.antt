@@ -1,11 +1,11 @@
 -- Where the texts are told and nothing failed, the words and the scripts alone decide how a call ends.
 use Rattle.std.proofs.Common.{inl, inr, ◌≡◌, ℕ, List, [], ◌∷◌, Option, Result, Ok, Err, refl, sym, ap, ◌∙◌, arith, subst}
-use Rattle.run_outside.specs.Outside.{Texts, Rose}
+use Rattle.host_io.specs.Outside.{Texts, Rose}
 use Rattle.run_words.specs.declared.request.Limit.{Limit as LimitOf}
 use Rattle.run_words.specs.declared.request.BadWords.{BadWords}
 use Rattle.run_words.specs.declared.request.BadWords.TheVariants.{Form, Beyond}
 use Rattle.run_words.specs.Words.{Asks, run, gen, work, block, pool, grow, replay, asked}
-use Rattle.set_script.proofs.Times.{lawful_after}
+use Rattle.set_model.proofs.Times.{lawful_after}
 use Rattle.run_ends.proofs.set_blocks_lemmas.Remaining.{lawful_after as lawful_blocks}
 use Rattle.run_ends.specs.script_files.declared.stop.Stop.{Stop}
 use Rattle.run_ends.specs.script_files.Reading.{AreTold}

@@ -2,11 +2,11 @@
 use Rattle.std.specs.Prelude.{◌≡◌, ◌⊎◌, ℕ, List, [], Option, Ok, Err, Bool, IsTrue, ⊤}
 use Rattle.std.specs.Io.KnownBytes.{Appends}
 use Rattle.grow_hash.specs.Grown.{IsGrown}
-use Rattle.run_outside.specs.Outside.{Faults, Texts, Rose}
+use Rattle.host_io.specs.Outside.{Faults, Texts, Rose}
 use Rattle.run_words.specs.declared.request.Limit.{Limit as LimitOf}
 use Rattle.run_words.specs.declared.request.BadWords.TheVariants.{Form, Beyond}
 use Rattle.run_words.specs.Words.{Asks, asked}
-use Rattle.set_script.specs.Lawful.{IsLawful}
+use Rattle.set_model.specs.Lawful.{IsLawful}
 use Rattle.run_ends.specs.mvrlu.Meant.{whole_of}
 use Rattle.run_ends.specs.mvrlu.Whole.{last_state}
 use Rattle.run_ends.specs.declared.finish.LeftDomain.{LeftDomain}

@@ -7,7 +7,7 @@ use Rattle.pool_run.specs.PoolRuns.{IsTextOfPool}
 use Rattle.replay_run.specs.ReplayRuns.{IsTextOfPlan}
 use Rattle.run_ends.specs.declared.finish.LeftDomain.{LeftDomain}
 use Rattle.run_ends.specs.declared.finish.LeftDomain.TheVariants.{No, Sets, Blocks, Grown}
-use Rattle.run_outside.specs.Outside.{Texts}
+use Rattle.host_io.specs.Outside.{Texts}
 use Rattle.run_words.specs.Words.{Asks, run, gen, work, block, pool, grow, replay}
 use Rattle.run_ends.specs.script_files.declared.scripts.Grammar.TheVariants as grammars
 use Rattle.run_ends.specs.script_files.Scripts.{Reading, commands, blocks, plans}

@@ -27,7 +27,7 @@
 //! # Place
 //!
 //! It stands on `run_words` for the words, on a crate for each kind of run, on `script_gen` for generated scripts, on
-//! `run_ends` for how a call ends, and on `run_outside` for writing. The thin program `mvrlu_main` calls it with the
+//! `run_ends` for how a call ends, and on `host_io` for writing. The thin program `mvrlu_main` calls it with the
 //! system's files and streams.
 //!
 //! [`Closing`]: mvrlu::Closing

@@ -1,13 +1,13 @@
 // The top call.
 ghost use Rattle.std.specs.Prelude.{◌≡◌, ◌≢◌, ◌↔◌, map, string_bytes, Err, Ok};
-ghost use Rattle.run_outside.specs.Outside.{Rose};
+ghost use Rattle.host_io.specs.Outside.{Rose};
 ghost use Rattle.run_words.specs.declared.request.BadWords.TheVariants.{Form};
 ghost use Rattle.run_words.specs.Words.{Asks, asked};
 ghost use Rattle.mvrlu_run.specs.Outcome.{outside, Cause, IsComplete, IsPrinted, IsReadFault, NeverRead, Outcome, ReadsSets};
 
 use crate::texts::{Made, make_text};
+use host_io::{Files, Gate, Sink};
 use run_ends::{Finish, LeftDomain, Ran, into_closed, report, send, status};
-use run_outside::{Files, Gate, Sink};
 use run_words::{BadWords, read_words};
 use std::alloc::Global;
 use std::sync::Wait;

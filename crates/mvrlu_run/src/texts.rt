@@ -6,11 +6,11 @@ ghost use Rattle.mvrlu_run.specs.Told.{IsTextFor, files_of, reading_of};
 
 use block_run::make_blocks;
 use grow_run::make_grown;
+use host_io::{Files, Gate};
 use pool_run::make_pool;
 use replay_run::make_replay;
 use run_ends::LeftDomain;
 use run_ends::script_files::Stop;
-use run_outside::{Files, Gate};
 use run_words::Request;
 use script_gen::text;
 use script_run::{make_run, work_text};

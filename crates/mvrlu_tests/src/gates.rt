@@ -2,7 +2,7 @@
 use crate::comparing::{assert_same, must};
 use crate::row::{PLAIN, Text, print_texts, run_text};
 use crate::texts::has_no_worn_of_8000;
-use run_outside::Gate;
+use host_io::Gate;
 use std::alloc::Global;
 use std::process::Abort;
 use std::sync::atomic::{AtomicU64, Ordering};

@@ -1,7 +1,7 @@
 // The limits of words, bytes and commands.
 use crate::comparing::assert_same;
 use crate::row::{PLAIN, Row, ZERO, owned, print, run_refused, run_text};
-use run_outside::OpenGate;
+use host_io::OpenGate;
 use std::alloc::{AllocError, Global};
 use std::test::Fail;
 

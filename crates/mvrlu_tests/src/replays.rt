@@ -4,8 +4,8 @@ use crate::limits::{USAGE, line_ends};
 use crate::row::{
     PLAIN, Printed, REFUSED, Row, named, owned, print, run_refused, run_rows, run_text,
 };
+use host_io::OpenGate;
 use mvrlu_run::LeftDomain;
-use run_outside::OpenGate;
 use std::alloc::{AllocError, Global};
 use std::process::Abort;
 use std::sync::Wait;

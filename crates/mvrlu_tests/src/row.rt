@@ -3,9 +3,9 @@ ghost use Rattle.std.specs.Prelude.{◌<◌, IfOk};
 ghost use Rattle.mvrlu_run.specs.Outcome.{ReadsSets};
 
 use crate::comparing::{assert_same, must};
-use memory_outside::{MemFiles, MemSink, MemText};
+use host_io::{Gate, OpenGate};
+use memory_io::{MemFiles, MemSink, MemText};
 use mvrlu_run::{LeftDomain, Ran, run_program};
-use run_outside::{Gate, OpenGate};
 use std::alloc::{AllocError, Global};
 use std::process::Abort;
 use std::sync::Wait;

@@ -2,12 +2,12 @@
 use crate::comparing::{assert_same, must};
 use crate::row::{PLAIN, Printed, named, owned, print, print_texts, print_well};
 use crate::texts::{count_ends, sum_after, time_of};
-use memory_outside::MemText;
+use host_io::OpenGate;
+use memory_io::MemText;
 use mv_history::View;
 use mvrlu_run::LeftDomain;
-use run_outside::OpenGate;
 use set_catalog::read_all;
-use set_script::Catalogue;
+use set_model::Catalogue;
 use std::alloc::{AllocError, Global};
 use std::process::Abort;
 use std::sync::Wait;

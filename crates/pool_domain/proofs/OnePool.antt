@@ -4,7 +4,7 @@ use Rattle.std.proofs.lemmas.List.Sorted.{All-permutation, IsPermutation-sym, Is
 use Rattle.mv_history.specs.declared.answers.LogTable.{LogTable}
 use Rattle.mv_history.specs.declared.history.TheConstants.{LAST}
 use Rattle.mv_history.specs.Legal.{IsAllowed}
-use Rattle.set_script.proofs.Opening.{opening_empty}
+use Rattle.set_model.proofs.Opening.{opening_empty}
 use Rattle.run_report.proofs.history.Grown.{all_worked}
 use Rattle.run_report.proofs.history.Inserted.{some_order}
 use Rattle.run_report.proofs.history.OneRun.{lines_permuted}

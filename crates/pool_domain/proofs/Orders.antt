@@ -3,10 +3,10 @@ use Rattle.std.proofs.lemmas.List.Sums.{sum_by-cons}
 use Rattle.run_report.proofs.history.Counts.{lines_append}
 use Rattle.std.proofs.lemmas.Bool.{cases_lt}
 use Rattle.mv_history.specs.declared.history.Entry.TheVariants.{Change}
-use Rattle.set_script.specs.Replies.{reply}
+use Rattle.set_model.specs.Replies.{reply}
 use Rattle.section_work.specs.declared.place.Place.{Place}
 use Rattle.section_work.specs.declared.place.Place.TheVariants.{Commit as AtCommit, Read}
-use Rattle.set_script.specs.declared.commands.Reply.{Reply}
+use Rattle.set_model.specs.declared.commands.Reply.{Reply}
 use Rattle.run_report.proofs.Replaying.{some_and}
 use Rattle.pool_domain.proofs.Terms.{◌≡◌, ◌+◌, ◌∷◌, ◌++◌, ◌∙◌, ◌-◌, ◌<◌, ℕ, suc, List, [], length, refl, sym, ap, cond, take_at, drop_at, Seat, Command, Line}
 use Rattle.pool_domain.proofs.Terms.{AllRan, commit_lines, is_commit_of, AreTaken, lines_from, EachSeat, Took, IsTrue, Option, Some, None, slice_get, replicate}

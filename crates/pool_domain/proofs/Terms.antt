@@ -5,11 +5,11 @@ pub use Rattle.std.specs.List.{All}
 pub use Rattle.std.proofs.lemmas.List.Elements.{All-weaker, All-nil, All-cons, All-append, All-head, All-tail}
 pub use Rattle.mv_history.specs.Meaning.{Seat}
 pub use Rattle.mv_history.specs.State.{state_after, commits_of}
-pub use Rattle.set_script.specs.Catalogue.{Maps, empty}
-pub use Rattle.set_script.specs.CatalogueOf.{catalogue_of}
-pub use Rattle.set_script.specs.Lawful.{IsOpening}
-pub use Rattle.set_script.specs.Rules.{capacity, IsSetCommit}
-pub use Rattle.set_script.specs.declared.commands.Command.{Command}
+pub use Rattle.set_model.specs.Catalogue.{Maps, empty}
+pub use Rattle.set_model.specs.CatalogueOf.{catalogue_of}
+pub use Rattle.set_model.specs.Lawful.{IsOpening}
+pub use Rattle.set_model.specs.Rules.{capacity, IsSetCommit}
+pub use Rattle.set_model.specs.declared.commands.Command.{Command}
 pub use Rattle.run_report.specs.declared.line.Line.{Line}
 pub use Rattle.run_report.specs.Order.{IsOrdered, time_of}
 pub use Rattle.run_report.specs.Legal.{Follows, IsAlone, IsInTime, Replays, EachPair, MayStand, after, command_at, command_of, is_commit, is_last}

@@ -5,11 +5,11 @@ use Rattle.mv_history.specs.declared.answers.LogTable.{LogTable}
 use Rattle.mv_history.specs.declared.history.Commit.{Commit}
 use Rattle.mv_history.specs.State.{state_after}
 use Rattle.mv_history.specs.Legal.{IsLegal, IsAllowed}
-use Rattle.set_script.specs.Catalogue.{Maps}
-use Rattle.set_script.specs.CatalogueOf.{catalogue_of}
-use Rattle.set_script.specs.Lawful.{IsOpening}
-use Rattle.set_script.specs.Rules.{capacity, IsSetCommit}
-use Rattle.set_script.specs.declared.commands.Command.{Command}
+use Rattle.set_model.specs.Catalogue.{Maps}
+use Rattle.set_model.specs.CatalogueOf.{catalogue_of}
+use Rattle.set_model.specs.Lawful.{IsOpening}
+use Rattle.set_model.specs.Rules.{capacity, IsSetCommit}
+use Rattle.set_model.specs.declared.commands.Command.{Command}
 use Rattle.run_report.specs.declared.line.Line.{Line}
 use Rattle.run_report.specs.Legal.{command_at}
 use Rattle.run_report.specs.Worked.{Past, PlaceOf}

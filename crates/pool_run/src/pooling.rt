@@ -6,13 +6,13 @@ ghost use Rattle.pool_run.specs.PoolRuns.{IsTextOfPool, pool_runs};
 ghost use Rattle.script_files.specs.declared.scripts.Grammar.TheVariants.{Sets};
 ghost use Rattle.script_files.specs.Scripts.{AnyStop, NoneFails, commands as by_command};
 
+use host_io::{Files, Gate};
 use pool_domain::run_pool_domain;
 use run_kinds::{FromRun, RunAnswer, USUAL, WRITE_MAX, open_run, ran_or_met, tell};
-use run_outside::{Files, Gate};
 use run_words::Options;
 use script_files::{Grammar, Stop, read_scripts};
 use set_catalog::read_all;
-use set_script::{Catalogue, Command, SetRules};
+use set_model::{Catalogue, Command, SetRules};
 use std::alloc::{AllocError, Global};
 use std::sync::Wait;
 use std::thread::Threads;

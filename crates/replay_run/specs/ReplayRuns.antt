@@ -3,7 +3,7 @@ use Rattle.std.specs.Prelude.{◌≡◌, ℕ, List, [], ◌∷◌, Option}
 use Rattle.script_files.specs.replay_rules.Plans.{PlanOf}
 use Rattle.script_files.specs.replay_rules.RuledRuns.{IsRuledPlan}
 use Rattle.script_files.specs.replay_rules.Runs.{text_of_plan}
-use Rattle.run_outside.specs.Outside.{Texts}
+use Rattle.host_io.specs.Outside.{Texts}
 use Rattle.script_files.specs.Scripts.{AllScripts}
 use Rattle.script_files.specs.step_replay.PlanTexts.{planned}
 

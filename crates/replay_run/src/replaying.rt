@@ -3,7 +3,7 @@ ghost use Rattle.std.specs.Prelude.{◌≡◌, length, map, string_bytes, IfErr,
 ghost use Rattle.replay_run.specs.ReplayRuns.{IsTextOfPlan};
 ghost use Rattle.script_files.specs.Scripts.{AnyStop, NoneFails, plans as by_plan};
 
-use run_outside::Files;
+use host_io::Files;
 use script_files::step_replay::replay;
 use script_files::{Stop, read_plan};
 use std::alloc::Global;

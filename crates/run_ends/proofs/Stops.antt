@@ -1,7 +1,7 @@
 -- Where the texts are told and no call of the files failed, or they are steady, the files alone decide whether reading stops.
 use Rattle.std.proofs.Common.{inl, inr, ◌⊎◌, ◌≡◌, ℕ, List, [], Bool, IsTrue, Option, Result, refl, arith}
 use Rattle.std.proofs.lemmas.Option.{slice_get_within}
-use Rattle.run_outside.specs.Outside.{Faults, Texts, Rose}
+use Rattle.host_io.specs.Outside.{Faults, Texts, Rose}
 use Rattle.script_files.specs.declared.stop.Stop.{Stop}
 use Rattle.script_files.specs.declared.stop.Stop.TheVariants.{Script, BlockScript, Plan, Bytes, Read, Memory}
 use Rattle.script_files.specs.Reading.{AreTold}

@@ -4,7 +4,7 @@ use mvrlu::Closing;
 use run_words::Limit;
 use script_files::Stop;
 use script_files::set_blocks::BlockRules;
-use set_script::SetRules;
+use set_model::SetRules;
 
 /// What a run of the program leaves of its domain.
 #[derive(Drop)]

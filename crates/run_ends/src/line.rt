@@ -6,8 +6,8 @@ ghost use Rattle.run_ends.specs.Status.{plan_fault_end, plan_fault_start, stop_l
 
 use crate::finish::Finish;
 use crate::sending::send;
+use host_io::Sink;
 use itoa::Buffer;
-use run_outside::Sink;
 use run_words::Limit;
 use script_files::Stop;
 use script_files::block_parser::BlockKind;

@@ -1,10 +1,10 @@
 // Writing all bytes to a sink.
 ghost use Rattle.std.specs.Prelude.{OnOk, OnErr};
 ghost use Rattle.std.specs.Io.KnownBytes.{Appends};
-ghost use Rattle.run_outside.specs.Outside.{Rose};
+ghost use Rattle.host_io.specs.Outside.{Rose};
 ghost use Rattle.run_ends.specs.Sent.{Sent};
 
-use run_outside::{Failed, Sink};
+use host_io::{Failed, Sink};
 
 /// Offers all that is left, until all is taken or a write fails.
 pub fn send<K: Sink>(sink: &mut K, bytes: &[u8]) -> Result<(), Failed>

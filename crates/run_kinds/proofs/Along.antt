@@ -19,7 +19,7 @@ use Rattle.mvrlu.specs.Whole.{Whole, IsStill}
 use Rattle.run_report.specs.declared.line.Line.{Line}
 use Rattle.run_report.specs.Worked.{Past}
 use Rattle.domain_lines.specs.Joined.{past_of_whole}
-use Rattle.set_script.specs.Objects.{no_words}
+use Rattle.set_model.specs.Objects.{no_words}
 use Rattle.run_kinds.specs.Kinds.{IsLeftOf, IsRunAlong}
 
 -- seats that have met stand in the same history later, and the closing still tells of them

@@ -13,7 +13,7 @@ use Rattle.run_report.specs.declared.line.Line.{Line}
 use Rattle.run_report.specs.InOrder.{IsTextInOrder}
 use Rattle.run_report.specs.Text.{text_of_run}
 use Rattle.run_report.specs.Worked.{Past}
-use Rattle.set_script.specs.Catalogue.{Maps}
+use Rattle.set_model.specs.Catalogue.{Maps}
 use Rattle.run_kinds.specs.Kinds.{IsLeftOf, IsRunAlong, IsTextOf, kind_along}
 
 -- Of runs on the sets along chains, each of which stays one whatever the order of its lines, and what is left of the domain of one.

@@ -16,7 +16,7 @@ use Rattle.run_report.specs.Order.{IsOrdered}
 use Rattle.run_report.specs.Worked.{Past}
 use Rattle.run_words.specs.declared.request.Options.{Options}
 use Rattle.domain_lines.specs.Joined.{past_of_whole}
-use Rattle.set_script.specs.Objects.{no_words}
+use Rattle.set_model.specs.Objects.{no_words}
 
 -- the numbers of a domain with so many seats, each of which may hold so many objects
 abbrev pub config_of : Options → ℕ → ℕ → Config

@@ -1,6 +1,6 @@
 // Opening the domain of a run, and what becomes of it where memory is wanting.
 ghost use Rattle.std.specs.Prelude.{◌≡◌, ◌≤◌, ◌*◌, IfErr, IfOk, Ok, replicate};
-ghost use Rattle.set_script.specs.Objects.{no_words};
+ghost use Rattle.set_model.specs.Objects.{no_words};
 ghost use Rattle.mvrlu.specs.Opened.{IsOpened};
 ghost use Rattle.mvrlu.specs.Meeting.{AreAll};
 ghost use Rattle.run_words.specs.Words.{FitOptions};

@@ -6,7 +6,7 @@ ghost use Rattle.run_report.specs.InOrder.{IsTextInOrder};
 use mv_history::Protocol;
 use mvrlu::Closing;
 use run_report::{Line, render_in_order};
-use set_script::Catalogue;
+use set_model::Catalogue;
 use std::alloc::{AllocError, Global};
 use std::thread::Threads;
 

@@ -9,7 +9,7 @@ use Rattle.std.proofs.lemmas.List.{get_or_append_left, get_or-append_right, get_
 use Rattle.std.proofs.lemmas.List.Concat.{flat_map-append}
 use Rattle.std.proofs.lemmas.List.Sorted.{IsPermutation-append, IsPermutation-map, IsPermutation-trans}
 use Rattle.mv_history.specs.declared.answers.LogTable.{LogTable}
-use Rattle.set_script.specs.Catalogue.{Maps}
+use Rattle.set_model.specs.Catalogue.{Maps}
 use Rattle.run_report.specs.declared.line.Line.{Line}
 use Rattle.run_report.specs.declared.parts.Part.{Part}
 use Rattle.run_report.specs.InOrder.{HasInOrder, IsPart, IsPartBehind, IsTextInOrder, lines_at, lines_of}

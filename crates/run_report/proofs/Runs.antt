@@ -4,8 +4,8 @@ use Rattle.std.specs.List.{All}
 use Rattle.std.specs.List.Sorted.{IsPermutation}
 use Rattle.std.proofs.lemmas.List.{append-nil, take_all}
 use Rattle.std.proofs.lemmas.List.Sorted.{IsPermutation-refl, IsPermutation-trans, IsPermutation-sym, IsPermutation-map, All-permutation}
-use Rattle.set_script.specs.Catalogue.{Maps, empty}
-use Rattle.set_script.specs.declared.commands.Command.{Command}
+use Rattle.set_model.specs.Catalogue.{Maps, empty}
+use Rattle.set_model.specs.declared.commands.Command.{Command}
 use Rattle.section_work.specs.declared.place.Place.{Place}
 use Rattle.section_work.specs.declared.place.Place.TheVariants.{Commit, Read}
 use Rattle.run_report.specs.declared.line.Line.{Line}

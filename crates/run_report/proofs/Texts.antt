@@ -33,8 +33,8 @@ use Rattle.std.specs.List.{flat_map, zip}
 use Rattle.std.proofs.lemmas.List.{at_drop_more, take_more, take_all, flat_map_more}
 use Rattle.std.proofs.lemmas.Slice.Zip.{length-zip, get_or-zip}
 use Rattle.mv_history.specs.declared.answers.LogTable.{LogTable}
-use Rattle.set_script.specs.Catalogue.{Map}
-use Rattle.set_script.specs.Names.{name_text}
+use Rattle.set_model.specs.Catalogue.{Map}
+use Rattle.set_model.specs.Names.{name_text}
 use Rattle.run_report.specs.Text.{text_of_key, text_of_set, text_of_table, text_of_tables}
 
 -- the keys of a map beside its values are the map

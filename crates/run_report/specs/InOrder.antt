@@ -4,7 +4,7 @@ use Rattle.std.specs.Borrow.{Bor}
 use Rattle.std.specs.List.{flat_map}
 use Rattle.std.specs.List.Sorted.{IsPermutation}
 use Rattle.mv_history.specs.declared.answers.LogTable.{LogTable}
-use Rattle.set_script.specs.Catalogue.{Maps}
+use Rattle.set_model.specs.Catalogue.{Maps}
 use Rattle.run_report.specs.declared.line.Line.{Line}
 use Rattle.run_report.specs.Order.{IsOrdered}
 use Rattle.run_report.specs.Text.{text_of_line, text_of_run}

@@ -1,9 +1,9 @@
 -- The summary of a run: counts of its lines, and the size of each set that isn't empty.
 use Rattle.std.specs.Prelude.{ℕ, suc, Bool, true, false, List, [], ◌∷◌, ◌++◌, codes, decimal, length, count_by}
-use Rattle.set_script.specs.Catalogue.{Map, Maps}
-use Rattle.set_script.specs.Names.{name_text}
-use Rattle.set_script.specs.declared.commands.Reply.{Reply}
-use Rattle.set_script.specs.declared.commands.Reply.TheVariants.{Yes, No, Worn}
+use Rattle.set_model.specs.Catalogue.{Map, Maps}
+use Rattle.set_model.specs.Names.{name_text}
+use Rattle.set_model.specs.declared.commands.Reply.{Reply}
+use Rattle.set_model.specs.declared.commands.Reply.TheVariants.{Yes, No, Worn}
 use Rattle.run_report.specs.declared.line.Line.{Line}
 use Rattle.run_report.specs.Legal.{is_commit}
 

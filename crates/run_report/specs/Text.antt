@@ -2,12 +2,12 @@
 use Rattle.std.specs.Prelude.{ℕ, suc, ◌==◌, Bool, List, [], ◌∷◌, ◌++◌, codes, decimal, if◌then◌else◌}
 use Rattle.std.specs.List.{flat_map}
 use Rattle.mv_history.specs.declared.answers.LogTable.{LogTable}
-use Rattle.set_script.specs.Catalogue.{Map, Maps}
-use Rattle.set_script.specs.Names.{name_text}
+use Rattle.set_model.specs.Catalogue.{Map, Maps}
+use Rattle.set_model.specs.Names.{name_text}
 use Rattle.section_work.specs.declared.place.Place.{Place}
 use Rattle.section_work.specs.declared.place.Place.TheVariants.{Commit, Read}
-use Rattle.set_script.specs.declared.commands.Reply.{Reply}
-use Rattle.set_script.specs.declared.commands.Reply.TheVariants.{Yes, No, Full, Worn, Both, Count, Key, NoKey, Value}
+use Rattle.set_model.specs.declared.commands.Reply.{Reply}
+use Rattle.set_model.specs.declared.commands.Reply.TheVariants.{Yes, No, Full, Worn, Both, Count, Key, NoKey, Value}
 use Rattle.run_report.specs.declared.line.Line.{Line}
 
 -- a place, with its printed time

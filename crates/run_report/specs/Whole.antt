@@ -7,11 +7,11 @@ use Rattle.mv_history.specs.declared.history.Entry.{Entry}
 use Rattle.mv_history.specs.declared.history.Entry.TheVariants.{Change}
 use Rattle.mv_history.specs.State.{state_after, commits_of, rests_of}
 use Rattle.mv_history.specs.Legal.{IsLegal, IsAllowed}
-use Rattle.set_script.specs.Catalogue.{Maps}
-use Rattle.set_script.specs.CatalogueOf.{catalogue_of}
-use Rattle.set_script.specs.Lawful.{IsOpening}
-use Rattle.set_script.specs.Rules.{capacity, IsSetCommit}
-use Rattle.set_script.specs.declared.commands.Command.{Command}
+use Rattle.set_model.specs.Catalogue.{Maps}
+use Rattle.set_model.specs.CatalogueOf.{catalogue_of}
+use Rattle.set_model.specs.Lawful.{IsOpening}
+use Rattle.set_model.specs.Rules.{capacity, IsSetCommit}
+use Rattle.set_model.specs.declared.commands.Command.{Command}
 use Rattle.section_work.specs.declared.place.Place.{Place}
 use Rattle.section_work.specs.declared.place.Place.TheVariants.{Commit as AtCommit, Read}
 use Rattle.run_report.specs.declared.line.Line.{Line}

@@ -1,13 +1,13 @@
 // The summary of a run.
 ghost use Rattle.std.specs.Prelude.{◌≡◌, ◌++◌, ◌<◌, IfOk, OnOk, codes, count_by, decimal, length, string_bytes};
-ghost use Rattle.set_script.specs.Catalogue.{map_of, IsCatalogue};
-ghost use Rattle.set_script.specs.Names.{name_text};
+ghost use Rattle.set_model.specs.Catalogue.{map_of, IsCatalogue};
+ghost use Rattle.set_model.specs.Names.{name_text};
 ghost use Rattle.run_report.specs.Summary.{is_yes, is_no, is_worn, is_made, text_of_count, text_of_size, text_of_sizes, summary};
 
 use crate::line::Line;
 use crate::text::{NAMES, write_last, write_name};
 use section_work::Place;
-use set_script::{Catalogue, Reply};
+use set_model::{Catalogue, Reply};
 use std::alloc::{AllocError, Global};
 
 /// The summary of a run of the scripts of a number: how many lines reply `yes`, `no` and `worn`, how many are commits, and how many keys

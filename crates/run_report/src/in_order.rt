@@ -7,7 +7,7 @@ use crate::lines::{append, write_lines};
 use crate::parts::{ROOM, text_in_parts};
 use crate::text::text_behind;
 use mv_history::LogTable;
-use set_script::Catalogue;
+use set_model::Catalogue;
 use std::alloc::{AllocError, Global};
 use std::thread::Threads;
 

@@ -34,7 +34,7 @@
 //! lines reply `yes`, `no` and `worn`, how many are commits, and the size of each set that isn't empty.
 //!
 //! The crate stands between the run, which makes lines, and the program, which writes the text. It knows commands,
-//! replies and catalogues (`set_script`) and the tables of logs (`mv_history`), and neither stores nor seats.
+//! replies and catalogues (`set_model`) and the tables of logs (`mv_history`), and neither stores nor seats.
 #![tactic(auto)]
 
 mod counts;

@@ -2,15 +2,15 @@
 ghost use Rattle.std.specs.Prelude.{◌≡◌, ℕ, List};
 ghost use Rattle.std.specs.List.Sorted.{IsPermutation};
 ghost use Rattle.mv_history.specs.declared.answers.LogTable.{LogTable};
-ghost use Rattle.set_script.specs.Catalogue.{Maps};
-ghost use Rattle.set_script.specs.declared.commands.Command.{Command};
+ghost use Rattle.set_model.specs.Catalogue.{Maps};
+ghost use Rattle.set_model.specs.declared.commands.Command.{Command};
 ghost use Rattle.run_report.specs.Legal.{LegalRun};
 ghost use Rattle.run_report.specs.Order.{order_key, is_ahead, IsOrdered};
 ghost use Rattle.run_report.specs.Whole.{RunOf};
 ghost use Rattle.run_report.specs.Worked.{Past};
 
 use section_work::Place;
-use set_script::Reply;
+use set_model::Reply;
 
 /// What one command of a run replied, and where it took place.
 #[derive(Clone, Copy, Debug, Drop, PartialEq, Eq)]

@@ -5,7 +5,7 @@ ghost use Rattle.run_report.specs.Text.{text_of_line, text_of_place, text_of_ans
 use crate::line::Line;
 use itoa::write_digits;
 use section_work::Place;
-use set_script::Reply;
+use set_model::Reply;
 
 /// How many bytes a row has. A line has at most 66.
 pub(crate) const ROW: usize = 96;

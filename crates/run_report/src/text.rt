@@ -1,8 +1,8 @@
 // The text of a run.
 ghost use Rattle.std.specs.Prelude.{◌≡◌, ◌++◌, ◌<◌, IfOk, OnOk, codes, decimal, length, string_bytes};
 ghost use Rattle.std.specs.List.{flat_map, zip};
-ghost use Rattle.set_script.specs.Catalogue.{map_of, IsCatalogue};
-ghost use Rattle.set_script.specs.Names.{name_text};
+ghost use Rattle.set_model.specs.Catalogue.{map_of, IsCatalogue};
+ghost use Rattle.set_model.specs.Names.{name_text};
 ghost use Rattle.run_report.specs.Text.{
   text_of_key,
   text_of_set,
@@ -16,7 +16,7 @@ use crate::line::Line;
 use crate::lines::{append, write_lines};
 use itoa::Buffer;
 use mv_history::LogTable;
-use set_script::Catalogue;
+use set_model::Catalogue;
 use std::alloc::{AllocError, Global};
 
 // How many sets there are.

@@ -14,7 +14,7 @@
 //!
 //! # Place
 //!
-//! The program's top call reads its words by this crate. Of `set_script` it takes the definition of a numeral alone.
+//! The program's top call reads its words by this crate. Of `set_model` it takes the definition of a numeral alone.
 #![tactic(auto)]
 
 mod numbers;

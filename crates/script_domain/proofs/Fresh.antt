@@ -2,7 +2,7 @@
 use Rattle.std.specs.List.{slice_get}
 use Rattle.mv_history.specs.declared.history.Entry.{Entry}
 use Rattle.mv_history.specs.Calls.{Continues, IsEntryAt}
-use Rattle.set_script.specs.declared.commands.Reply.{Reply}
+use Rattle.set_model.specs.declared.commands.Reply.{Reply}
 use Rattle.section_work.specs.Causes.{Causes}
 use Rattle.section_work.specs.declared.place.Place.TheVariants.{Read}
 use Rattle.mvrlu.specs.Whole.{Whole}

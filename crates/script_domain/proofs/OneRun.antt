@@ -1,7 +1,7 @@
 -- The seats of a domain that ran their scripts have met: their lines and tables are those of one run in the whole history.
 use Rattle.mv_history.specs.declared.answers.LogTable.{LogTable}
 use Rattle.mv_history.specs.State.{state_after}
-use Rattle.set_script.specs.CatalogueOf.{catalogue_of}
+use Rattle.set_model.specs.CatalogueOf.{catalogue_of}
 use Rattle.run_report.specs.Whole.{RunOf}
 use Rattle.run_report.proofs.history.Grown.{all_worked}
 use Rattle.run_report.proofs.history.OneRun.{run_of}

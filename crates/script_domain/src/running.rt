@@ -1,9 +1,9 @@
 // The run of scripts over a domain, up to the meeting of its seats.
 ghost use Rattle.std.specs.Prelude.{◌≡◌, ◌≤◌, length, map, All, IfOk, IfErr};
-ghost use Rattle.set_script.specs.CatalogueOf.{catalogue_of};
-ghost use Rattle.set_script.specs.Lawful.{IsOpening};
-ghost use Rattle.set_script.specs.Rules.{IsSetCommit};
-ghost use Rattle.set_script.specs.declared.script.TheConstants.{MOST_COMMANDS};
+ghost use Rattle.set_model.specs.CatalogueOf.{catalogue_of};
+ghost use Rattle.set_model.specs.Lawful.{IsOpening};
+ghost use Rattle.set_model.specs.Rules.{IsSetCommit};
+ghost use Rattle.set_model.specs.declared.script.TheConstants.{MOST_COMMANDS};
 ghost use Rattle.mvrlu.specs.Meant.{numbers_of, opening_of, seat_of, whole_of};
 ghost use Rattle.mvrlu.specs.Whole.{last_state};
 ghost use Rattle.run_report.specs.Whole.{RunOf};
@@ -16,11 +16,11 @@ ghost use Rattle.domain_loan.specs.Shown.{handle_causes};
 ghost use Rattle.domain_lines.specs.Joined.{past_of_whole};
 
 use domain_loan::{lend_all, meet_all, take_back};
+use host_io::Gate;
 use mvrlu::{Closing, Domain, Seat};
-use run_outside::Gate;
 use run_report::Line;
 use script_workers::run_scripts;
-use set_script::{Command, SetRules};
+use set_model::{Command, SetRules};
 use std::alloc::{AllocError, Global};
 use std::sync::Wait;
 use std::thread::Threads;

@@ -1,6 +1,6 @@
 -- Which call of the files failed.
 use Rattle.std.proofs.Common.{◌∙◌, ℕ, List, [], ◌∷◌, ◌++◌, Result, Ok, Err, ap, arith}
-use Rattle.run_outside.specs.Outside.{Faults, IsTold}
+use Rattle.host_io.specs.Outside.{Faults, IsTold}
 use Rattle.script_files.specs.Scripts.{HasFailed, NoneFailed}
 
 -- a call that failed behind calls of which none did is the one that failed

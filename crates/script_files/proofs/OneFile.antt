@@ -1,7 +1,7 @@
 -- The one file of a plan.
 use Rattle.std.proofs.Common.{◌≡◌, ℕ, List, [], ◌∷◌, length, slice_get, Option, Ok, Err, Some, Result, MatchResult, sym, ap, ◌∙◌, subst, arith}
 use Rattle.std.proofs.lemmas.Option.{slice_get_within}
-use Rattle.run_outside.specs.Outside.{Faults, Texts}
+use Rattle.host_io.specs.Outside.{Faults, Texts}
 use Rattle.script_files.specs.declared.stop.Stop.{Stop}
 use Rattle.script_files.specs.declared.stop.Stop.TheVariants.{Script, BlockScript, Plan, Bytes, Read, Memory}
 use Rattle.script_files.specs.Reading.{AreFirstTexts}

@@ -3,7 +3,7 @@ use Rattle.std.proofs.Common.{inl, inr, ◌⊎◌, ◌≡◌, ◌≤◌, ◌<◌
 use Rattle.std.proofs.Common.{slice_get, Bool, IsTrue, IsSome, Option, None, Some, Result, Ok, Err, refl, sym, ap, ◌∙◌, arith, subst, get_or-take, length-take}
 use Rattle.std.proofs.lemmas.Bool.{cases_lt}
 use Rattle.std.proofs.lemmas.Option.{slice_get-get_or, slice_get_within, get_or_from_slice_get}
-use Rattle.run_outside.specs.Outside.{Texts, HasText, Rose}
+use Rattle.host_io.specs.Outside.{Texts, HasText, Rose}
 use Rattle.script_files.specs.Reading.{AreTold, Says}
 use Rattle.script_files.specs.declared.stop.Stop.TheVariants.{Read}
 use Rattle.script_files.specs.Scripts.{AllScripts, IsLong, IsRefused, IsScript, NoneFails, Reaches, StopsAt}

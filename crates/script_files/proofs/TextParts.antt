@@ -2,7 +2,7 @@
 use Rattle.std.proofs.Common.{◌≡◌, ℕ, List, [], ◌++◌, Option, None, Some, refl, sym, ap, ◌∙◌, append_assoc}
 use Rattle.std.specs.Io.KnownBytes.{Consumes, IsAtEnd}
 use Rattle.std.proofs.lemmas.List.{append-nil}
-use Rattle.run_outside.specs.Outside.{Texts, Starts}
+use Rattle.host_io.specs.Outside.{Texts, Starts}
 use Rattle.script_files.specs.Reading.{Says}
 
 -- where the texts are told, this was read of the text, and this is left

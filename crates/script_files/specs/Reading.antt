@@ -1,7 +1,7 @@
 -- What was read of a text.
 use Rattle.std.specs.Prelude.{◌≡◌, ◌≤◌, ℕ, List, [], ◌∷◌, length, slice_get, Option, None, Some, Vec, ⊤}
 use Rattle.std.specs.declared.alloc.Global.{Global}
-use Rattle.run_outside.specs.Outside.{Texts}
+use Rattle.host_io.specs.Outside.{Texts}
 use Rattle.script_files.specs.declared.stop.TheConstants.{MOST_BYTES}
 
 -- the texts are told

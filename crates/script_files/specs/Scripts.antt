@@ -4,11 +4,11 @@ use Rattle.std.specs.Prelude.{IsTrue, All, ⊤}
 use Rattle.std.specs.List.{AllZip}
 use Rattle.grow_hash.specs.GrowPlans.{IsOfGrown}
 use Rattle.grow_script.specs.GrowGrammar.{parsed_grow}
-use Rattle.run_outside.specs.Outside.{Faults, Texts, Rose, HasText}
+use Rattle.host_io.specs.Outside.{Faults, Texts, Rose, HasText}
 use Rattle.block_parser.specs.BlockGrammar.{parsed_blocks}
 use Rattle.block_parser.specs.declared.faults.BlockKind.{BlockKind}
 use Rattle.script_parser.specs.Grammar.{parsed}
-use Rattle.set_script.specs.declared.commands.Command.{Command}
+use Rattle.set_model.specs.declared.commands.Command.{Command}
 use Rattle.script_parser.specs.declared.faults.FaultKind.{FaultKind}
 use Rattle.script_files.specs.declared.stop.Stop.{Stop}
 use Rattle.script_files.specs.declared.stop.Stop.TheVariants.{Script, BlockScript, Plan, Bytes, Read, Memory}

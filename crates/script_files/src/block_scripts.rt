@@ -10,7 +10,7 @@ use crate::reading::read_texts;
 use crate::stop::{MOST_BYTES, Stop};
 use block_parser::set_blocks::Block;
 use block_parser::{BlockFault, parse_blocks};
-use run_outside::Files;
+use host_io::Files;
 use std::alloc::Global;
 use std::thread;
 use std::thread::Threads;

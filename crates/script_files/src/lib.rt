@@ -2,7 +2,7 @@
 //!
 //! # Model
 //!
-//! Files are texts by name (`Files` of `run_outside`), and the names say which are read, in this order. A file is read as a
+//! Files are texts by name (`Files` of `host_io`), and the names say which are read, in this order. A file is read as a
 //! script of commands, of the sets or of a growing set, as a script of blocks, or as a plan (`Reading` in
 //! specs/Scripts.antt). Each of these has its grammar, a function of the text's bytes, which says the script or the first
 //! faulty line.
@@ -21,7 +21,7 @@
 //!
 //! All files are read into memory, one after another, and then the bytes of each are parsed in a thread of its own where one
 //! can be made. The answer is decided by the results in the order of the files, so it is that of the first faulty file.
-//! It stands on `run_outside` for reading, and on `script_parser`, `grow_script`, `block_parser` and `step_replay` for the
+//! It stands on `host_io` for reading, and on `script_parser`, `grow_script`, `block_parser` and `step_replay` for the
 //! grammars. `script_run`, `block_run`, `pool_run`, `grow_run` and `replay_run` read their files by it.
 //! Crates above name `block_parser`, `set_blocks`, `step_replay` and `replay_rules` through this crate.
 #![tactic(auto)]

@@ -7,7 +7,7 @@ ghost use Rattle.script_files.specs.Scripts.{AllScripts, AnyStop, NoScripts, Non
 
 use crate::reading::read_texts;
 use crate::stop::Stop;
-use run_outside::Files;
+use host_io::Files;
 use std::alloc::Global;
 use step_replay::{Plan, PlanFault, parse_plan};
 

@@ -1,11 +1,11 @@
 // Reading the texts of files.
 ghost use Rattle.std.specs.Prelude.{◌≡◌, ◌≤◌, ◌<◌, [], ℕ, Some, length, map, slice_get, string_bytes, All, IfErr, IfOk, IsOk, IsTrue};
-ghost use Rattle.run_outside.specs.Outside.{HasText, IsTold};
+ghost use Rattle.host_io.specs.Outside.{HasText, IsTold};
 ghost use Rattle.script_files.specs.Reading.{AreFirstTexts, IsTextAt, text_of};
 ghost use Rattle.script_files.specs.Scripts.{FirstStands, IsReadText, NoText, NoneFailed, NoneFails};
 
 use crate::stop::{MOST_BYTES, Stop};
-use run_outside::{Failed, Files};
+use host_io::{Failed, Files};
 use std::alloc::{AllocError, Global};
 
 // How many bytes of a text are read at once, at most.

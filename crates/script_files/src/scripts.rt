@@ -3,16 +3,16 @@ ghost use Rattle.std.specs.Prelude.{◌≡◌, ◌≤◌, ◌<◌, ◌-◌, ◌^
 ghost use Rattle.std.specs.List.{AllZip, HoldsAt};
 ghost use Rattle.script_files.specs.Reading.{list_of, text_of};
 ghost use Rattle.script_parser.specs.Grammar.{Refuses};
-ghost use Rattle.set_script.specs.declared.script.TheConstants.{MOST_COMMANDS};
+ghost use Rattle.set_model.specs.declared.script.TheConstants.{MOST_COMMANDS};
 ghost use Rattle.script_files.specs.Scripts.{AllScripts, Answers, AnyStop, AreOf, NoScripts, NoneFails, Parses, commands as by_command, parsed_by};
 
 use crate::parsing::take_values;
 use crate::reading::read_texts;
 use crate::stop::{MOST_BYTES, Stop};
 use grow_script::parse_grow;
-use run_outside::Files;
+use host_io::Files;
 use script_parser::{ScriptFault, parse};
-use set_script::Command;
+use set_model::Command;
 use std::alloc::Global;
 use std::thread;
 use std::thread::Threads;

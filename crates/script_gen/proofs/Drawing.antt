@@ -1,7 +1,7 @@
 -- Commands are drawn one after another from what is left of a generator's words.
 use Rattle.std.proofs.Common.{◌≡◌, ℕ, suc, ◌*◌, ◌-◌, ◌≤◌, List, [], ◌∷◌, ◌++◌, refl, ap, sym, ◌∙◌, append-nil, arith}
 use Rattle.rand_core.specs.Steps.{first_words}
-use Rattle.set_script.specs.declared.commands.Command.{Command}
+use Rattle.set_model.specs.declared.commands.Command.{Command}
 use Rattle.rand_pcg.specs.Lcg.{Lcg}
 use Rattle.rand_pcg.specs.Pcg.{pcg32}
 use Rattle.script_gen.specs.declared.script.TheConstants.{COMMANDS}

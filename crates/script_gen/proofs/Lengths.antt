@@ -4,9 +4,9 @@ use Rattle.std.proofs.Common.{false, List, [], ◌∷◌, ◌++◌, length, leng
 use Rattle.std.specs.List.{All}
 use Rattle.std.proofs.lemmas.Fmt.{length-decimal-le}
 use Rattle.std.proofs.lemmas.List.Elements.{All-head, All-tail}
-use Rattle.set_script.specs.declared.commands.Command.{Command}
-use Rattle.set_script.specs.declared.commands.Command.TheVariants.{Add, Put, Del, Has, Get, Move, Pair, Size, Next}
-use Rattle.set_script.specs.Names.{name_text}
+use Rattle.set_model.specs.declared.commands.Command.{Command}
+use Rattle.set_model.specs.declared.commands.Command.TheVariants.{Add, Put, Del, Has, Get, Move, Pair, Size, Next}
+use Rattle.set_model.specs.Names.{name_text}
 use Rattle.script_parser.specs.GrammarLaws.{line_text, script_text}
 use Rattle.script_gen.specs.Script.{IsGenerated}
 

@@ -1,6 +1,6 @@
 -- What the text of a generated script is: a script of its commands, and a short one.
 use Rattle.std.proofs.Common.{◌≡◌, ℕ, ◌<◌, ◌≤◌, List, length, Ok, ap, sym, ◌∙◌, arith}
-use Rattle.set_script.specs.declared.commands.Command.{Command}
+use Rattle.set_model.specs.declared.commands.Command.{Command}
 use Rattle.script_parser.specs.Grammar.{parsed}
 use Rattle.script_parser.specs.GrammarLaws.{script_text}
 use Rattle.script_parser.proofs.Texts.{commands_back}

@@ -6,7 +6,7 @@ ghost use Rattle.script_gen.specs.Script.{command_of, commands_of, first_name, s
 
 use rand_core::utils::NextWord;
 use rand_pcg::Lcg64Xsh32;
-use set_script::{Command, Name};
+use set_model::{Command, Name};
 
 // How many sets there are.
 const NAMES: u32 = 30;

@@ -13,7 +13,7 @@
 //! of their own, so both calls ask for a seat below 4. The error of both is want of memory. What four words
 //! draw is [`DrawnWords::command`], and the text of one command is that of [`write_line`].
 //!
-//! **Place.** It stands on `set_script`, whose commands and grammar it speaks of, and on `rand_pcg`,
+//! **Place.** It stands on `set_model`, whose commands and grammar it speaks of, and on `rand_pcg`,
 //! whose specification gives the words. The program prints such a script, and runs the four of a
 //! number.
 #![tactic(auto)]

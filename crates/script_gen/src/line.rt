@@ -1,9 +1,9 @@
 // The line of a command.
 ghost use Rattle.std.specs.Prelude.{◌≡◌, ◌++◌, OnOk, codes, decimal, string_bytes};
-ghost use Rattle.set_script.specs.Names.{name_text};
+ghost use Rattle.set_model.specs.Names.{name_text};
 ghost use Rattle.script_parser.specs.GrammarLaws.{line_text};
 
-use set_script::{Command, Name};
+use set_model::{Command, Name};
 use std::alloc::AllocError;
 use std::fmt::Write;
 

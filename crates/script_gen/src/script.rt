@@ -7,7 +7,7 @@ ghost use Rattle.script_gen.specs.Script.{IsGenerated, script, text_of_script};
 use crate::draw::draw;
 use crate::line::write_line;
 use rand_pcg::Lcg64Xsh32;
-use set_script::Command;
+use set_model::Command;
 use std::alloc::{AllocError, Global};
 
 /// How many commands a generated script has.

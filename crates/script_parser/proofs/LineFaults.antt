@@ -2,7 +2,7 @@
 use Rattle.std.proofs.Common.{◌≡◌, ◌≢◌, ℕ, ◌+◌, ◌-◌, Bool, true, false, cond, List, [], ◌∷◌, Result, Ok, Err, IfErr, ◌==◌, nat_le, ◌&&◌, subst}
 use Rattle.std.specs.Char.{is_ascii_digit}
 use Rattle.std.specs.Str.Parse.{digits_value}
-use Rattle.set_script.specs.declared.commands.Command.TheVariants as commands
+use Rattle.set_model.specs.declared.commands.Command.TheVariants as commands
 use Rattle.script_parser.specs.declared.faults.FaultKind.{FaultKind}
 use Rattle.script_parser.specs.declared.faults.FaultKind.TheVariants as faults
 use Rattle.script_parser.specs.declared.line.Verb.{Verb}

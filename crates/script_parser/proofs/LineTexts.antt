@@ -13,11 +13,11 @@ use Rattle.std.proofs.lemmas.Fmt.{digits_decimal, digits_value-decimal, length-d
 use Rattle.std.proofs.lemmas.List.Elements.{All-nil, All-cons, All-append, All-weaker, All-get_or}
 use Rattle.std.proofs.lemmas.List.Splits.{slice_split_none, slice_split_at}
 use Rattle.std.proofs.lemmas.List.Sums.{AllPass-from_list_all, take_while-cons}
-use Rattle.set_script.specs.declared.commands.Command.{Command}
-use Rattle.set_script.specs.declared.commands.Command.TheVariants.{Add, Put, Del, Has, Get, Move, Pair, Size, Next}
+use Rattle.set_model.specs.declared.commands.Command.{Command}
+use Rattle.set_model.specs.declared.commands.Command.TheVariants.{Add, Put, Del, Has, Get, Move, Pair, Size, Next}
 use Rattle.script_parser.specs.Grammar.{◌>>=◌, is_blank, is_word, is_plain, words_in, words_of, name_of, key_of, value_of, command_of, line_read}
 use Rattle.script_parser.specs.Grammar.{is_format_word, format_of, first_read, first_format, reading_in, format_after}
-use Rattle.set_script.specs.Names.{name_text}
+use Rattle.set_model.specs.Names.{name_text}
 use Rattle.script_parser.specs.GrammarLaws.{spaced, line_text, MaySay}
 use Rattle.script_parser.proofs.Numerals.{own}
 

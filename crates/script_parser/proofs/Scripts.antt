@@ -2,10 +2,10 @@
 use Rattle.std.proofs.Common.{◌≡◌, ℕ, ◌+◌, ◌≤◌, Bool, true, false, cond, List, [], ◌∷◌, ◌++◌, length, Some, None, Ok, Err}
 use Rattle.std.proofs.Common.{nat_lt, refl, ap, sym, ◌∙◌, append_assoc, append-nil, length-append, arith}
 use Rattle.std.proofs.lemmas.Bool.Decides.{nat_tests}
-use Rattle.set_script.specs.declared.commands.Command.{Command}
+use Rattle.set_model.specs.declared.commands.Command.{Command}
 use Rattle.script_parser.specs.declared.faults.FaultKind.{FaultKind}
 use Rattle.script_parser.specs.declared.faults.FaultKind.TheVariants.{Many}
-use Rattle.set_script.specs.declared.script.TheConstants.{MOST_COMMANDS}
+use Rattle.set_model.specs.declared.script.TheConstants.{MOST_COMMANDS}
 use Rattle.script_parser.specs.Grammar.{◌>>=◌, Reading, readings_of, parsed, parsed_after}
 use Rattle.script_parser.specs.GrammarLaws.{AreRead, commands_in, IsScriptOf, IsFaulty, IsFirstFault}
 

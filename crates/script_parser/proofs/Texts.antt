@@ -8,8 +8,8 @@ use Rattle.std.proofs.lemmas.Fmt.{decimal_digit}
 use Rattle.std.proofs.lemmas.List.Elements.{All-weaker}
 use Rattle.std.proofs.lemmas.List.Splits.{slice_split_at}
 use Rattle.std.proofs.lemmas.List.Sums.{AllPass-from_list_all}
-use Rattle.set_script.specs.declared.commands.Command.{Command}
-use Rattle.set_script.specs.declared.script.TheConstants.{MOST_COMMANDS}
+use Rattle.set_model.specs.declared.commands.Command.{Command}
+use Rattle.set_model.specs.declared.script.TheConstants.{MOST_COMMANDS}
 use Rattle.script_parser.specs.Formats.{IsFormat}
 use Rattle.script_parser.specs.Grammar.{is_line_end, Reading, readings_in, reading_in, format_after, command_of, lines_of, parsed}
 use Rattle.script_parser.specs.GrammarLaws.{AreRead, commands_in, line_text, script_text, format_text, spaced, MaySay}

@@ -7,15 +7,15 @@ use Rattle.std.specs.Result.{result_unwrap_or}
 use Rattle.std.specs.Str.{bytes_eq}
 use Rattle.std.specs.Str.Lines.{strip_carriage_return}
 use Rattle.std.specs.Str.Parse.{digits_value}
-use Rattle.set_script.specs.declared.commands.Command.{Command}
-use Rattle.set_script.specs.declared.commands.Command.TheVariants as commands
+use Rattle.set_model.specs.declared.commands.Command.{Command}
+use Rattle.set_model.specs.declared.commands.Command.TheVariants as commands
 use Rattle.script_parser.specs.declared.faults.FaultKind.{FaultKind}
 use Rattle.script_parser.specs.declared.faults.FaultKind.TheVariants as faults
 use Rattle.script_parser.specs.declared.faults.ScriptFault.{ScriptFault}
 use Rattle.script_parser.specs.declared.faults.ScriptFault.TheVariants.{At, Memory}
 use Rattle.script_parser.specs.declared.line.Verb.{Verb}
 use Rattle.script_parser.specs.declared.line.Verb.TheVariants.{Add, Put, Del, Has, Get, Move, Pair, Size, Next}
-use Rattle.set_script.specs.declared.script.TheConstants.{MOST_COMMANDS}
+use Rattle.set_model.specs.declared.script.TheConstants.{MOST_COMMANDS}
 
 infixl 10 ◌>>=◌
 -- one reading after another, up to the first fault

@@ -2,12 +2,12 @@
 use Rattle.std.specs.Prelude.{◌≡◌, ◌≢◌, ◌≤◌, ℕ, ◌+◌, List, [], ◌∷◌, ◌++◌, length, ◌<◌, ◌^◌}
 use Rattle.std.specs.Prelude.{codes, decimal, None, Some, Ok, Err, ⊤}
 use Rattle.std.specs.List.{flat_map}
-use Rattle.set_script.specs.declared.commands.Command.{Command}
-use Rattle.set_script.specs.declared.commands.Command.TheVariants.{Add, Put, Del, Has, Get, Move, Pair, Size, Next}
+use Rattle.set_model.specs.declared.commands.Command.{Command}
+use Rattle.set_model.specs.declared.commands.Command.TheVariants.{Add, Put, Del, Has, Get, Move, Pair, Size, Next}
 use Rattle.script_parser.specs.declared.faults.FaultKind.{FaultKind}
 use Rattle.script_parser.specs.declared.faults.FaultKind.TheVariants.{Many}
-use Rattle.set_script.specs.declared.script.TheConstants.{MOST_COMMANDS}
-use Rattle.set_script.specs.Names.{name_text}
+use Rattle.set_model.specs.declared.script.TheConstants.{MOST_COMMANDS}
+use Rattle.set_model.specs.Names.{name_text}
 use Rattle.script_parser.specs.Grammar.{Reading, readings_of}
 
 -- each line is in the grammar

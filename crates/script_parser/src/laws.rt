@@ -1,13 +1,13 @@
 // Laws of the grammar, over all texts and commands.
 ghost use Rattle.std.specs.Prelude.{◌≡◌, ◌≤◌, ℕ, ◌↔◌, List, ◌++◌, length};
 ghost use Rattle.std.specs.List.{AllByRecursion};
-ghost use Rattle.set_script.specs.declared.commands.Command.{Command};
+ghost use Rattle.set_model.specs.declared.commands.Command.{Command};
 ghost use Rattle.script_parser.specs.declared.faults.FaultKind.{FaultKind};
 ghost use Rattle.script_parser.specs.Formats.{IsFormat};
 ghost use Rattle.script_parser.specs.Grammar.{parsed};
 ghost use Rattle.script_parser.specs.GrammarLaws.{IsScriptOf, IsFirstFault, MaySay, script_text, format_text};
 
-use set_script::MOST_COMMANDS;
+use set_model::MOST_COMMANDS;
 
 /// What a text comes to, said of all of its lines. It is a script of commands exactly where each
 /// line is in the grammar, the commands are those of the lines in order, and there are no more

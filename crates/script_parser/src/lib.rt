@@ -26,7 +26,7 @@
 //!
 //! # Place
 //!
-//! It stands on `set_script`, whose commands it reads. The grammars of blocks, of growing sets and
+//! It stands on `set_model`, whose commands it reads. The grammars of blocks, of growing sets and
 //! of plans stand on its lines and words.
 #![tactic(auto)]
 

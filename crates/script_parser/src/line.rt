@@ -7,7 +7,7 @@ use crate::format::Format;
 use crate::numbers::{read_key, read_value};
 use crate::plain::read_plain;
 use crate::words::{first_word, read_one, read_three, read_two, same_word, strip_carriage_return};
-use set_script::{Command, Name};
+use set_model::{Command, Name};
 
 /// What a command does.
 #[derive(Clone, Copy, Drop)]

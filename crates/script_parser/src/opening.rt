@@ -6,7 +6,7 @@ use crate::faults::FaultKind;
 use crate::format::Format;
 use crate::line::parse_line;
 use crate::words::{first_word, read_one, same_word, strip_carriage_return};
-use set_script::Command;
+use set_model::Command;
 
 // The format that the bytes behind `format` name. `Err` is `Count`, then `Format`.
 fn read_format(bytes: &[u8]) -> Result<Format, FaultKind>

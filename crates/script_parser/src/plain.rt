@@ -6,7 +6,7 @@ ghost use Rattle.script_parser.specs.declared.line.Verb.{Verb};
 use crate::format::Format;
 use crate::line::{Verb, read_name, read_verb};
 use crate::numbers::read_key;
-use set_script::{Command, Name};
+use set_model::{Command, Name};
 
 // The first three bytes or the first four, where a space stands behind them, and the bytes behind that space. Else `None`.
 #[inline(always)]

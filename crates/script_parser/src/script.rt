@@ -5,7 +5,7 @@ ghost use Rattle.script_parser.specs.Grammar.{reading_in, format_after, with_rea
 use crate::faults::{FaultKind, ScriptFault};
 use crate::format::Format;
 use crate::opening::read_line;
-use set_script::{Command, MOST_COMMANDS};
+use set_model::{Command, MOST_COMMANDS};
 use std::alloc::Global;
 
 /// The commands of a script, in the order of its lines.

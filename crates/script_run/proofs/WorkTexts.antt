@@ -2,11 +2,11 @@
 use Rattle.std.proofs.Common.{◌≡◌, ℕ, ◌-◌, List, length, arith, ap, ◌∙◌, subst}
 use Rattle.std.specs.List.Sorted.{IsPermutation}
 use Rattle.std.proofs.lemmas.List.{length-replicate}
-use Rattle.set_script.specs.Catalogue.{Maps}
-use Rattle.set_script.specs.Objects.{no_words}
-use Rattle.set_script.specs.Rules.{IsSetCommit, capacity}
-use Rattle.set_script.specs.declared.commands.Command.{Command}
-use Rattle.set_script.specs.declared.rules.SetRules.{SetRules}
+use Rattle.set_model.specs.Catalogue.{Maps}
+use Rattle.set_model.specs.Objects.{no_words}
+use Rattle.set_model.specs.Rules.{IsSetCommit, capacity}
+use Rattle.set_model.specs.declared.commands.Command.{Command}
+use Rattle.set_model.specs.declared.rules.SetRules.{SetRules}
 use Rattle.run_report.specs.declared.line.Line.{Line}
 use Rattle.run_report.specs.Order.{IsOrdered}
 use Rattle.run_report.specs.Summary.{summary}

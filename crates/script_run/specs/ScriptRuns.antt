@@ -6,7 +6,7 @@ use Rattle.mv_history.specs.declared.answers.LogTable.{LogTable}
 use Rattle.mv_history.specs.Meaning.{Seat}
 use Rattle.run_kinds.specs.mvrlu.declared.closing.Closing.{Closing}
 use Rattle.run_kinds.specs.Kinds.{IsTextOf, IsTextOfRead, Kind, config_of, kind_along}
-use Rattle.run_outside.specs.Outside.{Texts}
+use Rattle.host_io.specs.Outside.{Texts}
 use Rattle.run_report.specs.declared.line.Line.{Line}
 use Rattle.run_report.specs.Summary.{summary}
 use Rattle.run_report.specs.Text.{text_of_run}
@@ -15,11 +15,11 @@ use Rattle.run_words.specs.declared.request.Options.{Options}
 use Rattle.script_files.specs.Scripts.{AllScripts}
 use Rattle.script_parser.specs.Grammar.{parsed}
 use Rattle.script_workers.specs.Lines.{AllLinked}
-use Rattle.set_script.specs.Catalogue.{Maps}
-use Rattle.set_script.specs.Lawful.{IsOpening}
-use Rattle.set_script.specs.Rules.{IsSetCommit}
-use Rattle.set_script.specs.declared.commands.Command.{Command}
-use Rattle.set_script.specs.declared.rules.SetRules.{SetRules}
+use Rattle.set_model.specs.Catalogue.{Maps}
+use Rattle.set_model.specs.Lawful.{IsOpening}
+use Rattle.set_model.specs.Rules.{IsSetCommit}
+use Rattle.set_model.specs.declared.commands.Command.{Command}
+use Rattle.set_model.specs.declared.rules.SetRules.{SetRules}
 
 -- the chains of commands that each seat did in turn, by the lines of one seat after those of another
 abbrev pub chain_of : List (List Command) → List Seat → List Seat → List Line → Type 0

@@ -5,7 +5,7 @@ ghost use Rattle.generated_runs.specs.OneAfterAnother.{scripts_of};
 
 use run_words::Options;
 use script_gen::commands;
-use set_script::Command;
+use set_model::Command;
 use std::alloc::{AllocError, Global};
 
 /// The numbers of the run of generated scripts.

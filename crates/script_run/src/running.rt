@@ -5,12 +5,12 @@ ghost use Rattle.script_workers.specs.Workers.{items_of};
 ghost use Rattle.run_kinds.specs.Kinds.{IsLeft};
 ghost use Rattle.script_run.specs.ScriptRuns.{runs};
 
+use host_io::Gate;
 use run_kinds::{RunAnswer, WRITE_MAX, open_run, ran_or_met};
-use run_outside::Gate;
 use run_words::Options;
 use script_domain::run_domain;
 use set_catalog::read_all;
-use set_script::{Catalogue, Command, SetRules};
+use set_model::{Catalogue, Command, SetRules};
 use std::alloc::{AllocError, Global};
 use std::sync::Wait;
 use std::thread::Threads;

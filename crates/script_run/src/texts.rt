@@ -7,12 +7,12 @@ ghost use Rattle.script_run.specs.ScriptRuns.{IsTextOfScripts, IsTextOfWork};
 
 use crate::generated::{WORK, four_scripts};
 use crate::running::run_sets;
+use host_io::{Files, Gate};
 use run_kinds::{FromRun, RunAnswer, tell};
-use run_outside::{Files, Gate};
 use run_report::{order, summary};
 use run_words::Options;
 use script_files::{Grammar, Stop, read_scripts};
-use set_script::SetRules;
+use set_model::SetRules;
 use std::alloc::{AllocError, Global};
 use std::sync::Wait;
 use std::thread::Threads;

@@ -2,8 +2,8 @@
 use Rattle.std.proofs.lemmas.Bool.{eqb-true}
 use Rattle.std.proofs.lemmas.Option.{slice_get_within}
 use Rattle.mv_history.proofs.Writing.{length-state_after}
-use Rattle.set_script.specs.Objects.{first_node}
-use Rattle.set_script.specs.Replies.{reply, changes}
+use Rattle.set_model.specs.Objects.{first_node}
+use Rattle.set_model.specs.Replies.{reply, changes}
 use Rattle.section_work.specs.Sections.{IsEntered}
 use Rattle.std.proofs.lemmas.List.Elements.{All-nil, All-cons, All-get_or}
 use Rattle.script_workers.proofs.Terms.{◌≡◌, ◌+◌, ◌-◌, ◌<◌, ◌≤◌, ◌==◌, if◌then◌else◌, ◌∷◌, ◌++◌, ◌∙◌, Entry, ℕ, eqb, Bool, true, false, List, [], length, take}

@@ -10,15 +10,15 @@ pub use Rattle.mv_history.specs.declared.history.Entry.TheVariants.{Rest, Change
 pub use Rattle.section_work.specs.Causes.{Causes, causes}
 pub use Rattle.section_work.specs.declared.place.Place.{Place}
 pub use Rattle.section_work.specs.declared.place.Place.TheVariants.{Read, Commit as AtCommit}
-pub use Rattle.set_script.specs.CatalogueOf.{catalogue_of}
-pub use Rattle.set_script.specs.Lawful.{IsOpening}
-pub use Rattle.set_script.specs.Rules.{IsSetCommit, capacity}
-pub use Rattle.set_script.specs.declared.commands.Command.{Command}
-pub use Rattle.set_script.specs.declared.commands.Reply.{Reply}
+pub use Rattle.set_model.specs.CatalogueOf.{catalogue_of}
+pub use Rattle.set_model.specs.Lawful.{IsOpening}
+pub use Rattle.set_model.specs.Rules.{IsSetCommit, capacity}
+pub use Rattle.set_model.specs.declared.commands.Command.{Command}
+pub use Rattle.set_model.specs.declared.commands.Reply.{Reply}
 pub use Rattle.set_catalog.specs.Attempts.{Attempted}
 pub use Rattle.set_catalog.specs.Steps.{most_locks}
 pub use Rattle.set_catalog.specs.declared.answer.CommandAttempt.TheVariants.{Done, Again}
-pub use Rattle.set_script.specs.declared.script.TheConstants.{MOST_COMMANDS}
+pub use Rattle.set_model.specs.declared.script.TheConstants.{MOST_COMMANDS}
 pub use Rattle.run_report.specs.Legal.{Follows, command_at}
 pub use Rattle.run_report.specs.Order.{time_of}
 pub use Rattle.run_report.specs.Worked.{Past, past_of, PlaceOf, BySeat, LinesOf, Ran, AllRan, state_of_time}

@@ -3,7 +3,7 @@ use item_workers::{Runner, Tried};
 use mv_history::Store;
 use section_work::Place;
 use set_catalog::{CommandAttempt, HintedStore, Memo};
-use set_script::{Command, Reply, SetRules};
+use set_model::{Command, Reply, SetRules};
 use std::alloc::{AllocError, Global};
 
 // How many vacant objects a worker remembers.

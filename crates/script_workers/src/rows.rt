@@ -7,7 +7,7 @@ ghost use Rattle.script_workers.specs.Workers.{command_count};
 use item_workers::Answer;
 use run_report::Line;
 use section_work::Place;
-use set_script::{Command, Reply};
+use set_model::{Command, Reply};
 use std::alloc::{AllocError, Global};
 
 /// Takes the memory for a line of each command.

@@ -7,11 +7,11 @@ ghost use Rattle.script_workers.specs.Workers.{items_of};
 
 use crate::hinted::Hinted;
 use crate::rows::{lines_room, make_lines};
+use host_io::Gate;
 use item_workers::run_lists;
 use mv_history::Store;
-use run_outside::Gate;
 use run_report::Line;
-use set_script::{Command, SetRules};
+use set_model::{Command, SetRules};
 use std::alloc::{AllocError, Global};
 use std::sync::Wait;
 use std::thread::Threads;

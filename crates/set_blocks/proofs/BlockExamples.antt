@@ -1,5 +1,5 @@
 -- The replies of short blocks, from empty sets or from some, as the definitions compute them. Name 0 is `l0`, 10 `h0` and 20 `t0`.
-use Rattle.set_script.specs.Catalogue.{cost}
+use Rattle.set_model.specs.Catalogue.{cost}
 use Rattle.std.proofs.Common.{◌≡◌, ◌∷◌, true, false, [], refl}
 use Rattle.set_blocks.proofs.Terms.{empty, with_key, Add, Del, Has, Move, Pair, Yes, No, Full, Worn, Both, block_replies, block_changes, block_next}
 

@@ -1,5 +1,5 @@
 -- What is planned for a command that changes something does the same in every state that others may lead to meanwhile.
-use Rattle.set_script.specs.Tags.{tag_of}
+use Rattle.set_model.specs.Tags.{tag_of}
 use Rattle.set_catalog.proofs.MoveFacts.{move_fits}
 use Rattle.std.proofs.Common.{◌≡◌, ◌≢◌, ◌^◌, ◌<◌, ◌&&◌, ◌||◌, ℕ, inl, inr, Bool, true, false, cond, not, refl, sym, ap, ◌∙◌, subst}
 use Rattle.set_blocks.proofs.Terms.{State, Writes, written, touches, are_distinct, allowed_at_once, Command, Add, Put, Del, Has, Move, Map, ByWay, IsFit}
@@ -9,7 +9,7 @@ use Rattle.set_blocks.proofs.Terms.{head_below, merged-is, touches-merged, Added
 use Rattle.set_blocks.proofs.Remaining.{remains_itself}
 use Rattle.set_blocks.proofs.Stepping.{Covers, Spares, spares_both, written-merged, Stepped, StepAt}
 use Rattle.set_blocks.proofs.TrackedPlans.{ByTracked, by_way_there, tracked_remains, tracked_spares, added_tracked, removed_tracked, updated_tracked}
-use Rattle.set_script.proofs.Ways as ways
+use Rattle.set_model.proofs.Ways as ways
 
 -- a command that may change something and replies yes changes something
 yes_changes : (does over : Bool) → cond does (cond over Full (cond false Worn Yes)) No ≡ Yes → does && not over && not false ≡ true

@@ -2,8 +2,9 @@
 use Rattle.tree_set.proofs.Cutting.{IsTwig, Prunes, grown_less, cut_ends}
 use Rattle.tree_set.proofs.TreeWays.{cut_way}
 use Rattle.std.proofs.Common.{◌≡◌, ◌≢◌, ◌<◌, ◌≤◌, ◌∷◌, ℕ, suc, inl, inr, true, [], refl, sym, ap, ◌∙◌, subst, arith}
-use Rattle.set_blocks.proofs.Terms.{State, Writes, written, touches, words_at, owner, IsGrown, seek, EndsAt, leaf, IsLawful, word, IsIn, in-touches, seek_in}
-use Rattle.set_blocks.proofs.Terms.{Stands-owner, PathStep, Path, plug, IsCutPlace, cut_writes, sibling, distinct_part, stands_part, seek_plug, seek_beside}
+use Rattle.set_blocks.proofs.Terms.{State, Writes, written, touches, words_at, owner, HoldsTree, seek, EndsAt, leaf, IsLawful, word, IsIn, in-touches, seek_in}
+use Rattle.set_blocks.proofs.Terms.{Stands-owner, PathStep, Path, plug, IsCutPlace, tree_del_writes, sibling, distinct_part, stands_part, seek_plug}
+use Rattle.set_blocks.proofs.Terms.{seek_beside}
 use Rattle.set_blocks.proofs.Terms.{redirect_keeps, beside, seek_turn, cut_twig, cut_prunes, inner_same, leaf_same, child_same, parent_same, IsOfLists, Remains}
 use Rattle.set_blocks.proofs.Tracking.{Tracks}
 use Rattle.set_blocks.proofs.ListTracks.{vacant_of_none}
@@ -12,57 +13,59 @@ use Rattle.set_blocks.proofs.TreeSides.{partner, partner_ends, partner_same}
 
 -- what it writes is of no list
 cut_links : (s : State) (root k g p l : ℕ) → 170 ≤ root → root < 180 → IsLawful s → IsCutPlace s root k g p l → (o : ℕ) → IsIn o (g ∷ p ∷ l ∷ [])
-    → IsOfLists (written s (cut_writes s g p l)) o → ⊥
+    → IsOfLists (written s (tree_del_writes s g p l)) o → ⊥
 cut_links s root k g p l lo lt law place o i list =
     let a = cut_twig s root k g p l law lo lt place in from a.0 a.1 a.2 a.3
   where
     from : (x : ℕ) (ps : Path) (q : PathStep) → IsTwig s root k g p l x ps q → ⊥
     from x ps q a = go i
       where
-        c : Prunes s (written s (cut_writes s g p l)) g p l
+        c : Prunes s (written s (tree_del_writes s g p l)) g p l
         c = cut_prunes s root k g p l x ps q law lt a
 
         go : IsIn o (g ∷ p ∷ l ∷ []) → ⊥
         go (inl e) =
-            parent_of_none s (written s (cut_writes s g p l)) root g p p (sibling s p l) lo lt place.above
+            parent_of_none s (written s (tree_del_writes s g p l)) root g p p (sibling s p l) lo lt place.above
             (ap (word 1) c.grand ∙ redirect_keeps (words_at s g) p (sibling s p l) 1 (omega arith) (omega arith))
-            (subst (λ n. IsOfLists (written s (cut_writes s g p l)) n) e list)
+            (subst (λ n. IsOfLists (written s (tree_del_writes s g p l)) n) e list)
         go (inr (inl e)) =
-            vacant_of_none (written s (cut_writes s g p l)) p place.is_inner.0 c.no_parent (subst (λ n. IsOfLists (written s (cut_writes s g p l)) n) e list)
+            vacant_of_none (written s (tree_del_writes s g p l)) p place.is_inner.0 c.no_parent
+            (subst (λ n. IsOfLists (written s (tree_del_writes s g p l)) n) e list)
         go (inr (inr (inl e))) =
-            vacant_of_none (written s (cut_writes s g p l)) l place.is_leaf.0 c.no_leaf (subst (λ n. IsOfLists (written s (cut_writes s g p l)) n) e list)
+            vacant_of_none (written s (tree_del_writes s g p l)) l place.is_leaf.0 c.no_leaf
+            (subst (λ n. IsOfLists (written s (tree_del_writes s g p l)) n) e list)
         go (inr (inr (inr e))) = e
 
 module _ (z u : State) (root k g p l : ℕ) (lo : 170 ≤ root) (lt : root < 180) (held : Writes) (lz : IsLawful z) (r : Remains held z u)
     (hp : touches held p ≡ true) (hl : touches held l ≡ true) (i n : ℕ) (hn : touches held n ≡ true) (x : ℕ) (ps : Path) (q : PathStep)
     (a : IsTwig z root k g p l x ps q) (y : ℕ) (qs : Path) (t : PathStep) (b : IsTwig u root k g p l y qs t)
-    (e : EndsAt (written z (cut_writes z g p l)) root i n) where
-  pruned : Prunes z (written z (cut_writes z g p l)) g p l
+    (e : EndsAt (written z (tree_del_writes z g p l)) root i n) where
+  pruned : Prunes z (written z (tree_del_writes z g p l)) g p l
   pruned = cut_prunes z root k g p l x ps q lz lt a
 
-  pruned_there : Prunes u (written u (cut_writes u g p l)) g p l
+  pruned_there : Prunes u (written u (tree_del_writes u g p l)) g p l
   pruned_there = cut_prunes u root k g p l y qs t r.lawful lt b
 
   found : seek i (plug ps (beside q)) ≡ n
   found =
-      ends_once (written z (cut_writes z g p l)) root i n (plug ps (beside q))
-      (grown_less z (written z (cut_writes z g p l)) root k g p l x ps q lt a pruned) e
+      ends_once (written z (tree_del_writes z g p l)) root i n (plug ps (beside q))
+      (grown_less z (written z (tree_del_writes z g p l)) root k g p l x ps q lt a pruned) e
 
   -- it ended at another leaf
   not_leaf : n ≢ l
   not_leaf same =
-      let gz : IsGrown (written z (cut_writes z g p l)) root (plug ps (beside q)) =
-      grown_less z (written z (cut_writes z g p l)) root k g p l x ps q lt a pruned in
-      let own : owner (written z (cut_writes z g p l)) (seek i (plug ps (beside q))) ≡ suc root =
-      Stands-owner (written z (cut_writes z g p l)) root (plug ps (beside q)) gz.stands (seek i (plug ps (beside q))) (seek_in i (plug ps (beside q))) in
-      let none : owner (written z (cut_writes z g p l)) (seek i (plug ps (beside q))) ≡ 0 =
-      ap (owner (written z (cut_writes z g p l))) (found ∙ same) ∙ ap (word 0) pruned.no_leaf in omega arith
+      let gz : HoldsTree (written z (tree_del_writes z g p l)) root (plug ps (beside q)) =
+      grown_less z (written z (tree_del_writes z g p l)) root k g p l x ps q lt a pruned in
+      let own : owner (written z (tree_del_writes z g p l)) (seek i (plug ps (beside q))) ≡ suc root =
+      Stands-owner (written z (tree_del_writes z g p l)) root (plug ps (beside q)) gz.stands (seek i (plug ps (beside q))) (seek_in i (plug ps (beside q))) in
+      let none : owner (written z (tree_del_writes z g p l)) (seek i (plug ps (beside q))) ≡ 0 =
+      ap (owner (written z (tree_del_writes z g p l))) (found ∙ same) ∙ ap (word 0) pruned.no_leaf in omega arith
 
   -- a search that ended there before the cut ends there in both
   from_before : seek i (plug ps (plug (q ∷ []) (leaf l k x))) ≡ n → seek i (plug qs (beside t)) ≡ n
   from_before before =
       let here : EndsAt z root i n = (plug ps (plug (q ∷ []) (leaf l k x)), a.grown, before) in
-      cut_ends u (written u (cut_writes u g p l)) root k g p l y qs t lt b pruned_there i n
+      cut_ends u (written u (tree_del_writes u g p l)) root k g p l y qs t lt b pruned_there i n
       (ends_once u root i n (plug qs (plug (t ∷ []) (leaf l k y))) b.grown (r.ends root i n lo lt hn here)) not_leaf
 
   -- one that ended at the leaf ends where the search for the key on the other side ended
@@ -92,9 +95,9 @@ module _ (z u : State) (root k g p l : ℕ) (lo : 170 ≤ root) (lt : root < 180
     ]
   ]
 
-  cut_ends_track : EndsAt (written u (cut_writes u g p l)) root i n
+  cut_ends_track : EndsAt (written u (tree_del_writes u g p l)) root i n
   cut_ends_track =
-      (plug qs (beside t), grown_less u (written u (cut_writes u g p l)) root k g p l y qs t lt b pruned_there, found_there)
+      (plug qs (beside t), grown_less u (written u (tree_del_writes u g p l)) root k g p l y qs t lt b pruned_there, found_there)
 
 pub cut_tracks : (root k v g p l : ℕ) (lo : 170 ≤ root) (lt : root < 180) → Tracks root (cut_way root k v g p l lo lt)
 unfolding cut_way
@@ -104,7 +107,7 @@ cut_tracks root k v g p l lo lt = record {
         (b.remains.words l (b.objects l (inr (inr (inl refl))))) b.place.0,
     ap (word 5) (b.remains.words l (b.objects l (inr (inr (inl refl))))) ∙ b.place.1,
   );
-  links = λ s law a vac o t list there. absurd (cut_links s root k g p l lo lt law a.0 o (in-touches (cut_writes s g p l) o t) list);
+  links = λ s law a vac o t list there. absurd (cut_links s root k g p l lo lt law a.0 o (in-touches (tree_del_writes s g p l) o t) list);
   ends = λ held z u b place vac hi i n hn e.
       (let c = cut_twig z root k g p l b.lawful lo lt b.place.0 in
       let d = cut_twig u root k g p l b.remains.lawful lo lt place.0 in

@@ -1,8 +1,8 @@
 -- A command that changes nothing replies the same in every state that others may lead to while what its reply depends on is held.
-use Rattle.set_script.proofs.ListMaps.{map_at-holds}
-use Rattle.set_script.proofs.MapLemmas.{has_key-some}
-use Rattle.set_script.proofs.Mapped.{map_of-catalogue_of}
-use Rattle.set_script.proofs.TreeMaps.{map_of-root, seek_leaf}
+use Rattle.set_model.proofs.ListMaps.{map_at-holds}
+use Rattle.set_model.proofs.MapLemmas.{has_key-some}
+use Rattle.set_model.proofs.Mapped.{map_of-catalogue_of}
+use Rattle.set_model.proofs.TreeMaps.{map_of-root, seek_leaf}
 use Rattle.std.proofs.Common.{◌≡◌, ◌≢◌, ◌^◌, ◌<◌, ◌≤◌, ◌&&◌, ◌∷◌, ◌++◌}
 use Rattle.set_blocks.proofs.Terms.{ℕ, inl, inr, Bool, true, false, cond, not, List, [], refl, sym, ap, ◌∙◌, subst, arith, true≢false, Option, Some, None, set}
 use Rattle.set_blocks.proofs.Terms.{set-get_or, false_from_ne_true, State, Writes, written, words_at, Command, Add, Put, Del, Has, Get, Move, Pair, Reply, Yes}

@@ -1,6 +1,6 @@
 -- The ways to change a list are ones that others don't disturb: they commit nothing that these hold, and keep the keys of the nodes behind.
-use Rattle.set_script.specs.Lists.{Nodes, first_of, FitsHead, Links, IsList}
-use Rattle.set_script.proofs.Chains.{Links-right}
+use Rattle.set_model.specs.Lists.{Nodes, first_of, FitsHead, Links, IsList}
+use Rattle.set_model.proofs.Chains.{Links-right}
 use Rattle.list_set.proofs.Changes.{Added, Taken}
 use Rattle.list_set.proofs.Parts.{part_at, whole_list, place_in_range, place_not_vacant}
 use Rattle.list_set.proofs.Putting.{Revalued, put_writes_do, put_in_range}

@@ -2,7 +2,7 @@
 use Rattle.std.proofs.Common.{◌≡◌, ◌^◌, ◌<◌, ◌||◌, ◌∷◌, ℕ, inl, inr, Bool, true, false, List, [], length, refl, sym, ap, ◌∙◌, subst, arith}
 use Rattle.set_blocks.proofs.Terms.{State, Writes, written, touches, AreWithin, length-written, Command, Add, Put, Del, Move, Reply}
 use Rattle.set_blocks.proofs.Terms.{IsLawful, value, objects_of, IsInRange, IsIn, in_either, in-touches, touches-in, IsAt, del_writes, put_writes, at_in_range}
-use Rattle.set_blocks.proofs.Terms.{ends_at_root, merged, head_of, DelPlan, AddPlan, PutPlan, MovePlan, PlanOf, links, plants, grows, unlinks, bares, cuts}
+use Rattle.set_blocks.proofs.Terms.{ends_at_root, merged, head_of, DelPlan, AddPlan, PutPlan, MovePlan, PlanOf, links, tree_adds, grows, unlinks, bares, cuts}
 use Rattle.set_blocks.proofs.Terms.{in_list, in_tree, head_below, merged-is, touches-merged, length-merged, added_by, removed_by, by_within, LacksAt, HasAt}
 use Rattle.set_blocks.proofs.Terms.{ValueAt, TellsAt, HoldPlan, StepPlan, BlockPlan, holding, before_gap, no_tree, other_leaf, before_node, own_leaf, in_node}
 use Rattle.set_blocks.proofs.Terms.{in_leaf, has_yes, has_no, del_no, add_no, get_none, get_value, put_no, move_from_none, move_to_one, pair_tells, changing}
@@ -123,12 +123,12 @@ del_some s name k node inner ws (cuts _ _ _ _) = omega arith
 
 plan_some : (command : Command) (s : State) (ws : Writes) → PlanOf command s ws → 0 < length ws
 plan_some (Add name k) s ws (first, second, links _ _ _ _) = omega arith
-plan_some (Add name k) s ws (first, second, plants _ _ _) = omega arith
+plan_some (Add name k) s ws (first, second, tree_adds _ _ _) = omega arith
 plan_some (Add name k) s ws (first, second, grows _ _ _ _ _ _ _) = omega arith
 plan_some (Put name k v) s ws (inl (in_list _ _ _)) = omega arith
 plan_some (Put name k v) s ws (inl (in_tree _ _ _)) = omega arith
 plan_some (Put name k v) s ws (inr (first, second, links _ _ _ _)) = omega arith
-plan_some (Put name k v) s ws (inr (first, second, plants _ _ _)) = omega arith
+plan_some (Put name k v) s ws (inr (first, second, tree_adds _ _ _)) = omega arith
 plan_some (Put name k v) s ws (inr (first, second, grows _ _ _ _ _ _ _)) = omega arith
 plan_some (Del name k) s ws (node, inner, plan) = del_some s name k node inner ws plan
 plan_some (Move source target k) s ws m =

@@ -1,7 +1,7 @@
 -- What the rules of the blocks say of each time of a store, and what remains while others commit.
 use Rattle.mv_history.specs.declared.history.Entry.{Entry}
 use Rattle.mv_history.specs.declared.history.Entry.TheVariants.{Rest, Change}
-use Rattle.set_script.proofs.Opening.{opening_lawful}
+use Rattle.set_model.proofs.Opening.{opening_lawful}
 use Rattle.std.proofs.Common.{◌≡◌, ◌≤◌, ◌∷◌, ◌++◌, ℕ, inl, inr, true, false, List, [], refl, sym, ap, ◌∙◌, subst, arith, append_assoc, append-nil}
 use Rattle.set_blocks.proofs.Terms.{State, Writes, written, touches, state_after, IsAllowed, words_at, Drifts}
 use Rattle.set_blocks.proofs.Terms.{state_after-append, length-written, drift_keeps_apart, key, link, IsLawful, IsOpening, word}

@@ -1,12 +1,13 @@
--- The ways to plant and to bare a tree, and to put another value at a leaf, are ones that others don't disturb.
-use Rattle.tree_set.proofs.Ends.{no_tree, plant_distinct, plant_half, bare_tree, bare_distinct}
+-- The ways to tree_add and to bare a tree, and to put another value at a leaf, are ones that others don't disturb.
+use Rattle.tree_set.proofs.Ends.{no_tree, tree_add_distinct, tree_add_half, bare_tree, bare_distinct}
 use Rattle.tree_set.proofs.Putting.{put_grown, put_ends}
-use Rattle.tree_set.proofs.TreeWays.{plant_way, bare_way, put_way}
+use Rattle.tree_set.proofs.TreeWays.{tree_add_way, bare_way, put_way}
 use Rattle.std.proofs.Common.{◌≡◌, ◌^◌, ◌<◌, ◌≤◌, ◌∷◌}
 use Rattle.set_blocks.proofs.Terms.{ℕ, inl, inr, true, List, [], refl, sym, ap, ◌∙◌, subst, arith, State, Writes, written, touches, words_at}
-use Rattle.set_blocks.proofs.Terms.{words-written_same, kind, link, value, leaf_words, no_words, relink, revalue, top, IsGrown, seek, EndsAt, leaf, top_is_node}
+use Rattle.set_blocks.proofs.Terms.{words-written_same, kind, link, value, leaf_words, no_words, relink, revalue, top, HoldsTree, seek, EndsAt, leaf}
+use Rattle.set_blocks.proofs.Terms.{top_is_node}
 use Rattle.set_blocks.proofs.Terms.{IsLawful, word, kind-revalue, owned_in_range, IsIn, in-touches, IsVacant, put_writes, Path, plug, Follows, IsLeaf}
-use Rattle.set_blocks.proofs.Terms.{plant_writes, IsBarePlace, bare_writes, tree_with, path_to_leaf, leaf_same, IsOfLists, Remains}
+use Rattle.set_blocks.proofs.Terms.{tree_add_writes, IsBarePlace, bare_writes, tree_with, path_to_leaf, leaf_same, IsOfLists, Remains}
 use Rattle.set_blocks.proofs.Tracking.{Tracks}
 use Rattle.set_blocks.proofs.ListTracks.{vacant_of_none}
 use Rattle.set_blocks.proofs.TreeTracks.{tree_of_none, ends_once}
@@ -17,45 +18,45 @@ root_of_none s root lo lt = tree_of_none s root lo (λ ge. absurd (omega arith))
 
 module _ (root k v m : ℕ) (lo : 170 ≤ root) (lt : root < 180) (fits : k < 2 ^ 32) (s : State) (law : IsLawful s) (e : link s root ≡ 0)
     (vac : IsVacant s m) where
-  planted_words : words_at (written s (plant_writes s root k v m)) m ≡ leaf_words root k v
-  planted_words =
-      words-written_same s (plant_writes s root k v m) 1 m (0, []) (plant_distinct s root k v m law lo lt fits (no_tree s root law lo lt e) vac)
+  tree_added_words : words_at (written s (tree_add_writes s root k v m)) m ≡ leaf_words root k v
+  tree_added_words =
+      words-written_same s (tree_add_writes s root k v m) 1 m (0, []) (tree_add_distinct s root k v m law lo lt fits (no_tree s root law lo lt e) vac)
       (omega arith) refl vac.1
 
-  planted_link : link (written s (plant_writes s root k v m)) root ≡ m
-  planted_link =
+  tree_added_link : link (written s (tree_add_writes s root k v m)) root ≡ m
+  tree_added_link =
       let some = law.some in
-      ap (word 3) (words-written_same s (plant_writes s root k v m) 0 root (0, [])
-      (plant_distinct s root k v m law lo lt fits (no_tree s root law lo lt e) vac) (omega arith) refl (omega arith)
+      ap (word 3) (words-written_same s (tree_add_writes s root k v m) 0 root (0, [])
+      (tree_add_distinct s root k v m law lo lt fits (no_tree s root law lo lt e) vac) (omega arith) refl (omega arith)
       ∙ ap (λ (w : List ℕ). relink w m) (no_tree s root law lo lt e).0)
 
   -- the leaf is all of the tree
-  plant_grown : IsGrown (written s (plant_writes s root k v m)) root (leaf m k (value (written s (plant_writes s root k v m)) m))
-  plant_grown =
-      bare_tree (written s (plant_writes s root k v m)) root k m (plant_half s root k v m law lo lt fits e vac).keeps.lawful_after lo lt
-      (record { first = planted_link; is_leaf = (vac.0, ap (word 0) planted_words, ap (word 1) planted_words, ap (word 2) planted_words) })
+  tree_add_grown : HoldsTree (written s (tree_add_writes s root k v m)) root (leaf m k (value (written s (tree_add_writes s root k v m)) m))
+  tree_add_grown =
+      bare_tree (written s (tree_add_writes s root k v m)) root k m (tree_add_half s root k v m law lo lt fits e vac).keeps.lawful_after lo lt
+      (record { first = tree_added_link; is_leaf = (vac.0, ap (word 0) tree_added_words, ap (word 1) tree_added_words, ap (word 2) tree_added_words) })
 
-  plant_links : (o : ℕ) → IsIn o (root ∷ m ∷ []) → IsOfLists (written s (plant_writes s root k v m)) o → ⊥
-  plant_links o (inl q) list = root_of_none (written s (plant_writes s root k v m)) root lo lt
-      (subst (λ n. IsOfLists (written s (plant_writes s root k v m)) n) q list)
-  plant_links o (inr (inl q)) list =
+  tree_add_links : (o : ℕ) → IsIn o (root ∷ m ∷ []) → IsOfLists (written s (tree_add_writes s root k v m)) o → ⊥
+  tree_add_links o (inl q) list = root_of_none (written s (tree_add_writes s root k v m)) root lo lt
+      (subst (λ n. IsOfLists (written s (tree_add_writes s root k v m)) n) q list)
+  tree_add_links o (inr (inl q)) list =
       let node : 180 ≤ m = vac.0 in
-      let one : kind (written s (plant_writes s root k v m)) m ≡ 1 = ap (word 1) planted_words in
-      tree_of_none (written s (plant_writes s root k v m)) m (omega arith) (λ ge. inr (λ z. omega arith))
-      (subst (λ n. IsOfLists (written s (plant_writes s root k v m)) n) q list)
-  plant_links o (inr (inr i)) list = i
+      let one : kind (written s (tree_add_writes s root k v m)) m ≡ 1 = ap (word 1) tree_added_words in
+      tree_of_none (written s (tree_add_writes s root k v m)) m (omega arith) (λ ge. inr (λ z. omega arith))
+      (subst (λ n. IsOfLists (written s (tree_add_writes s root k v m)) n) q list)
+  tree_add_links o (inr (inr i)) list = i
 
-pub plant_tracks : (root k v m : ℕ) (lo : 170 ≤ root) (lt : root < 180) (fits : k < 2 ^ 32) → Tracks root (plant_way root k v m lo lt fits)
-unfolding plant_way
-plant_tracks root k v m lo lt fits = record {
+pub tree_add_tracks : (root k v m : ℕ) (lo : 170 ≤ root) (lt : root < 180) (fits : k < 2 ^ 32) → Tracks root (tree_add_way root k v m lo lt fits)
+unfolding tree_add_way
+tree_add_tracks root k v m lo lt fits = record {
   place = λ held z u b. ap (word 3) (b.remains.words root (b.objects root (inl refl))) ∙ b.place;
   links = λ s law a vac o t list there.
-      absurd (plant_links root k v m lo lt fits s law a (vac m (inl refl)) o (in-touches (plant_writes s root k v m) o t) list);
+      absurd (tree_add_links root k v m lo lt fits s law a (vac m (inl refl)) o (in-touches (tree_add_writes s root k v m) o t) list);
   ends = λ held z u b place vac hi i n hn e. (
-    leaf m k (value (written u (plant_writes u root k v m)) m),
-    plant_grown root k v m lo lt fits u b.remains.lawful place (vac m (inl refl)),
-    ends_once (written z (plant_writes z root k v m)) root i n (leaf m k (value (written z (plant_writes z root k v m)) m))
-        (plant_grown root k v m lo lt fits z b.lawful b.place (b.vacant m (inl refl))) e,
+    leaf m k (value (written u (tree_add_writes u root k v m)) m),
+    tree_add_grown root k v m lo lt fits u b.remains.lawful place (vac m (inl refl)),
+    ends_once (written z (tree_add_writes z root k v m)) root i n (leaf m k (value (written z (tree_add_writes z root k v m)) m))
+        (tree_add_grown root k v m lo lt fits z b.lawful b.place (b.vacant m (inl refl))) e,
   );
 }
 
@@ -116,7 +117,7 @@ put_ends_track z u root k v l lo lt held lz r pz pu i n hn e =
     let b = path_to_leaf u root k l tu.0 tu.1 pu in
     both a.0 a.1 a.2 a.3 b.0 b.1 b.2 b.3
   where
-    both : (x : ℕ) (ps : Path) → IsGrown z root (plug ps (leaf l k x)) → Follows k ps → (y : ℕ) (qs : Path) → IsGrown u root (plug qs (leaf l k y))
+    both : (x : ℕ) (ps : Path) → HoldsTree z root (plug ps (leaf l k x)) → Follows k ps → (y : ℕ) (qs : Path) → HoldsTree u root (plug qs (leaf l k y))
         → Follows k qs → EndsAt (written u (put_writes u l v)) root i n
     both x ps gz fz y qs gu fu =
         let found : seek i (plug ps (leaf l k v)) ≡ n =

@@ -1,17 +1,17 @@
 -- What is planned for a change is written by a way that others don't disturb.
-use Rattle.set_script.proofs.Ways.{Has}
+use Rattle.set_model.proofs.Ways.{Has}
 use Rattle.list_set.proofs.ListWays.{list_add_way, list_del_way, list_put_way}
-use Rattle.tree_set.proofs.TreeWays.{grow_way, plant_way, cut_way, bare_way, put_way}
+use Rattle.tree_set.proofs.TreeWays.{grow_way, tree_add_way, cut_way, bare_way, put_way}
 use Rattle.std.proofs.Common.{◌≡◌, ◌≢◌, ◌^◌, ◌<◌, ◌++◌}
 use Rattle.set_blocks.proofs.Terms.{ℕ, true, false, Some, refl, sym, ap, ◌∙◌, subst, State, Writes, written, touches, Map, map_of, has_entry, value_of, put}
 use Rattle.set_blocks.proofs.Terms.{take_out, name_of, catalogue_of, value, IsLawful, Keeps, IsIn, in_left, in_right, touches-in, AreVacant, Way, Lacks}
-use Rattle.set_blocks.proofs.Terms.{HasOther, node_has, leaf_has, head_of, DelPlan, AddPlan, PutPlan, unlinks, bares, cuts, links, plants, grows, in_list}
+use Rattle.set_blocks.proofs.Terms.{HasOther, node_has, leaf_has, head_of, DelPlan, AddPlan, PutPlan, unlinks, bares, cuts, links, tree_adds, grows, in_list}
 use Rattle.set_blocks.proofs.Terms.{in_tree, low_head, low_fits, root_from, root_below, head_named, ByWay, vacant_one, vacant_two, other_than, Remains}
 use Rattle.set_blocks.proofs.Stepping.{Covers, Spares, spares_keeps}
 use Rattle.set_blocks.proofs.Tracking.{Both, Tracks, tracked_place, tracked_vacant, tracked_writes, tracked_half, remains_after}
 use Rattle.set_blocks.proofs.ListTracks.{list_add_tracks, list_del_tracks, list_put_tracks}
 use Rattle.set_blocks.proofs.TreeTracks.{grow_tracks}
-use Rattle.set_blocks.proofs.RootTracks.{plant_tracks, bare_tracks, put_tracks}
+use Rattle.set_blocks.proofs.RootTracks.{tree_add_tracks, bare_tracks, put_tracks}
 use Rattle.set_blocks.proofs.CutTracks.{cut_tracks}
 
 -- A way that others don't disturb has its place in the state, and writes exactly this there.
@@ -68,11 +68,11 @@ tracked {Fits} {change} {head} {w} s tracks place vacant = record { way = w; tra
 
 module _ (s : State) (name k : ℕ) (lt : name < 30) (fits : k < 2 ^ 32) where
   pub added_tracked : (v first second : ℕ) (ws : Writes) → AddPlan s name k v first second ws → ByTracked s (head_of name k) (Lacks k) (put k v) ws
-  unfolding list_add_way plant_way grow_way
+  unfolding list_add_way tree_add_way grow_way
   added_tracked v first second ws (links previous low place vac) =
       tracked s (list_add_tracks (head_of name k) k v previous first (low_head name k low) (low_fits name k low fits)) place (vacant_one s first vac)
-  added_tracked v first second ws (plants high place vac) =
-      tracked s (plant_tracks (head_of name k) k v first (root_from name k high) (root_below name k high lt) fits) place (vacant_one s first vac)
+  added_tracked v first second ws (tree_adds high place vac) =
+      tracked s (tree_add_tracks (head_of name k) k v first (root_from name k high) (root_below name k high lt) fits) place (vacant_one s first vac)
   added_tracked v first second ws (grows parent leaf high place vac vac2 ne) =
       tracked s (grow_tracks (head_of name k) k v parent leaf first second (root_from name k high) (root_below name k high lt) fits (λ e. ne (sym e)))
       place (vacant_two s first second vac vac2)

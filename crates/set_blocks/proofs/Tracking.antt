@@ -1,6 +1,6 @@
 -- What remains of a state while others commit still remains once the same change is made in both states.
-use Rattle.set_script.proofs.Frames.{ends_stay}
-use Rattle.set_script.proofs.Halves.{Half, within_back}
+use Rattle.set_model.proofs.Frames.{ends_stay}
+use Rattle.set_model.proofs.Halves.{Half, within_back}
 use Rattle.std.proofs.Common.{◌≡◌, ◌≢◌, ◌<◌, ◌≤◌, ◌⊎◌, ℕ, inl, inr, Bool, true, false, List, refl, sym, ap, ◌∙◌, subst, arith}
 use Rattle.set_blocks.proofs.Terms.{cases_eq, State, Writes, written, touches, words_at, length-written, words-written_other, Map, key, link, EndsAt, IsLawful}
 use Rattle.set_blocks.proofs.Terms.{word, IsIn, in_either, in-touches, words-written_as, AreVacant, Way, vacant_same, IsOfLists, Remains}

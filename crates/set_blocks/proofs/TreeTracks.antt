@@ -4,7 +4,7 @@ use Rattle.tree_set.proofs.GrowFit.{grow_site, grow_sprouts}
 use Rattle.tree_set.proofs.TreeWays.{grow_way}
 use Rattle.std.proofs.Common.{◌≡◌, ◌≢◌, ◌^◌, ◌<◌, ◌≤◌, ◌⊎◌, ◌∷◌}
 use Rattle.set_blocks.proofs.Terms.{ℕ, suc, inl, inr, Bool, true, false, cond, nat_lt, [], refl, sym, ap, ◌∙◌, subst, arith, cases_eq, State, Writes, written}
-use Rattle.set_blocks.proofs.Terms.{touches, words_at, owner, kind, key, leaf_words, inner_words, Tree, Stands, IsGrown, seek, EndsAt, leaf, grown_once}
+use Rattle.set_blocks.proofs.Terms.{touches, words_at, owner, kind, key, leaf_words, inner_words, Tree, Stands, HoldsTree, seek, EndsAt, leaf, grown_once}
 use Rattle.set_blocks.proofs.Terms.{IsLawful, word, IsIn, in-touches, IsVacant, Path, plug, Follows, IsParent, IsGrowPlace, grow_writes, stands_part, seek_plug}
 use Rattle.set_blocks.proofs.Terms.{seek_beside, part_not_parent, owned_not_vacant, redirect_keeps, parent_same, IsOfLists, Remains}
 use Rattle.set_blocks.proofs.Tracking.{Tracks}
@@ -16,7 +16,7 @@ tree_of_none s o lo f (inl lt) = omega arith
 tree_of_none s o lo f (inr (ge, some, list)) = elim (f ge) [ inl z ↦ some z | inr n ↦ n list ]
 
 -- where a search ends in the one tree of a root
-pub ends_once : (s : State) (root i l : ℕ) (t : Tree) → IsGrown s root t → EndsAt s root i l → seek i t ≡ l
+pub ends_once : (s : State) (root i l : ℕ) (t : Tree) → HoldsTree s root t → EndsAt s root i l → seek i t ≡ l
 ends_once s root i l t g e = ap (seek i) (grown_once s root t e.0 g e.1) ∙ e.2
 
 -- The change of a parent's link keeps it no object of a list.
@@ -42,9 +42,9 @@ module _ (z u : State) (root k v p l m w : ℕ) (lo : 170 ≤ root) (lt : root <
       both j x ps a j' x' qs b =
           let cz : Sprouts z (written z (grow_writes z root k v p l m w)) root k v p l m w = grow_sprouts z root k v p l m w j x ps lz lt a in
           let cu : Sprouts u (written u (grow_writes u root k v p l m w)) root k v p l m w = grow_sprouts u root k v p l m w j' x' qs r.lawful lt b in
-          let gz : IsGrown (written z (grow_writes z root k v p l m w)) root (plug ps (sprout k v m w l j x)) =
+          let gz : HoldsTree (written z (grow_writes z root k v p l m w)) root (plug ps (sprout k v m w l j x)) =
           grown_more z (written z (grow_writes z root k v p l m w)) root k v p l m w j x ps lt a cz in
-          let gu : IsGrown (written u (grow_writes u root k v p l m w)) root (plug qs (sprout k v m w l j' x')) =
+          let gu : HoldsTree (written u (grow_writes u root k v p l m w)) root (plug qs (sprout k v m w l j' x')) =
           grown_more u (written u (grow_writes u root k v p l m w)) root k v p l m w j' x' qs lt b cu in
           let same : leaf_words root j' x' ≡ leaf_words root j x =
           sym (stands_part u root qs (leaf l j' x') b.grown.stands).2 ∙ r.words l hl ∙ (stands_part z root ps (leaf l j x) a.grown.stands).2 in

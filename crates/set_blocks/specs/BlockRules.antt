@@ -1,5 +1,5 @@
 -- Which commits of blocks are allowed.
-use Rattle.set_script.specs.Lawful.{IsLawful}
+use Rattle.set_model.specs.Lawful.{IsLawful}
 use Rattle.std.specs.Prelude.{◌≡◌, ◌≢◌, ◌<◌, ◌≤◌, ◌⊎◌, ◌∷◌, ℕ, true, false, List, [], length}
 use Rattle.set_blocks.specs.Terms.{State, Writes, written, touches, words_at, first_node, first_root, owner, kind, key, link, EndsAt, MOST_IN_BLOCK}
 

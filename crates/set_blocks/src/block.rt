@@ -3,7 +3,7 @@ ghost use Rattle.std.specs.Prelude.{◌≡◌, [], ◌∷◌, MatchOption, IfOk}
 ghost use Rattle.std.specs.List.{list_any};
 ghost use Rattle.set_blocks.specs.Blocks.{stands_alone, IsBlock};
 
-use set_script::Command;
+use set_model::Command;
 use std::alloc::{AllocError, Global};
 use std::marker::Model;
 

@@ -6,7 +6,10 @@ use crate::replies::Replies;
 use crate::rules::BlockRules;
 use mv_history::{Tag, View, Words};
 use section_work::{Decision, Work};
-use set_script::Reply;
+use set_model::Reply;
+
+// The first number of the tag of a block's commit.
+const BLOCK: u64 = 5;
 
 impl Work for Block {
     ghost use Rattle.std.specs.Prelude.{⊤, length, take};
@@ -55,7 +58,7 @@ impl Work for Block {
     }
 
     fn tag(&self, _plan: &Planned) -> Tag {
-        [5, self.commands().len() as u64, 0, 0]
+        [BLOCK, self.commands().len() as u64, 0, 0]
     }
 
     fn at_last(&self, _reply: Replies) -> Replies {

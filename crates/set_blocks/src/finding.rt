@@ -1,6 +1,6 @@
 // What a block comes to in a state, before anything is locked.
 ghost use Rattle.std.specs.Prelude.{◌≡◌, ◌*◌, ◌^◌, ◌<◌, ◌≤◌, true, false, length, take, MatchOption};
-ghost use Rattle.set_script.specs.Lawful.{IsLawful};
+ghost use Rattle.set_model.specs.Lawful.{IsLawful};
 ghost use Rattle.set_blocks.specs.Terms.{catalogue_of, capacity, IsInRange, reply_in, list_any};
 ghost use Rattle.set_blocks.specs.Blocks.{stands_alone, IsBlock};
 ghost use Rattle.set_blocks.specs.BlockPlans.{BlockPlan};
@@ -13,7 +13,7 @@ use crate::replies::Replies;
 use crate::turns::plan_turn;
 use mv_history::View;
 use set_catalog::{Hints, find_plan};
-use set_script::{Command, Name, Reply};
+use set_model::{Command, Name, Reply};
 
 /// What a block comes to.
 #[derive(Drop)]

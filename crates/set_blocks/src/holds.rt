@@ -1,13 +1,13 @@
 // Holding what a reply depends on.
 ghost use Rattle.std.specs.Prelude.{◌≡◌, ◌+◌, ◌<◌, ◌≤◌, take};
 ghost use Rattle.mv_history.specs.State.{written};
-ghost use Rattle.set_script.specs.Lawful.{IsLawful};
+ghost use Rattle.set_model.specs.Lawful.{IsLawful};
 ghost use Rattle.set_catalog.specs.Plans.{head_of};
 ghost use Rattle.set_blocks.specs.Holds.{HoldsKey, HoldsValue};
 
 use crate::overlay::Overlay;
 use mv_history::View;
-use set_script::Name;
+use set_model::{Name, word};
 
 // The first object that is the root of a tree.
 const FIRST_ROOT: u32 = 170;
@@ -35,9 +35,9 @@ pub fn hold_key<V: View>(overlay: &mut Overlay<V>, name: Name, key: u32) -> bool
 {
     let head = head_of(name, key);
     if head < FIRST_ROOT {
-        let spot = list_set::find(overlay, head, key);
-        overlay.write(&[(spot.previous, spot.words)]);
-        return spot.has(key);
+        let window = list_set::find(overlay, head, key);
+        overlay.write(&[(window.previous, window.words)]);
+        return window.has(key);
     }
     match tree_set::find(overlay, head, key) {
         None => {
@@ -45,9 +45,9 @@ pub fn hold_key<V: View>(overlay: &mut Overlay<V>, name: Name, key: u32) -> bool
             overlay.write(&[(head, words)]);
             false
         }
-        Some(fork) => {
-            overlay.write(&[(fork.leaf, fork.words)]);
-            fork.has(key)
+        Some(descent) => {
+            overlay.write(&[(descent.leaf, descent.words)]);
+            descent.has(key)
         }
     }
 }
@@ -63,22 +63,25 @@ pub fn hold_value<V: View>(overlay: &mut Overlay<V>, name: Name, key: u32) -> Op
 {
     let head = head_of(name, key);
     if head < FIRST_ROOT {
-        let spot = list_set::find(overlay, head, key);
-        if !spot.has(key) {
-            overlay.write(&[(spot.previous, spot.words)]);
+        let window = list_set::find(overlay, head, key);
+        if !window.has(key) {
+            overlay.write(&[(window.previous, window.words)]);
             return None;
         }
-        overlay.write(&[(spot.previous, spot.words), (spot.node, spot.node_words)]);
-        return Some(spot.node_words[5]);
+        overlay.write(&[
+            (window.previous, window.words),
+            (window.node, window.node_words),
+        ]);
+        return Some(window.node_words[word::VALUE]);
     }
-    let Some(fork) = tree_set::find(overlay, head, key) else {
+    let Some(descent) = tree_set::find(overlay, head, key) else {
         let words = overlay.read(head);
         overlay.write(&[(head, words)]);
         return None;
     };
-    overlay.write(&[(fork.leaf, fork.words)]);
-    if fork.has(key) {
-        return Some(fork.words[5]);
+    overlay.write(&[(descent.leaf, descent.words)]);
+    if descent.has(key) {
+        return Some(descent.words[word::VALUE]);
     }
     None
 }

@@ -27,7 +27,7 @@
 //! **Contract.** Each `Block` is one, whoever made it. The laws say what the definitions come to over all commands and
 //! states.
 //!
-//! **Place.** It stands on `set_script`, whose commands it does, on the three crates of sets and on `set_catalog`, whose
+//! **Place.** It stands on `set_model`, whose commands it does, on the three crates of sets and on `set_catalog`, whose
 //! places and plans its own speak of, and on `section_work`, which does a block as one section.
 #![tactic(auto)]
 

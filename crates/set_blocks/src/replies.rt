@@ -2,7 +2,7 @@
 ghost use Rattle.std.specs.Prelude.{◌≡◌, ◌<◌, ◌≤◌, ◌++◌, [], ◌∷◌, length, replicate, slice_get, Some};
 
 use crate::block::MOST_IN_BLOCK;
-use set_script::Reply;
+use set_model::Reply;
 use std::marker::Model;
 
 /// The replies of a block's commands, in their order. It is seen as the list of them, and takes no memory.
@@ -14,7 +14,7 @@ pub struct Replies {
 
 impl Model for Replies {
     ghost use Rattle.std.specs.Prelude.{List, take, length, ◌≡◌, ◌≤◌};
-    ghost use Rattle.set_script.specs.declared.commands.Reply.{Reply};
+    ghost use Rattle.set_model.specs.declared.commands.Reply.{Reply};
 
     ghost Value = { List Reply };
 

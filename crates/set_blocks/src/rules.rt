@@ -2,7 +2,7 @@
 
 use mv_history::Protocol;
 
-/// The rules under which blocks of commands are commits: the opening states are those of `set_script::SetRules`, whose
+/// The rules under which blocks of commands are commits: the opening states are those of `set_model::SetRules`, whose
 /// words are all 0.
 ///
 /// A commit is allowed exactly where
@@ -17,8 +17,8 @@ use mv_history::Protocol;
 pub struct BlockRules;
 
 impl Protocol for BlockRules {
-    ghost use Rattle.set_script.specs.Lawful.{IsOpening};
-    ghost use Rattle.set_script.specs.RuleLaws.{IsOpening-prop};
+    ghost use Rattle.set_model.specs.Lawful.{IsOpening};
+    ghost use Rattle.set_model.specs.RuleLaws.{IsOpening-prop};
     ghost use Rattle.set_blocks.specs.BlockRules.{IsBlockCommit};
     ghost use Rattle.set_blocks.specs.BlockRuleLaws.{IsBlockCommit-prop};
 

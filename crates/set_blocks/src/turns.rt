@@ -1,7 +1,7 @@
 // One command of a block at its turn.
 ghost use Rattle.std.specs.Prelude.{◌≡◌, ◌+◌, ◌<◌, ◌≤◌, ℕ, true, false, take, if◌then◌else◌, Some};
-ghost use Rattle.set_script.specs.Lawful.{IsLawful};
-ghost use Rattle.set_script.specs.Replies.{applies, value_reply};
+ghost use Rattle.set_model.specs.Lawful.{IsLawful};
+ghost use Rattle.set_model.specs.Replies.{applies, value_reply};
 ghost use Rattle.set_catalog.specs.Needs.{may_change};
 ghost use Rattle.set_blocks.specs.Terms.{written, catalogue_of, Add, Put, Del, Has, Get, Move, Pair, Yes, No};
 ghost use Rattle.set_blocks.specs.BlockReplies.{is_full};
@@ -13,7 +13,7 @@ use crate::overlay::Overlay;
 use list_set::Fingers;
 use mv_history::View;
 use set_catalog::{Hints, PlanOutcome, WritePlan, find_plan_near, search};
-use set_script::{Command, Name, Reply};
+use set_model::{Command, Name, Reply};
 
 /// What a command of a block replies at its turn, and whether it changes something.
 #[derive(Clone, Copy, Drop)]

@@ -5,16 +5,16 @@ use Rattle.std.proofs.Common.{get_or-set_other, true≢false}
 use Rattle.std.proofs.lemmas.Bool.{and_parts, not-true}
 use Rattle.std.proofs.lemmas.Bool.Decides.{nat_tests}
 use Rattle.mv_history.specs.State.{State}
-use Rattle.set_script.specs.Catalogue.{Map, Maps, map_of, has_key, put, take_out, cost_of, cost_from, cost, with_key, without_key}
-use Rattle.set_script.specs.CatalogueOf.{catalogue_of, count_used}
-use Rattle.set_script.specs.Objects.{first_node, most_objects}
-use Rattle.set_script.specs.Replies.{value_at, applies, overflows, changed, changes, next}
-use Rattle.set_script.specs.Lawful.{IsLawful}
-use Rattle.set_script.specs.Rules.{capacity, IsInRange, Makes}
-use Rattle.set_script.specs.declared.commands.Command.{Command}
-use Rattle.set_script.specs.declared.commands.Command.TheVariants.{Add, Put, Del, Has, Get, Move, Pair, Size, Next}
-use Rattle.set_script.proofs.Cost.{cost_is}
-use Rattle.set_script.proofs.Mapped.{length-catalogue_of}
+use Rattle.set_model.specs.Catalogue.{Map, Maps, map_of, has_key, put, take_out, cost_of, cost_from, cost, with_key, without_key}
+use Rattle.set_model.specs.CatalogueOf.{catalogue_of, count_used}
+use Rattle.set_model.specs.Objects.{first_node, most_objects}
+use Rattle.set_model.specs.Replies.{value_at, applies, overflows, changed, changes, next}
+use Rattle.set_model.specs.Lawful.{IsLawful}
+use Rattle.set_model.specs.Rules.{capacity, IsInRange, Makes}
+use Rattle.set_model.specs.declared.commands.Command.{Command}
+use Rattle.set_model.specs.declared.commands.Command.TheVariants.{Add, Put, Del, Has, Get, Move, Pair, Size, Next}
+use Rattle.set_model.proofs.Cost.{cost_is}
+use Rattle.set_model.proofs.Mapped.{length-catalogue_of}
 use Rattle.set_catalog.specs.Needs.{first_tree, taken, freed, wanted, may_change}
 use Rattle.set_catalog.specs.Shortages.{may_free}
 use Rattle.set_catalog.specs.declared.shortage.TheConstants.{NO_BOUND}

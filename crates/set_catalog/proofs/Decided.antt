@@ -3,15 +3,15 @@ use Rattle.std.proofs.Common.{◌≡◌, ◌≢◌, ℕ, ◌^◌, ◌+◌, ◌-�
 use Rattle.std.proofs.Common.{length, Some, None, refl, sym, ap, ◌∙◌, subst, arith, true≢false}
 use Rattle.mv_history.specs.State.{State, Writes, written}
 use Rattle.mv_history.specs.Legal.{are_distinct}
-use Rattle.set_script.specs.Catalogue.{map_of, has_key, has_entry, value_of}
-use Rattle.set_script.specs.CatalogueOf.{catalogue_of}
-use Rattle.set_script.specs.Lawful.{IsLawful}
-use Rattle.set_script.specs.Replies.{applies}
-use Rattle.set_script.specs.Rules.{IsInRange}
-use Rattle.set_script.specs.declared.commands.Command.{Command}
-use Rattle.set_script.specs.declared.commands.Command.TheVariants.{Add, Put, Del, Move, Pair}
-use Rattle.set_script.specs.declared.commands.Reply.TheVariants.{No, Full, Both}
-use Rattle.set_script.proofs.MapLemmas.{has_key-none, has_key-some}
+use Rattle.set_model.specs.Catalogue.{map_of, has_key, has_entry, value_of}
+use Rattle.set_model.specs.CatalogueOf.{catalogue_of}
+use Rattle.set_model.specs.Lawful.{IsLawful}
+use Rattle.set_model.specs.Replies.{applies}
+use Rattle.set_model.specs.Rules.{IsInRange}
+use Rattle.set_model.specs.declared.commands.Command.{Command}
+use Rattle.set_model.specs.declared.commands.Command.TheVariants.{Add, Put, Del, Move, Pair}
+use Rattle.set_model.specs.declared.commands.Reply.TheVariants.{No, Full, Both}
+use Rattle.set_model.proofs.MapLemmas.{has_key-none, has_key-some}
 use Rattle.section_work.specs.Held.{count_unheld}
 use Rattle.set_catalog.specs.Ends.{EndsAt, objects_added, adds_at, dels_at, puts_at, node_gone, inner_gone}
 use Rattle.set_catalog.specs.Findings.{IsNew, IsPlanned, IsPlannedWithin, IsFound, IsFoundWithin}
@@ -22,7 +22,7 @@ use Rattle.set_catalog.specs.declared.ends.End.{End}
 use Rattle.set_catalog.specs.declared.finding.Finding.{Finding}
 use Rattle.set_catalog.specs.declared.finding.Finding.TheVariants.{Settled, Open}
 use Rattle.tree_balance.specs.declared.plan.WritePlan.{WritePlan}
-use Rattle.set_catalog.specs.declared.plan.Gone.{Gone}
+use Rattle.set_catalog.specs.declared.plan.Vacated.{Vacated}
 use Rattle.set_catalog.proofs.Deciding.{decides_no, decides_open, decides_short, decides_had}
 use Rattle.set_catalog.proofs.EndPlans.{del_planned, put_planned, freed_gone}
 use Rattle.set_catalog.proofs.Lone.{has_entry-value, has_entry-missing}
@@ -70,7 +70,7 @@ module _ (s : State) (name k v : ℕ) (l : IsLawful s) (name_in : name < 30) (fi
   pub new_short : (most want : ℕ) → want ≡ taken name (map_of name (catalogue_of s)) → vacant_nodes s < want → IsFoundWithin most command s (Settled Full)
   new_short most want w short = decides_short command s l (in_range n) (may n) (does n) want (w ∙ sym (wants n)) short
 
-  pub new_open : (most want first second : ℕ) (plan : WritePlan) (gone : Gone) → want ≡ taken name (map_of name (catalogue_of s))
+  pub new_open : (most want first second : ℕ) (plan : WritePlan) (gone : Vacated) → want ≡ taken name (map_of name (catalogue_of s))
       → want ≤ vacant_nodes s → AddsWithin most s name k v first second (writes_in plan) → (gone.node ≡ 0) × (gone.inner ≡ 0)
       → IsFoundWithin most command s (Open plan gone)
   new_open most want first second plan gone w there adds nothing =
@@ -102,7 +102,7 @@ module _ (s : State) (name k : ℕ) (l : IsLawful s) (lt : name < 30) (fit : k <
     lacks : old ≢ v → has_entry k v (map_of name (catalogue_of s)) ≡ false
     lacks n = entry ∙ ne_eqb old v n
 
-    pub put_open : (most : ℕ) (end : End) (none plan : WritePlan) (gone : Gone) → EndsAt s name k end → old ≢ v → none.count ≡ 0
+    pub put_open : (most : ℕ) (end : End) (none plan : WritePlan) (gone : Vacated) → EndsAt s name k end → old ≢ v → none.count ≡ 0
         → writes_in plan ≡ merged (writes_in none) (puts_at s v end) → (gone.node ≡ 0) × (gone.inner ≡ 0)
         → IsFoundWithin most (Put name k v) s (Open plan gone)
     put_open most end none plan gone ends n z e nothing =
@@ -117,7 +117,7 @@ module _ (s : State) (name k : ℕ) (l : IsLawful s) (lt : name < 30) (fit : k <
   pub del_no : has_key k (map_of name (catalogue_of s)) ≡ false → IsFound (Del name k) s (Settled No)
   del_no missed = decides_no (Del name k) s refl missed
 
-  pub del_open : (end : End) (none plan : WritePlan) (gone : Gone) → EndsAt s name k end → has_key k (map_of name (catalogue_of s)) ≡ true
+  pub del_open : (end : End) (none plan : WritePlan) (gone : Vacated) → EndsAt s name k end → has_key k (map_of name (catalogue_of s)) ≡ true
       → none.count ≡ 0 → writes_in plan ≡ merged (writes_in none) (dels_at s end) → gone.node ≡ node_gone end → gone.inner ≡ inner_gone end
       → IsFound (Del name k) s (Open plan gone)
   del_open end none plan gone ends there z e n i =
@@ -227,7 +227,7 @@ module _ (s : State) (source target k : ℕ) (l : IsLawful s) (ls : source < 30)
           (subst (λ (x : ℕ). length (dels_at s from) + count_unheld (dels_at s from) (objects_added x second to) ≤ 5) (sym n)
           (subst (λ (x : ℕ). length (dels_at s from) + count_unheld (dels_at s from) (objects_added (node_gone from) x to) ≤ 5) (sym q) r))
 
-      pub move_open : (none mid plan : WritePlan) (gone : Gone) (want takes left first other node second : ℕ) (to : End) → EndsAt s target k to
+      pub move_open : (none mid plan : WritePlan) (gone : Vacated) (want takes left first other node second : ℕ) (to : End) → EndsAt s target k to
           → takes ≡ taken target (map_of target (catalogue_of s)) → left ≡ inner_gone from → want ≡ takes - (if left == 0 then 1 else 2)
           → want ≤ vacant_nodes s → AreEnough s want first other → node ≡ node_gone from → second ≡ (if left == 0 then first else left) → none.count ≡ 0
           → writes_in mid ≡ merged (writes_in none) (dels_at s from)

@@ -1,15 +1,15 @@
 -- What a command that applies comes to, by how many nodes are vacant.
 use Rattle.std.proofs.Common.{◌≡◌, ℕ, ◌<◌, ◌≤◌, Bool, true, false, not, ◌&&◌, if◌then◌else◌, nat_lt, refl, sym, ◌∙◌, arith, true≢false}
 use Rattle.mv_history.specs.State.{State}
-use Rattle.set_script.specs.Catalogue.{Maps}
-use Rattle.set_script.specs.CatalogueOf.{catalogue_of}
-use Rattle.set_script.specs.Lawful.{IsLawful}
-use Rattle.set_script.specs.Replies.{applies, overflows, change_reply, reply}
-use Rattle.set_script.specs.Rules.{capacity, IsInRange}
-use Rattle.set_script.specs.declared.commands.Command.{Command}
-use Rattle.set_script.specs.declared.commands.Command.TheVariants.{Add, Put, Del, Has, Get, Move, Pair, Size, Next}
-use Rattle.set_script.specs.declared.commands.Reply.{Reply}
-use Rattle.set_script.specs.declared.commands.Reply.TheVariants.{Yes, No, Full, Worn}
+use Rattle.set_model.specs.Catalogue.{Maps}
+use Rattle.set_model.specs.CatalogueOf.{catalogue_of}
+use Rattle.set_model.specs.Lawful.{IsLawful}
+use Rattle.set_model.specs.Replies.{applies, overflows, change_reply, reply}
+use Rattle.set_model.specs.Rules.{capacity, IsInRange}
+use Rattle.set_model.specs.declared.commands.Command.{Command}
+use Rattle.set_model.specs.declared.commands.Command.TheVariants.{Add, Put, Del, Has, Get, Move, Pair, Size, Next}
+use Rattle.set_model.specs.declared.commands.Reply.{Reply}
+use Rattle.set_model.specs.declared.commands.Reply.TheVariants.{Yes, No, Full, Worn}
 use Rattle.set_catalog.specs.Needs.{wanted, may_change}
 use Rattle.set_catalog.specs.Picks.{vacant_nodes}
 use Rattle.set_catalog.specs.Replies.{reply_in, changes_in}

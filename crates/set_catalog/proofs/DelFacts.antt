@@ -5,18 +5,18 @@ use Rattle.std.proofs.lemmas.Bool.Decides.{nat_tests}
 use Rattle.mv_history.specs.State.{State, Writes, written, touches}
 use Rattle.mv_history.specs.Meaning.{words_at}
 use Rattle.mv_history.proofs.Writing.{length-written}
-use Rattle.set_script.specs.Catalogue.{map_of}
-use Rattle.set_script.specs.CatalogueOf.{catalogue_of}
-use Rattle.set_script.specs.Objects.{first_node, owner, kind, link, no_words, relink}
-use Rattle.set_script.specs.Lawful.{IsLawful}
+use Rattle.set_model.specs.Catalogue.{map_of}
+use Rattle.set_model.specs.CatalogueOf.{catalogue_of}
+use Rattle.set_model.specs.Objects.{first_node, owner, kind, link, no_words, relink}
+use Rattle.set_model.specs.Lawful.{IsLawful}
 use Rattle.section_work.specs.OwnWrites.{objects_of}
-use Rattle.set_script.proofs.ObjectWords.{word, owned_in_range}
-use Rattle.set_script.proofs.TreeMaps.{map_of-tree}
+use Rattle.set_model.proofs.ObjectWords.{word, owned_in_range}
+use Rattle.set_model.proofs.TreeMaps.{map_of-tree}
 use Rattle.section_work.proofs.Objects.{IsIn, touches-out, touches-in}
-use Rattle.set_script.proofs.Ways.{IsAt}
+use Rattle.set_model.proofs.Ways.{IsAt}
 use Rattle.list_set.specs.Places.{IsDelPlace, del_writes}
 use Rattle.list_set.proofs.Removing.{Removal, removal}
-use Rattle.tree_set.specs.Places.{IsParent, IsBarePlace, IsCutPlace, bare_writes, cut_writes, redirect, sibling}
+use Rattle.tree_set.specs.Places.{IsParent, IsBarePlace, IsCutPlace, bare_writes, tree_del_writes, redirect, sibling}
 use Rattle.tree_set.proofs.Ends.{bare_tree}
 use Rattle.set_catalog.specs.Needs.{first_tree, freed}
 use Rattle.set_catalog.specs.Picks.{IsVacant}
@@ -113,7 +113,7 @@ parent_at s root parent node (inl p) = inl p.0
 parent_at s root parent node (inr p) = inr (p.0.0, p.0.1)
 
 cut_left : (s : State) (name k grand inner node : ℕ) → IsLawful s → name < 30 → first_tree ≤ name → IsCutPlace s (head_of name k) k grand inner node
-    → Left s name k node inner (cut_writes s grand inner node)
+    → Left s name k node inner (tree_del_writes s grand inner node)
 cut_left s name k grand inner node l lt high place =
     let below : head_of name k < 180 = root_below name k high lt in
     let node_at : IsAt s (head_of name k) node = inr (place.is_leaf.0, place.is_leaf.1) in
@@ -127,22 +127,22 @@ cut_left s name k grand inner node l lt high place =
     let some : first_node ≤ inner = place.is_inner.0 in
     let first : List ℕ = redirect (words_at s grand) inner (sibling s inner node) in
     let s1 : State = set s grand (redirect (words_at s grand) inner (sibling s inner node)) in
-    let zero_inner : words_at (written s (cut_writes s grand inner node)) inner ≡ no_words =
+    let zero_inner : words_at (written s (tree_del_writes s grand inner node)) inner ≡ no_words =
     get_or-set_other (set s1 inner no_words) node inner no_words [] apart
     ∙ get_or-set_same s1 inner no_words [] (omega (arith, length-set s grand (redirect (words_at s grand) inner (sibling s inner node)))) in
     record {
       node_vacant =
           last_of_two s1 inner node no_words place.is_leaf.0 (omega (arith, length-set s grand (redirect (words_at s grand) inner (sibling s inner node))));
       node_used = λ v. not_at s (head_of name k) node node below v node_at refl;
-      node_held = touches-in (cut_writes s grand inner node) node (inr (inr (inl refl)));
+      node_held = touches-in (tree_del_writes s grand inner node) node (inr (inr (inl refl)));
       inner_vacant = λ n. (
-        record { node = some; in_range = omega (arith, length-written s (cut_writes s grand inner node)); free = ap (word 0) zero_inner },
+        record { node = some; in_range = omega (arith, length-written s (tree_del_writes s grand inner node)); free = ap (word 0) zero_inner },
         apart,
-        touches-in (cut_writes s grand inner node) inner (inr (inl refl)),
+        touches-in (tree_del_writes s grand inner node) inner (inr (inl refl)),
       );
       count = three inner 3 refl (omega arith);
       frees = λ e. absurd (omega arith);
-      others = λ o v. three_untouched (cut_writes s grand inner node) o grand inner node refl (not_at s (head_of name k) o grand below v grand_at)
+      others = λ o v. three_untouched (tree_del_writes s grand inner node) o grand inner node refl (not_at s (head_of name k) o grand below v grand_at)
           (not_at s (head_of name k) o inner below v inner_at) (not_at s (head_of name k) o node below v node_at);
     }
   where

@@ -28,25 +28,25 @@ use Rattle.std.proofs.Common.{
 }
 use Rattle.std.proofs.lemmas.Bool.Decides.{nat_tests}
 use Rattle.mv_history.specs.State.{State, Writes}
-use Rattle.set_script.specs.Catalogue.{Map, map_of, has_key, value_of}
-use Rattle.set_script.specs.CatalogueOf.{name_of, map_at, catalogue_of}
-use Rattle.set_script.specs.Lawful.{IsLawful}
-use Rattle.set_script.specs.Objects.{link}
-use Rattle.set_script.proofs.ObjectWords.{word}
-use Rattle.set_script.proofs.NameMaps.{map_of-has, map_of-value}
-use Rattle.list_set.specs.Spots.{EndsHere}
-use Rattle.list_set.specs.declared.search.Spot.{Spot}
-use Rattle.list_set.proofs.Spots.{found_some as found_some_node}
-use Rattle.tree_set.specs.Forks as trees
-use Rattle.tree_set.specs.declared.search.Fork.{Fork}
-use Rattle.tree_set.proofs.Forks.{fork_has, fork_value, no_keys}
+use Rattle.set_model.specs.Catalogue.{Map, map_of, has_key, value_of}
+use Rattle.set_model.specs.CatalogueOf.{name_of, map_at, catalogue_of}
+use Rattle.set_model.specs.Lawful.{IsLawful}
+use Rattle.set_model.specs.Objects.{link}
+use Rattle.set_model.proofs.ObjectWords.{word}
+use Rattle.set_model.proofs.NameMaps.{map_of-has, map_of-value}
+use Rattle.list_set.specs.Windows.{EndsHere}
+use Rattle.list_set.specs.declared.search.Window.{Window}
+use Rattle.list_set.proofs.Windows.{found_some as found_some_node}
+use Rattle.tree_set.specs.Descents as trees
+use Rattle.tree_set.specs.declared.search.Descent.{Descent}
+use Rattle.tree_set.proofs.Descents.{descent_has, descent_value, no_keys}
 use Rattle.tree_set.proofs.Found.{found_some}
-use Rattle.tree_set.specs.Places.{bare_writes, cut_writes}
+use Rattle.tree_set.specs.Places.{bare_writes, tree_del_writes}
 use Rattle.set_catalog.specs.Ends.{dels_at}
 use Rattle.set_catalog.specs.Merges.{merged}
 use Rattle.set_catalog.specs.Needs.{first_tree, taken}
 use Rattle.set_catalog.specs.declared.ends.End.{End}
-use Rattle.set_catalog.specs.declared.ends.End.TheVariants.{Grown}
+use Rattle.set_catalog.specs.declared.ends.End.TheVariants.{InTree}
 use Rattle.set_catalog.specs.Plans.{head_of}
 use Rattle.set_catalog.proofs.HeadNames.{low_head, low_fits, root_from, root_below, head_root, head_named}
 use Rattle.set_catalog.proofs.SetCalls.{grown_taken}
@@ -76,14 +76,17 @@ module _ (s : State) (name k head : ℕ) (l : IsLawful s) (lt : name < 30) (is :
   pub empty_map : first_tree ≤ name → link s head ≡ 0 → map_of name (catalogue_of s) ≡ []
   empty_map high z = sym at_name ∙ no_keys s head l (from high) (below high) z
 
-  pub grown_has : (fork : Fork) → first_tree ≤ name → trees.EndsHere s head k fork → has_key k (map_of name (catalogue_of s)) ≡ eqb (word 2 fork.words) k
-  grown_has fork high e =
-      ap (has_key k) (sym at_name) ∙ fork_has s head k fork.grand fork.parent fork.leaf fork.right fork.words l (from high) (below high) e.ends
+  pub grown_has : (descent : Descent) → first_tree ≤ name → trees.EndsHere s head k descent
+      → has_key k (map_of name (catalogue_of s)) ≡ eqb (word 2 descent.words) k
+  grown_has descent high e =
+      ap (has_key k) (sym at_name) ∙ descent_has s head k descent.grand descent.parent descent.leaf descent.right descent.words l (from high)
+      (below high) e.ends
 
-  pub grown_value : (fork : Fork) → first_tree ≤ name → trees.EndsHere s head k fork
-      → value_of k (map_of name (catalogue_of s)) ≡ cond (eqb (word 2 fork.words) k) (Some (word 5 fork.words)) None
-  grown_value fork high e =
-      ap (value_of k) (sym at_name) ∙ fork_value s head k fork.grand fork.parent fork.leaf fork.right fork.words l (from high) (below high) e.ends
+  pub grown_value : (descent : Descent) → first_tree ≤ name → trees.EndsHere s head k descent
+      → value_of k (map_of name (catalogue_of s)) ≡ cond (eqb (word 2 descent.words) k) (Some (word 5 descent.words)) None
+  grown_value descent high e =
+      ap (value_of k) (sym at_name) ∙ descent_value s head k descent.grand descent.parent descent.leaf descent.right descent.words l (from high)
+      (below high) e.ends
 
   -- how many nodes a new key takes
   pub listed_takes : name < first_tree → 1 ≡ taken name (map_of name (catalogue_of s))
@@ -98,15 +101,17 @@ module _ (s : State) (name k head : ℕ) (l : IsLawful s) (lt : name < 30) (is :
       one : 1 ≡ taken name []
       one = grind (arith, nat_tests)
 
-  pub grown_takes : (fork : Fork) → first_tree ≤ name → trees.EndsHere s head k fork → 2 ≡ taken name (map_of name (catalogue_of s))
-  grown_takes fork high e =
-      let some : link s head ≢ 0 = found_some s s head k fork.grand fork.parent fork.leaf fork.right fork.words refl e.ends in
+  pub grown_takes : (descent : Descent) → first_tree ≤ name → trees.EndsHere s head k descent → 2 ≡ taken name (map_of name (catalogue_of s))
+  grown_takes descent high e =
+      let some : link s head ≢ 0 = found_some s s head k descent.grand descent.parent descent.leaf descent.right descent.words refl e.ends in
       sym (grown_taken s head name l (is ∙ head_root name k high) high lt some)
 
   -- the key's node, where it is there
-  pub listed_some : (spot : Spot) → name < first_tree → k < 2 ^ 32 → EndsHere s head k spot → has_key k (map_of name (catalogue_of s)) ≡ true → spot.node ≢ 0
-  listed_some spot low fit e there =
-      found_some_node s s head k spot.previous spot.words spot.node spot.node_words (has_key k (map_at s head)) refl e (sym e.has) (listed_has low fit ∙ there)
+  pub listed_some : (window : Window) → name < first_tree → k < 2 ^ 32 → EndsHere s head k window → has_key k (map_of name (catalogue_of s)) ≡ true
+      → window.node ≢ 0
+  listed_some window low fit e there =
+      found_some_node s s head k window.previous window.words window.node window.node_words (has_key k (map_at s head)) refl e (sym e.has)
+      (listed_has low fit ∙ there)
 
 -- what the test of a key shows of its value
 pub value_missing : (k : ℕ) (m : Map) → has_key k m ≡ false → None ≡ value_of k m
@@ -122,10 +127,13 @@ pub planned_as : (mid own made : Writes) (at : End → Writes) (end shown : End)
 planned_as mid own made at end shown is e f = e ∙ ap (merged own) (f ∙ ap at (sym is))
 
 -- what a del of a leaf writes, by its parent
-pub dels_bare : (s : State) (root : ℕ) (fork : Fork) → fork.parent ≡ root → bare_writes s root fork.leaf ≡ dels_at s (Grown root fork)
-dels_bare s root fork e =
-    ap (λ (b : Bool). if b then bare_writes s root fork.leaf else cut_writes s fork.grand fork.parent fork.leaf) (sym (eq-eqb fork.parent root e))
+pub dels_bare : (s : State) (root : ℕ) (descent : Descent) → descent.parent ≡ root → bare_writes s root descent.leaf ≡ dels_at s (InTree root descent)
+dels_bare s root descent e =
+    ap (λ (b : Bool). if b then bare_writes s root descent.leaf else tree_del_writes s descent.grand descent.parent descent.leaf)
+    (sym (eq-eqb descent.parent root e))
 
-pub dels_cut : (s : State) (root : ℕ) (fork : Fork) → fork.parent ≢ root → cut_writes s fork.grand fork.parent fork.leaf ≡ dels_at s (Grown root fork)
-dels_cut s root fork n =
-    ap (λ (b : Bool). if b then bare_writes s root fork.leaf else cut_writes s fork.grand fork.parent fork.leaf) (sym (ne_eqb fork.parent root n))
+pub dels_cut : (s : State) (root : ℕ) (descent : Descent) → descent.parent ≢ root
+    → tree_del_writes s descent.grand descent.parent descent.leaf ≡ dels_at s (InTree root descent)
+dels_cut s root descent n =
+    ap (λ (b : Bool). if b then bare_writes s root descent.leaf else tree_del_writes s descent.grand descent.parent descent.leaf)
+    (sym (ne_eqb descent.parent root n))

@@ -2,9 +2,9 @@
 use Rattle.std.proofs.Common.{◌≡◌, ℕ, ◌+◌, ◌-◌, ◌*◌, ◌/◌, ◌%◌, ◌^◌, ◌<◌, ◌≤◌, ◌⊎◌, inl, inr, sym, ap, ◌∙◌, arith}
 use Rattle.std.proofs.lemmas.Bool.{cases_lt}
 use Rattle.std.proofs.lemmas.Bool.Decides.{nat_tests}
-use Rattle.set_script.specs.CatalogueOf.{name_of}
-use Rattle.set_script.specs.Lists.{FitsHead}
-use Rattle.set_script.proofs.Heads.{name_of-list, name_of-bucket}
+use Rattle.set_model.specs.CatalogueOf.{name_of}
+use Rattle.set_model.specs.Lists.{FitsHead}
+use Rattle.set_model.proofs.Heads.{name_of-list, name_of-bucket}
 use Rattle.set_catalog.specs.Needs.{first_tree}
 use Rattle.set_catalog.specs.Plans.{head_of}
 

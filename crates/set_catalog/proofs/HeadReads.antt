@@ -7,19 +7,19 @@ use Rattle.std.proofs.lemmas.Bool.{cases_lt, cases_eq}
 use Rattle.std.proofs.lemmas.List.{get_or-replicate, length-replicate}
 use Rattle.mv_history.specs.State.{State}
 use Rattle.mv_history.specs.Meaning.{words_at}
-use Rattle.set_script.specs.Catalogue.{Map, Maps, IsMap, empty, put, map_of, has_key, value_of}
-use Rattle.set_script.specs.CatalogueOf.{name_of, is_key_of, map_at, catalogue_of}
-use Rattle.set_script.specs.Objects.{owner, key}
-use Rattle.set_script.specs.Lists.{Nodes, FitsHead, first_of, entries_of, Links, IsAbove, IsRising}
-use Rattle.set_script.specs.Lawful.{IsLawful}
-use Rattle.set_script.proofs.ObjectWords.{word, owned_in_range}
-use Rattle.set_script.proofs.MapLaws.{put_is_map}
-use Rattle.set_script.proofs.MapLemmas.{value_of-put, value_of-above, value_of-first, value_of-later, has_key-some, same_maps}
-use Rattle.set_script.proofs.Mapped.{IsMap-map_among, map_among-value, map_of-catalogue_of, length-catalogue_of, is_key-from}
-use Rattle.set_script.proofs.Heads.{name_of-list, name_of-bucket, name_bound, owned_fits}
-use Rattle.set_script.proofs.ListMaps.{map_at-value, map_at-list}
-use Rattle.set_script.proofs.NameMaps.{map_of-value}
-use Rattle.set_script.proofs.TreeMaps.{map_of-root}
+use Rattle.set_model.specs.Catalogue.{Map, Maps, IsMap, empty, put, map_of, has_key, value_of}
+use Rattle.set_model.specs.CatalogueOf.{name_of, is_key_of, map_at, catalogue_of}
+use Rattle.set_model.specs.Objects.{owner, key}
+use Rattle.set_model.specs.Lists.{Nodes, FitsHead, first_of, entries_of, Links, IsAbove, IsRising}
+use Rattle.set_model.specs.Lawful.{IsLawful}
+use Rattle.set_model.proofs.ObjectWords.{word, owned_in_range}
+use Rattle.set_model.proofs.MapLaws.{put_is_map}
+use Rattle.set_model.proofs.MapLemmas.{value_of-put, value_of-above, value_of-first, value_of-later, has_key-some, same_maps}
+use Rattle.set_model.proofs.Mapped.{IsMap-map_among, map_among-value, map_of-catalogue_of, length-catalogue_of, is_key-from}
+use Rattle.set_model.proofs.Heads.{name_of-list, name_of-bucket, name_bound, owned_fits}
+use Rattle.set_model.proofs.ListMaps.{map_at-value, map_at-list}
+use Rattle.set_model.proofs.NameMaps.{map_of-value}
+use Rattle.set_model.proofs.TreeMaps.{map_of-root}
 use Rattle.list_set.specs.Walks.{walk_left}
 use Rattle.set_catalog.specs.Needs.{first_tree}
 use Rattle.set_catalog.specs.Plans.{head_of}

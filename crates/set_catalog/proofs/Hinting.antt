@@ -29,7 +29,7 @@ use Rattle.std.proofs.lemmas.List.Elements.{All-append, All-weaker, Contains-app
 use Rattle.mv_history.specs.State.{State}
 use Rattle.set_catalog.specs.Hinted.{Hinted, TakesHints}
 use Rattle.set_catalog.specs.declared.picks.Picked.{Picked}
-use Rattle.set_script.specs.Objects.{first_node}
+use Rattle.set_model.specs.Objects.{first_node}
 use Rattle.set_catalog.specs.Picks.{IsVacant, TriesFor, AllTried, TriesHints}
 
 -- the hints at the end were tried, and each is wrong or this object

@@ -10,11 +10,11 @@ use Rattle.mv_history.specs.Meaning.{Seat, InSection, IsSeat, state_of, state_of
 use Rattle.mv_history.specs.Calls.{IsAsBefore, IsEntryAt}
 use Rattle.mv_history.proofs.Snapshots.{length-state_at}
 use Rattle.mv_history.proofs.Steps.{length-seen, state_at-later}
-use Rattle.set_script.specs.Lawful.{IsLawful, IsOpening}
-use Rattle.set_script.specs.Rules.{IsSetCommit}
-use Rattle.set_script.specs.Tags.{command_of}
-use Rattle.set_script.specs.declared.commands.Command.{Command}
-use Rattle.set_script.proofs.Times.{commit_makes}
+use Rattle.set_model.specs.Lawful.{IsLawful, IsOpening}
+use Rattle.set_model.specs.Rules.{IsSetCommit}
+use Rattle.set_model.specs.Tags.{command_of}
+use Rattle.set_model.specs.declared.commands.Command.{Command}
+use Rattle.set_model.proofs.Times.{commit_makes}
 use Rattle.set_catalog.specs.declared.shortage.Shortage.{Shortage}
 use Rattle.set_catalog.specs.declared.shortage.TheConstants.{NO_BOUND}
 use Rattle.set_catalog.specs.Picks.{vacant_nodes}

@@ -9,9 +9,9 @@ use Rattle.mv_history.specs.Meaning.{Seat, InSection, IsSeat, IsSection, snapsho
 use Rattle.mv_history.proofs.Histories.{IsAllowed-front}
 use Rattle.mv_history.proofs.Writing.{state_after-append}
 use Rattle.section_work.proofs.Entering.{reads_snapshot}
-use Rattle.set_script.specs.Lawful.{IsLawful, IsOpening}
-use Rattle.set_script.specs.Rules.{IsSetCommit}
-use Rattle.set_script.proofs.Opening.{opening_lawful}
+use Rattle.set_model.specs.Lawful.{IsLawful, IsOpening}
+use Rattle.set_model.specs.Rules.{IsSetCommit}
+use Rattle.set_model.proofs.Opening.{opening_lawful}
 
 lawful_after : (start : State) (front es : List Entry) → IsLawful (state_after start front) → IsAllowed IsSetCommit start (front ++ es)
     → IsLawful (state_after start (front ++ es))

@@ -1,7 +1,7 @@
 -- Whether an entry is there, by the value of its key.
 use Rattle.std.proofs.Common.{◌≡◌, ℕ, false, ◌==◌, [], ◌∷◌, Some, None, refl, sym, arith}
 use Rattle.std.proofs.lemmas.Bool.Decides.{nat_tests}
-use Rattle.set_script.specs.Catalogue.{Map, has_key, has_entry, value_of}
+use Rattle.set_model.specs.Catalogue.{Map, has_key, has_entry, value_of}
 use Rattle.set_catalog.proofs.EndFacts.{value_missing}
 
 pub has_entry-value : (k v old : ℕ) (m : Map) → value_of k m ≡ Some old → has_entry k v m ≡ (old == v)

@@ -5,35 +5,35 @@ use Rattle.std.proofs.lemmas.Bool.Decides.{nat_tests}
 use Rattle.mv_history.specs.State.{State, Writes, written, touches}
 use Rattle.mv_history.specs.Drift.{IsFit}
 use Rattle.mv_history.proofs.Writing.{words-written_other, length-written}
-use Rattle.set_script.specs.Catalogue.{Map, map_of, has_key, value_of}
-use Rattle.set_script.specs.CatalogueOf.{name_of, catalogue_of}
-use Rattle.set_script.specs.Lawful.{IsLawful}
-use Rattle.set_script.specs.Objects.{value, link}
+use Rattle.set_model.specs.Catalogue.{Map, map_of, has_key, value_of}
+use Rattle.set_model.specs.CatalogueOf.{name_of, catalogue_of}
+use Rattle.set_model.specs.Lawful.{IsLawful}
+use Rattle.set_model.specs.Objects.{value, link}
 use Rattle.section_work.specs.OwnWrites.{with_locks, with_writes, objects_of}
-use Rattle.set_script.specs.Rules.{IsSetCommit}
-use Rattle.set_script.specs.Tags.{tag_of}
-use Rattle.set_script.specs.declared.commands.Command.TheVariants.{Move}
-use Rattle.set_script.proofs.Entries.{value_once}
-use Rattle.set_script.proofs.Fits.{move_fit}
-use Rattle.set_script.proofs.ObjectWords.{word}
-use Rattle.set_script.proofs.TwoWays.{place_after, writes_after, joined}
-use Rattle.set_script.proofs.Ways.{Way, AreVacant}
+use Rattle.set_model.specs.Rules.{IsSetCommit}
+use Rattle.set_model.specs.Tags.{tag_of}
+use Rattle.set_model.specs.declared.commands.Command.TheVariants.{Move}
+use Rattle.set_model.proofs.Entries.{value_once}
+use Rattle.set_model.proofs.Fits.{move_fit}
+use Rattle.set_model.proofs.ObjectWords.{word}
+use Rattle.set_model.proofs.TwoWays.{place_after, writes_after, joined}
+use Rattle.set_model.proofs.Ways.{Way, AreVacant}
 use Rattle.section_work.specs.Held.{count_unheld}
 use Rattle.list_set.specs.Places.{add_writes}
 use Rattle.list_set.proofs.ListHalves.{node_has}
 use Rattle.list_set.proofs.ListWays.{list_add_way}
 use Rattle.list_set.proofs.Removing.{Removal, removal}
-use Rattle.tree_set.specs.Places.{plant_writes, grow_writes}
-use Rattle.tree_set.proofs.TreeWays.{grow_way, plant_way, leaf_has}
+use Rattle.tree_set.specs.Places.{tree_add_writes, grow_writes}
+use Rattle.tree_set.proofs.TreeWays.{grow_way, tree_add_way, leaf_has}
 use Rattle.set_catalog.specs.Ends.{EndsAt, adds_at, objects_added}
 use Rattle.set_catalog.specs.Merges.{merged}
 use Rattle.set_catalog.specs.Needs.{taken, freed, wanted, AreEnough}
 use Rattle.set_catalog.specs.Picks.{IsVacant}
 use Rattle.set_catalog.specs.Plans.{head_of, DelPlan, AddPlan}
 use Rattle.set_catalog.specs.Plans.DelPlan.{unlinks, bares, cuts}
-use Rattle.set_catalog.specs.Plans.AddPlan.{links, plants, grows}
+use Rattle.set_catalog.specs.Plans.AddPlan.{links, tree_adds, grows}
 use Rattle.set_catalog.specs.declared.ends.End.{End}
-use Rattle.set_catalog.specs.declared.ends.End.TheVariants.{Listed, Empty, Grown}
+use Rattle.set_catalog.specs.declared.ends.End.TheVariants.{InList, Empty, InTree}
 use Rattle.set_catalog.proofs.DelFacts.{Left, del_left}
 use Rattle.set_catalog.proofs.EndFacts.{grown_takes}
 use Rattle.set_catalog.proofs.EndPlans.{listed_place, grown_place}
@@ -100,13 +100,13 @@ count_more own o os = go (touches own o)
 -- what the add locks beside the objects that the del holds
 add_unheld : (own : Writes) (node second more : ℕ) (end : End) → touches own node ≡ true → count_unheld own (second ∷ []) ≤ more
     → count_unheld own (objects_added node second end) ≤ 2 + more
-add_unheld own node second more (Listed head spot) t m = omega (arith, count_more own spot.previous (node ∷ []), count_held own node [] t)
+add_unheld own node second more (InList head window) t m = omega (arith, count_more own window.previous (node ∷ []), count_held own node [] t)
 add_unheld own node second more (Empty root) t m = omega (arith, count_more own root (node ∷ []), count_held own node [] t)
-add_unheld own node second more (Grown root fork) t m =
+add_unheld own node second more (InTree root descent) t m =
     omega (
       arith,
-      count_more own fork.parent (fork.leaf ∷ node ∷ second ∷ []),
-      count_more own fork.leaf (node ∷ second ∷ []),
+      count_more own descent.parent (descent.leaf ∷ node ∷ second ∷ []),
+      count_more own descent.leaf (node ∷ second ∷ []),
       count_held own node (second ∷ []) t,
       m,
     )
@@ -153,28 +153,28 @@ module _ (s : State) (source target k : ℕ) (l : IsLawful s) (ls : source < 30)
   pub move_added : (end : End) (v first second : ℕ) → EndsAt s target k end → has_key k (map_of target (catalogue_of s)) ≡ false
       → AreEnough (written s dels) (taken target (map_of target (catalogue_of s))) first second
       → AddPlan (written s dels) target k v first second (adds_at s k v first second end)
-  unfolding list_add_way plant_way grow_way
-  move_added (Listed head spot) v first second e missed enough =
-      let r = after (list_add_way (head_of target k) k v spot.previous first (low_head target k e.0) (low_fits target k e.0 fits))
-      (listed_place s target k l lt fits head spot e.0 e.1 e.2 missed) in
-      subst (λ (h : ℕ). AddPlan (written s dels) target k v first second (add_writes s h k v spot.previous first)) (sym e.1)
+  unfolding list_add_way tree_add_way grow_way
+  move_added (InList head window) v first second e missed enough =
+      let r = after (list_add_way (head_of target k) k v window.previous first (low_head target k e.0) (low_fits target k e.0 fits))
+      (listed_place s target k l lt fits head window e.0 e.1 e.2 missed) in
+      subst (λ (h : ℕ). AddPlan (written s dels) target k v first second (add_writes s h k v window.previous first)) (sym e.1)
       (subst (λ (w : Writes). AddPlan (written s dels) target k v first second w) r.1
-      (links spot.previous e.0 r.0 (enough.one (taken_some target (map_of target (catalogue_of s))))))
+      (links window.previous e.0 r.0 (enough.one (taken_some target (map_of target (catalogue_of s))))))
   move_added (Empty root) v first second e missed enough =
-      let r = after (plant_way (head_of target k) k v first (root_from target k e.0) (root_below target k e.0 lt) fits)
+      let r = after (tree_add_way (head_of target k) k v first (root_from target k e.0) (root_below target k e.0 lt) fits)
       (subst (λ (h : ℕ). link s h ≡ 0) e.1 e.2) in
-      subst (λ (h : ℕ). AddPlan (written s dels) target k v first second (plant_writes s h k v first)) (sym e.1)
+      subst (λ (h : ℕ). AddPlan (written s dels) target k v first second (tree_add_writes s h k v first)) (sym e.1)
       (subst (λ (w : Writes). AddPlan (written s dels) target k v first second w) r.1
-      (plants e.0 r.0 (enough.one (taken_some target (map_of target (catalogue_of s))))))
-  move_added (Grown root fork) v first second e missed enough =
-      let two : 2 ≡ taken target (map_of target (catalogue_of s)) = grown_takes s target k root l lt e.1 fork e.0 e.2 in
+      (tree_adds e.0 r.0 (enough.one (taken_some target (map_of target (catalogue_of s))))))
+  move_added (InTree root descent) v first second e missed enough =
+      let two : 2 ≡ taken target (map_of target (catalogue_of s)) = grown_takes s target k root l lt e.1 descent e.0 e.2 in
       let more = enough.two (omega arith) in
-      let r = after (grow_way (head_of target k) k v fork.parent fork.leaf first second (root_from target k e.0) (root_below target k e.0 lt) fits
+      let r = after (grow_way (head_of target k) k v descent.parent descent.leaf first second (root_from target k e.0) (root_below target k e.0 lt) fits
       (λ q. more.1 (sym q)))
-      (grown_place s target k l lt fits root fork e.0 e.1 e.2 missed) in
-      subst (λ (h : ℕ). AddPlan (written s dels) target k v first second (grow_writes s h k v fork.parent fork.leaf first second)) (sym e.1)
+      (grown_place s target k l lt fits root descent e.0 e.1 e.2 missed) in
+      subst (λ (h : ℕ). AddPlan (written s dels) target k v first second (grow_writes s h k v descent.parent descent.leaf first second)) (sym e.1)
       (subst (λ (w : Writes). AddPlan (written s dels) target k v first second w) r.1
-      (grows fork.parent fork.leaf e.0 r.0 (enough.one (omega arith)) more.0 more.1))
+      (grows descent.parent descent.leaf e.0 r.0 (enough.one (omega arith)) more.0 more.1))
 
   -- Both are one fit commit.
   pub move_fits : (adds : Writes) → AddedBy (written s dels) target k u adds → IsFit IsSetCommit s (tag_of (Move source target k)) (merged dels adds)

@@ -2,14 +2,14 @@
 use Rattle.std.proofs.Common.{◌≡◌, ◌≢◌, ℕ, suc, ◌-◌, ◌^◌, ◌<◌, ◌≤◌, ◌⊎◌, inl, inr, Option, Some, None, ap, ◌∙◌, arith}
 use Rattle.std.proofs.lemmas.Bool.{cases_lt}
 use Rattle.mv_history.specs.State.{State}
-use Rattle.set_script.specs.Objects.{first_node, first_root, owner, key}
-use Rattle.set_script.specs.Trees.{Tree, Stands, objects_in, IsTree}
-use Rattle.set_script.specs.Trees.Tree.{leaf, inner}
-use Rattle.set_script.specs.Lawful.{IsLawful}
-use Rattle.set_script.proofs.ObjectWords.{word}
+use Rattle.set_model.specs.Objects.{first_node, first_root, owner, key}
+use Rattle.set_model.specs.Trees.{Tree, Stands, objects_in, IsTree}
+use Rattle.set_model.specs.Trees.Tree.{leaf, inner}
+use Rattle.set_model.specs.Lawful.{IsLawful}
+use Rattle.set_model.proofs.ObjectWords.{word}
 use Rattle.section_work.proofs.Objects.{IsIn, in_either}
-use Rattle.set_script.proofs.TreeShape.{only_in}
-use Rattle.set_script.proofs.Heads.{owned_fits}
+use Rattle.set_model.proofs.TreeShape.{only_in}
+use Rattle.set_model.proofs.Heads.{owned_fits}
 
 Stands-key : (s : State) (root : ℕ) (t : Tree) → Stands s root t → (o : ℕ) → IsIn o (objects_in t) → key s o < 2 ^ 32
 Stands-key s root (leaf n k v) h o (inl e) = let b : k < 2 ^ 32 = h.1 in let is : key s o ≡ k = ap (key s) e ∙ ap (word 2) h.2 in omega arith

@@ -8,8 +8,8 @@ use Rattle.section_work.specs.Causes.{Causes}
 use Rattle.section_work.specs.declared.attempting.Attempt.TheVariants.{Done as WorkDone}
 use Rattle.section_work.specs.declared.place.Place.{Place}
 use Rattle.section_work.specs.declared.place.Place.TheVariants.{Commit as AtCommit, Read}
-use Rattle.set_script.specs.declared.commands.Command.{Command}
-use Rattle.set_script.specs.declared.commands.Command.TheVariants.{Add, Put, Del, Has, Get, Move, Pair, Size, Next}
+use Rattle.set_model.specs.declared.commands.Command.{Command}
+use Rattle.set_model.specs.declared.commands.Command.TheVariants.{Add, Put, Del, Has, Get, Move, Pair, Size, Next}
 use Rattle.set_catalog.specs.Attempts.{WasVacant, KeepsHints, NotesGone, HintsAfter}
 use Rattle.set_catalog.specs.CommandMeaning.{command_meaning}
 use Rattle.set_catalog.specs.Hinted.{Hinted, gone_noted, TakesHints}

@@ -9,11 +9,11 @@ use Rattle.section_work.specs.declared.attempting.Attempt.{Attempt}
 use Rattle.section_work.specs.declared.attempting.Attempt.TheVariants.{Done as WorkDone}
 use Rattle.section_work.specs.declared.place.Place.{Place}
 use Rattle.section_work.specs.declared.place.Place.TheVariants.{Commit as AtCommit, Read}
-use Rattle.set_script.specs.Lawful.{IsOpening}
-use Rattle.set_script.specs.Rules.{IsSetCommit}
-use Rattle.set_script.specs.Tags.{tag_of, command_of}
-use Rattle.set_script.specs.declared.commands.Command.{Command}
-use Rattle.set_script.specs.declared.commands.Reply.TheVariants.{Yes}
+use Rattle.set_model.specs.Lawful.{IsOpening}
+use Rattle.set_model.specs.Rules.{IsSetCommit}
+use Rattle.set_model.specs.Tags.{tag_of, command_of}
+use Rattle.set_model.specs.declared.commands.Command.{Command}
+use Rattle.set_model.specs.declared.commands.Reply.TheVariants.{Yes}
 use Rattle.set_catalog.specs.Attempts.{IsDoneBy, IsRead, Attempted}
 use Rattle.set_catalog.specs.CommandLaws.{tag_stands_within}
 use Rattle.set_catalog.specs.CommandMeaning.{command_meaning}

@@ -3,27 +3,27 @@ use Rattle.std.proofs.Common.{◌≡◌, ◌≢◌, ℕ, ◌^◌, ◌<◌, inl, 
 use Rattle.mv_history.specs.State.{State, Writes, touches}
 use Rattle.mv_history.specs.Drift.{IsFit}
 use Rattle.mv_history.specs.Legal.{are_distinct, AreWithin}
-use Rattle.set_script.specs.Catalogue.{Map, map_of, has_entry, value_of, put, take_out}
-use Rattle.set_script.specs.CatalogueOf.{name_of, catalogue_of}
-use Rattle.set_script.specs.Objects.{value}
-use Rattle.set_script.specs.Lawful.{IsLawful}
-use Rattle.set_script.specs.Rules.{IsSetCommit}
-use Rattle.set_script.specs.Tags.{tag_of}
-use Rattle.set_script.specs.declared.commands.Command.{Command}
-use Rattle.set_script.specs.declared.commands.Command.TheVariants.{Add, Put, Del}
-use Rattle.set_script.proofs.Ways.{AreVacant, Way, Lacks, Has, HasOther}
-use Rattle.set_script.proofs.Entries.{has_entry-there}
-use Rattle.set_script.proofs.Fits.{add_fit, put_new_fit, put_fit, del_fit}
+use Rattle.set_model.specs.Catalogue.{Map, map_of, has_entry, value_of, put, take_out}
+use Rattle.set_model.specs.CatalogueOf.{name_of, catalogue_of}
+use Rattle.set_model.specs.Objects.{value}
+use Rattle.set_model.specs.Lawful.{IsLawful}
+use Rattle.set_model.specs.Rules.{IsSetCommit}
+use Rattle.set_model.specs.Tags.{tag_of}
+use Rattle.set_model.specs.declared.commands.Command.{Command}
+use Rattle.set_model.specs.declared.commands.Command.TheVariants.{Add, Put, Del}
+use Rattle.set_model.proofs.Ways.{AreVacant, Way, Lacks, Has, HasOther}
+use Rattle.set_model.proofs.Entries.{has_entry-there}
+use Rattle.set_model.proofs.Fits.{add_fit, put_new_fit, put_fit, del_fit}
 use Rattle.section_work.proofs.Objects.{IsIn, in_either, in-touches}
-use Rattle.set_script.proofs.Ways as ways
+use Rattle.set_model.proofs.Ways as ways
 use Rattle.list_set.proofs.ListHalves.{node_has}
 use Rattle.list_set.proofs.ListWays.{list_add_way, list_del_way, list_put_way}
 use Rattle.tree_set.proofs.Around.{at_in_range}
-use Rattle.tree_set.proofs.TreeWays.{grow_way, plant_way, cut_way, bare_way, put_way, leaf_has}
+use Rattle.tree_set.proofs.TreeWays.{grow_way, tree_add_way, cut_way, bare_way, put_way, leaf_has}
 use Rattle.set_catalog.specs.Picks.{IsVacant}
 use Rattle.set_catalog.specs.Plans.{head_of, DelPlan, AddPlan, PutPlan}
 use Rattle.set_catalog.specs.Plans.DelPlan.{unlinks, bares, cuts}
-use Rattle.set_catalog.specs.Plans.AddPlan.{links, plants, grows}
+use Rattle.set_catalog.specs.Plans.AddPlan.{links, tree_adds, grows}
 use Rattle.set_catalog.specs.Plans.PutPlan.{in_list, in_tree}
 use Rattle.set_catalog.proofs.HeadNames.{low_head, low_fits, root_from, root_below, head_below, head_named}
 
@@ -58,15 +58,15 @@ vacant_two s o p v w q (inr i) = vacant_one s p w q i
 
 module _ (s : State) (name k : ℕ) (lt : name < 30) (fits : k < 2 ^ 32) where
   pub added_by : (v first second : ℕ) (ws : Writes) → AddPlan s name k v first second ws → AddedBy s name k v ws
-  unfolding list_add_way plant_way grow_way
+  unfolding list_add_way tree_add_way grow_way
   added_by v first second ws (links previous low place vac) = record {
     way = list_add_way (head_of name k) k v previous first (low_head name k low) (low_fits name k low fits);
     place = place;
     vacant = vacant_one s first vac;
     same = refl;
   }
-  added_by v first second ws (plants high place vac) = record {
-    way = plant_way (head_of name k) k v first (root_from name k high) (root_below name k high lt) fits;
+  added_by v first second ws (tree_adds high place vac) = record {
+    way = tree_add_way (head_of name k) k v first (root_from name k high) (root_below name k high lt) fits;
     place = place;
     vacant = vacant_one s first vac;
     same = refl;

@@ -7,14 +7,14 @@ use Rattle.mv_history.specs.State.{State, Writes, written, touches}
 use Rattle.mv_history.specs.Drift.{IsFit}
 use Rattle.mv_history.specs.Legal.{are_distinct, AreWithin}
 use Rattle.mv_history.proofs.Writing.{length-written}
-use Rattle.set_script.specs.Catalogue.{map_of, has_key, has_entry, value_of}
-use Rattle.set_script.specs.CatalogueOf.{catalogue_of}
-use Rattle.set_script.specs.Lawful.{IsLawful}
-use Rattle.set_script.specs.Objects.{owner, value}
-use Rattle.set_script.specs.Rules.{IsSetCommit}
-use Rattle.set_script.specs.Tags.{tag_of}
-use Rattle.set_script.specs.declared.commands.Command.{Command}
-use Rattle.set_script.specs.declared.commands.Command.TheVariants.{Add, Put, Del, Has, Get, Move, Pair, Size, Next}
+use Rattle.set_model.specs.Catalogue.{map_of, has_key, has_entry, value_of}
+use Rattle.set_model.specs.CatalogueOf.{catalogue_of}
+use Rattle.set_model.specs.Lawful.{IsLawful}
+use Rattle.set_model.specs.Objects.{owner, value}
+use Rattle.set_model.specs.Rules.{IsSetCommit}
+use Rattle.set_model.specs.Tags.{tag_of}
+use Rattle.set_model.specs.declared.commands.Command.{Command}
+use Rattle.set_model.specs.declared.commands.Command.TheVariants.{Add, Put, Del, Has, Get, Move, Pair, Size, Next}
 use Rattle.section_work.specs.Held.{count_unheld}
 use Rattle.section_work.specs.OwnWrites.{objects_of}
 use Rattle.tree_balance.specs.declared.plan.WritePlan.{WritePlan}
@@ -26,14 +26,14 @@ use Rattle.set_catalog.specs.Merges.{writes_in, merged}
 use Rattle.set_catalog.specs.Needs.{first_tree, taken, AreEnough}
 use Rattle.set_catalog.specs.Plans.{head_of, AddPlan, DelPlan, PutPlan, TurnedPlan, AddsWithin, PlanWithin, PlanOf}
 use Rattle.set_catalog.specs.Plans.DelPlan.{unlinks, bares, cuts}
-use Rattle.set_catalog.specs.Plans.AddPlan.{links, plants, grows}
+use Rattle.set_catalog.specs.Plans.AddPlan.{links, tree_adds, grows}
 use Rattle.set_catalog.specs.Plans.PutPlan.{in_list, in_tree}
 use Rattle.set_catalog.specs.Steps.{most_locks, most_locks_of}
 use Rattle.set_catalog.specs.declared.ends.End.{End}
-use Rattle.set_catalog.specs.declared.ends.End.TheVariants.{Listed, Empty, Grown}
+use Rattle.set_catalog.specs.declared.ends.End.TheVariants.{InList, Empty, InTree}
 use Rattle.set_catalog.specs.declared.finding.Finding.{Finding}
 use Rattle.set_catalog.specs.declared.finding.Finding.TheVariants.{Settled, Open}
-use Rattle.set_catalog.specs.declared.plan.Gone.{Gone}
+use Rattle.set_catalog.specs.declared.plan.Vacated.{Vacated}
 use Rattle.set_catalog.proofs.HeadNames.{head_below, root_from, root_below}
 use Rattle.set_catalog.proofs.Merging.{merged-is, merged-none, merged-distinct, touches-merged, length-merged}
 use Rattle.set_catalog.proofs.MoveFacts.{value_gone, move_added, move_fits}
@@ -42,7 +42,7 @@ use Rattle.set_catalog.proofs.PlanWays.{AddedBy, added_by, removed_by, updated_b
 -- each plan writes something
 add_some : (s : State) (name k v first second : ℕ) (ws : Writes) → AddPlan s name k v first second ws → 0 < length ws
 add_some s name k v first second ws (links _ _ _ _) = omega arith
-add_some s name k v first second ws (plants _ _ _) = omega arith
+add_some s name k v first second ws (tree_adds _ _ _) = omega arith
 add_some s name k v first second ws (grows _ _ _ _ _ _ _) = omega arith
 
 del_some : (s : State) (name k node inner : ℕ) (ws : Writes) → DelPlan s name k node inner ws → 0 < length ws
@@ -57,7 +57,7 @@ put_some s name k v ws (in_tree _ _ _) = omega arith
 -- and not too much
 add_few : (s : State) (name k v first second : ℕ) (ws : Writes) → AddPlan s name k v first second ws → length ws ≤ 5
 add_few s name k v first second ws (links _ _ _ _) = omega arith
-add_few s name k v first second ws (plants _ _ _) = omega arith
+add_few s name k v first second ws (tree_adds _ _ _) = omega arith
 add_few s name k v first second ws (grows _ _ _ _ _ _ _) = omega arith
 
 del_few : (s : State) (name k node inner : ℕ) (ws : Writes) → DelPlan s name k node inner ws → length ws ≤ 5
@@ -182,7 +182,7 @@ module _ (s : State) (l : IsLawful s) (name k : ℕ) (lt : name < 30) (fit : k <
   adds_any (suc n) v first second ws lv (inl plan) = adds_none (suc n) v first second ws lv plan
   adds_any (suc n) v first second ws lv (inr turned) = adds_turned n v first second ws lv turned
 
-  pub planned_add : (most v first second : ℕ) (ws : Writes) (gone : Gone) (command : Command) → v < 2 ^ 64 → AddsWithin most s name k v first second ws
+  pub planned_add : (most v first second : ℕ) (ws : Writes) (gone : Vacated) (command : Command) → v < 2 ^ 64 → AddsWithin most s name k v first second ws
       → IsNew name k v command → (gone.node ≡ 0) × (gone.inner ≡ 0) → IsPlannedWithin most command s ws gone
   planned_add most v first second ws gone command lv plan (inl (is, z)) nothing =
       let x = adds_any most v first second ws lv plan in
@@ -207,7 +207,7 @@ module _ (s : State) (l : IsLawful s) (name k : ℕ) (lt : name < 30) (fit : k <
         goes = nothing;
       })
 
-  pub planned_put : (most v : ℕ) (ws : Writes) (gone : Gone) → v < 2 ^ 64 → has_entry k v (map_of name (catalogue_of s)) ≡ false → PutPlan s name k v ws
+  pub planned_put : (most v : ℕ) (ws : Writes) (gone : Vacated) → v < 2 ^ 64 → has_entry k v (map_of name (catalogue_of s)) ≡ false → PutPlan s name k v ws
       → (gone.node ≡ 0) × (gone.inner ≡ 0) → IsPlannedWithin most (Put name k v) s ws gone
   planned_put most v ws gone lv lacks plan nothing =
       let d = updated_by s name k lt fit v ws l lacks plan in
@@ -221,7 +221,7 @@ module _ (s : State) (l : IsLawful s) (name k : ℕ) (lt : name < 30) (fit : k <
         goes = nothing;
       }
 
-  pub planned_del : (node inner : ℕ) (ws : Writes) (gone : Gone) → gone.node ≡ node → gone.inner ≡ inner → DelPlan s name k node inner ws
+  pub planned_del : (node inner : ℕ) (ws : Writes) (gone : Vacated) → gone.node ≡ node → gone.inner ≡ inner → DelPlan s name k node inner ws
       → IsPlanned (Del name k) s ws gone
   planned_del node inner ws gone n i plan =
       let d = removed_by s name k lt fit node inner ws plan in
@@ -237,13 +237,13 @@ module _ (s : State) (l : IsLawful s) (name k : ℕ) (lt : name < 30) (fit : k <
 
 -- the objects of an add where a search ended
 objects_adds : (s : State) (k v first second : ℕ) (end : End) → objects_of (adds_at s k v first second end) ≡ objects_added first second end
-objects_adds s k v first second (Listed head spot) = refl
+objects_adds s k v first second (InList head window) = refl
 objects_adds s k v first second (Empty root) = refl
-objects_adds s k v first second (Grown root fork) = refl
+objects_adds s k v first second (InTree root descent) = refl
 
 -- a move
 module _ (s : State) (l : IsLawful s) (source target k : ℕ) (ls : source < 30) (lt : target < 30) (apart : source ≢ target) (fit : k < 2 ^ 32) where
-  pub planned_move : (end : End) (v node inner first second : ℕ) (dels : Writes) (gone : Gone) → EndsAt s target k end
+  pub planned_move : (end : End) (v node inner first second : ℕ) (dels : Writes) (gone : Vacated) → EndsAt s target k end
       → has_key k (map_of target (catalogue_of s)) ≡ false → value_of k (map_of source (catalogue_of s)) ≡ Some v → DelPlan s source k node inner dels
       → AreEnough (written s dels) (taken target (map_of target (catalogue_of s))) first second → first ≡ node → (inner ≢ 0 → second ≡ inner)
       → length dels + count_unheld dels (objects_added first second end) ≤ 5

@@ -25,15 +25,15 @@ use Rattle.std.proofs.Common.{
 }
 use Rattle.std.proofs.lemmas.Bool.Decides.{nat_tests}
 use Rattle.mv_history.specs.State.{State}
-use Rattle.set_script.specs.Catalogue.{Map, map_of}
-use Rattle.set_script.specs.CatalogueOf.{name_of, map_at, catalogue_of}
-use Rattle.set_script.specs.Lawful.{IsLawful}
-use Rattle.set_script.specs.Objects.{link}
-use Rattle.set_script.specs.Trees.{Tree, IsTree, entries_in}
-use Rattle.set_script.specs.Trees.Tree.{leaf, inner}
-use Rattle.set_script.proofs.ObjectWords.{word}
-use Rattle.set_script.proofs.NameMaps.{map_of-list}
-use Rattle.set_script.proofs.TreeMaps.{map_of-tree}
+use Rattle.set_model.specs.Catalogue.{Map, map_of}
+use Rattle.set_model.specs.CatalogueOf.{name_of, map_at, catalogue_of}
+use Rattle.set_model.specs.Lawful.{IsLawful}
+use Rattle.set_model.specs.Objects.{link}
+use Rattle.set_model.specs.Trees.{Tree, IsTree, entries_in}
+use Rattle.set_model.specs.Trees.Tree.{leaf, inner}
+use Rattle.set_model.proofs.ObjectWords.{word}
+use Rattle.set_model.proofs.NameMaps.{map_of-list}
+use Rattle.set_model.proofs.TreeMaps.{map_of-tree}
 use Rattle.set_catalog.specs.Needs.{first_tree, taken}
 use Rattle.set_catalog.specs.Plans.{head_of}
 use Rattle.set_catalog.proofs.HeadNames.{head_named, head_root}

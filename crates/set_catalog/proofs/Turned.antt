@@ -2,13 +2,13 @@
 use Rattle.std.proofs.Common.{◌≡◌, ◌≢◌, ℕ, zero, suc, ◌^◌, ◌<◌, ◌≤◌, leb, ◌⊎◌, inl, inr, length, Bool, true, false, refl, sym, ap, ◌∙◌, subst, arith}
 use Rattle.std.proofs.lemmas.Bool.Decides.{nat_tests}
 use Rattle.mv_history.specs.State.{State, Writes}
-use Rattle.set_script.specs.Catalogue.{map_of, has_key}
-use Rattle.set_script.specs.CatalogueOf.{catalogue_of}
-use Rattle.set_script.specs.Lawful.{IsLawful}
-use Rattle.set_script.specs.Objects.{owner}
-use Rattle.set_script.specs.Trees.{IsGrown}
-use Rattle.set_script.proofs.ObjectWords.{word}
-use Rattle.tree_set.specs.declared.search.Fork.{Fork}
+use Rattle.set_model.specs.Catalogue.{map_of, has_key}
+use Rattle.set_model.specs.CatalogueOf.{catalogue_of}
+use Rattle.set_model.specs.Lawful.{IsLawful}
+use Rattle.set_model.specs.Objects.{owner}
+use Rattle.set_model.specs.Trees.{HoldsTree}
+use Rattle.set_model.proofs.ObjectWords.{word}
+use Rattle.tree_set.specs.declared.search.Descent.{Descent}
 use Rattle.tree_set.specs.Places.{grow_writes}
 use Rattle.tree_set.proofs.Planning.{key_not}
 use Rattle.tree_balance.specs.declared.plan.WritePlan.{WritePlan}
@@ -20,7 +20,7 @@ use Rattle.set_catalog.specs.Needs.{taken, AreEnough}
 use Rattle.set_catalog.specs.Picks.{IsVacant}
 use Rattle.set_catalog.specs.Plans.{head_of, AddPlan, TurnedPlan, AddsWithin}
 use Rattle.set_catalog.specs.declared.ends.End.{End}
-use Rattle.set_catalog.specs.declared.ends.End.TheVariants.{Grown}
+use Rattle.set_catalog.specs.declared.ends.End.TheVariants.{InTree}
 use Rattle.set_catalog.proofs.EndFacts.{grown_has, grown_takes}
 use Rattle.set_catalog.proofs.EndPlans.{add_planned, grown_place}
 use Rattle.set_catalog.proofs.HeadNames.{head_below}
@@ -41,44 +41,44 @@ module _ (s : State) (name k : ℕ) (l : IsLawful s) (lt : name < 30) (fit : k <
       (subst (λ (ws : Writes). AddPlan s name k v first second ws) (sym one) add)
 
   -- one in a tree that has keys
-  module _ (root : ℕ) (fork : Fork) (e : EndsAt s name k (Grown root fork)) where
-    pub fork_lacks : word 2 fork.words ≢ k
-    fork_lacks = key_not k (word 2 fork.words) (has_key k (map_of name (catalogue_of s))) (grown_has s name k root l lt e.1 fork e.0 e.2) missed
+  module _ (root : ℕ) (descent : Descent) (e : EndsAt s name k (InTree root descent)) where
+    pub descent_lacks : word 2 descent.words ≢ k
+    descent_lacks = key_not k (word 2 descent.words) (has_key k (map_of name (catalogue_of s))) (grown_has s name k root l lt e.1 descent e.0 e.2) missed
 
     wants_two : 2 ≡ taken name (map_of name (catalogue_of s))
-    wants_two = grown_takes s name k root l lt e.1 fork e.0 e.2
+    wants_two = grown_takes s name k root l lt e.1 descent e.0 e.2
 
-    pub fork_first : IsVacant s first
-    fork_first = let two = wants_two in enough.one (omega arith)
+    pub descent_first : IsVacant s first
+    descent_first = let two = wants_two in enough.one (omega arith)
 
-    pub fork_second : IsVacant s second × (second ≢ first)
-    fork_second = let two = wants_two in enough.two (omega arith)
+    pub descent_second : IsVacant s second × (second ≢ first)
+    descent_second = let two = wants_two in enough.two (omega arith)
 
-    turned : (n count : ℕ) (ws : Writes) → IsOfWay s root k count → 9 < count → IsAddOnWay s root k v fork.parent fork.leaf first second (suc n) ws
+    turned : (n count : ℕ) (ws : Writes) → IsOfWay s root k count → 9 < count → IsAddOnWay s root k v descent.parent descent.leaf first second (suc n) ws
         → TurnedPlan (suc n) s name k v first second ws
     turned n count ws way long a = record {
-      parent = fork.parent;
-      leaf = fork.leaf;
+      parent = descent.parent;
+      leaf = descent.leaf;
       of_tree = e.0;
-      place = grown_place s name k l lt fit root fork e.0 e.1 e.2 missed;
-      first_vacant = fork_first;
-      second_vacant = fork_second.0;
-      other = fork_second.1;
-      deep = λ t g. (let le = way t (subst (λ (h : ℕ). IsGrown s h t) (sym e.1) g) in omega arith);
-      adds = subst (λ (h : ℕ). IsAddOnWay s h k v fork.parent fork.leaf first second (suc n) ws) e.1 a;
+      place = grown_place s name k l lt fit root descent e.0 e.1 e.2 missed;
+      first_vacant = descent_first;
+      second_vacant = descent_second.0;
+      other = descent_second.1;
+      deep = λ t g. (let le = way t (subst (λ (h : ℕ). HoldsTree s h t) (sym e.1) g) in omega arith);
+      adds = subst (λ (h : ℕ). IsAddOnWay s h k v descent.parent descent.leaf first second (suc n) ws) e.1 a;
     }
 
     -- where few objects are remembered of the way, they are those of the add alone
     pub planned_turned : (most count : ℕ) (ws : Writes) → most ≢ 0 → IsOfWay s root k count
-        → (count ≤ 9 → ws ≡ grow_writes s root k v fork.parent fork.leaf first second)
-        → IsAddOnWay s root k v fork.parent fork.leaf first second most ws → AddsWithin most s name k v first second ws
+        → (count ≤ 9 → ws ≡ grow_writes s root k v descent.parent descent.leaf first second)
+        → IsAddOnWay s root k v descent.parent descent.leaf first second most ws → AddsWithin most s name k v first second ws
     planned_turned zero count ws some way short a = absurd (some refl)
     planned_turned (suc n) count ws some way short a = go (leb count 9) refl
       where
         go : (b : Bool) → leb count 9 ≡ b → AddPlan s name k v first second ws ⊎ TurnedPlan (suc n) s name k v first second ws
         go true q =
             inl (subst (λ (u : Writes). AddPlan s name k v first second u) (sym (short (grind (arith, nat_tests))))
-            (add_planned s name k l lt fit (Grown root fork) v first second e missed enough))
+            (add_planned s name k l lt fit (InTree root descent) v first second e missed enough))
         go false q = inr (turned n count ws way (grind (arith, nat_tests)) a)
 
 -- what holds in a state that is the same

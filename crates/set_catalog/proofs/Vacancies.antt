@@ -6,7 +6,7 @@ use Rattle.std.proofs.lemmas.Bool.Decides.{nat_tests}
 use Rattle.std.proofs.lemmas.List.{get_or-drop}
 use Rattle.mv_history.specs.State.{State}
 use Rattle.mv_history.specs.Meaning.{words_at}
-use Rattle.set_script.specs.Objects.{first_node}
+use Rattle.set_model.specs.Objects.{first_node}
 use Rattle.set_catalog.specs.Picks.{IsVacant, count_vacant, vacant_nodes}
 
 -- the object at this place of a list is vacant

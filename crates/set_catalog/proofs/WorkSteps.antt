@@ -7,7 +7,7 @@ use Rattle.section_work.specs.declared.attempting.Attempt.{Attempt}
 use Rattle.section_work.specs.declared.attempting.Attempt.TheVariants.{Done, Again}
 use Rattle.section_work.specs.declared.causes.Cause.TheVariants.{Lock, Rival, LogFull}
 use Rattle.section_work.specs.declared.place.Place.TheVariants.{Commit, Read}
-use Rattle.set_script.specs.declared.commands.Reply.{Reply}
+use Rattle.set_model.specs.declared.commands.Reply.{Reply}
 use Rattle.set_catalog.specs.declared.command_work.CommandAnswer.{CommandAnswer}
 
 -- the answer with the command's reply alone

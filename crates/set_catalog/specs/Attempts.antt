@@ -7,10 +7,10 @@ use Rattle.mv_history.specs.declared.history.Commit.{Commit}
 use Rattle.mv_history.specs.declared.history.Entry.TheVariants.{Change}
 use Rattle.mv_history.specs.Meaning.{Seat, InSection, state_of_time}
 use Rattle.mv_history.specs.Calls.{Continues, IsEntryAt}
-use Rattle.set_script.specs.Rules.{IsSetCommit}
-use Rattle.set_script.specs.Tags.{tag_of}
-use Rattle.set_script.specs.declared.commands.Command.{Command}
-use Rattle.set_script.specs.declared.commands.Reply.{Reply}
+use Rattle.set_model.specs.Rules.{IsSetCommit}
+use Rattle.set_model.specs.Tags.{tag_of}
+use Rattle.set_model.specs.declared.commands.Command.{Command}
+use Rattle.set_model.specs.declared.commands.Reply.{Reply}
 use Rattle.section_work.specs.declared.place.Place.TheVariants.{Commit as AtCommit, Read}
 use Rattle.set_catalog.specs.declared.answer.CommandAttempt.{CommandAttempt}
 use Rattle.set_catalog.specs.declared.answer.CommandAttempt.TheVariants.{Done, Again}
@@ -19,7 +19,7 @@ use Rattle.section_work.specs.declared.attempting.Attempt.TheVariants.{Done as W
 use Rattle.section_work.specs.Attempts.{GivesUp}
 use Rattle.section_work.specs.Causes.{Causes}
 use Rattle.set_catalog.specs.Replies.{reply_in, changes_in}
-use Rattle.set_script.specs.declared.commands.Command.TheVariants.{Del}
+use Rattle.set_model.specs.declared.commands.Command.TheVariants.{Del}
 use Rattle.set_catalog.specs.Hinted.{Hinted, gone_noted}
 use Rattle.set_catalog.specs.Picks.{IsVacant}
 use Rattle.set_catalog.specs.CommandMeaning.{command_meaning}

@@ -5,10 +5,10 @@ use Rattle.mv_history.specs.State.{State, Writes, written, state_at}
 use Rattle.mv_history.specs.Meaning.{Seat, state_of_time}
 use Rattle.mv_history.specs.Calls.{Continues}
 use Rattle.mv_history.proofs.Steps.{length-seen, state_at-later}
-use Rattle.set_script.specs.Rules.{MakesSome, IsSetCommit}
-use Rattle.set_script.specs.Tags.{tag_of, command_of}
-use Rattle.set_script.specs.declared.commands.Command.{Command}
-use Rattle.set_script.specs.declared.commands.Command.TheVariants.{Add, Put, Del, Has, Get, Move, Pair, Size, Next}
+use Rattle.set_model.specs.Rules.{MakesSome, IsSetCommit}
+use Rattle.set_model.specs.Tags.{tag_of, command_of}
+use Rattle.set_model.specs.declared.commands.Command.{Command}
+use Rattle.set_model.specs.declared.commands.Command.TheVariants.{Add, Put, Del, Has, Get, Move, Pair, Size, Next}
 use Rattle.set_catalog.specs.declared.shortage.Shortage.{Shortage}
 use Rattle.set_catalog.specs.Picks.{vacant_nodes}
 use Rattle.set_catalog.specs.Plans.{PlanWithin, PlanOf}

@@ -2,10 +2,10 @@
 use Rattle.std.specs.Prelude.{ℕ, ◌≡◌, ◌≤◌, true, false, Bool, List, length}
 use Rattle.mv_history.specs.Drift.{IsFit}
 use Rattle.mv_history.specs.State.{State, Writes}
-use Rattle.set_script.specs.Rules.{IsSetCommit}
-use Rattle.set_script.specs.Tags.{tag_of}
-use Rattle.set_script.specs.declared.commands.Command.{Command}
-use Rattle.set_script.specs.declared.commands.Reply.TheVariants.{Yes}
+use Rattle.set_model.specs.Rules.{IsSetCommit}
+use Rattle.set_model.specs.Tags.{tag_of}
+use Rattle.set_model.specs.declared.commands.Command.{Command}
+use Rattle.set_model.specs.declared.commands.Reply.TheVariants.{Yes}
 use Rattle.section_work.specs.Works.{Meaning}
 use Rattle.set_catalog.specs.Plans.{PlanWithin, GoneBy}
 use Rattle.set_catalog.specs.Replies.{reply_in, changes_in}

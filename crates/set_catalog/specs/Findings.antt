@@ -3,12 +3,12 @@ use Rattle.std.specs.Prelude.{ℕ, ◌≡◌, ◌<◌, ◌≤◌, ◌⊎◌, tru
 use Rattle.mv_history.specs.State.{State, Writes}
 use Rattle.mv_history.specs.Drift.{IsFit}
 use Rattle.mv_history.specs.Legal.{are_distinct, AreWithin}
-use Rattle.set_script.specs.Rules.{IsSetCommit}
-use Rattle.set_script.specs.Tags.{tag_of}
-use Rattle.set_script.specs.declared.commands.Command.{Command}
-use Rattle.set_script.specs.declared.commands.Command.TheVariants.{Add, Put}
-use Rattle.set_script.specs.declared.commands.Reply.{Reply}
-use Rattle.set_script.specs.declared.commands.Reply.TheVariants.{Worn}
+use Rattle.set_model.specs.Rules.{IsSetCommit}
+use Rattle.set_model.specs.Tags.{tag_of}
+use Rattle.set_model.specs.declared.commands.Command.{Command}
+use Rattle.set_model.specs.declared.commands.Command.TheVariants.{Add, Put}
+use Rattle.set_model.specs.declared.commands.Reply.{Reply}
+use Rattle.set_model.specs.declared.commands.Reply.TheVariants.{Worn}
 use Rattle.set_catalog.specs.Merges.{writes_in}
 use Rattle.set_catalog.specs.Plans.{PlanWithin, GoneBy}
 use Rattle.set_catalog.specs.Steps.{most_locks_of}
@@ -17,12 +17,12 @@ use Rattle.set_catalog.specs.declared.finding.Finding.{Finding}
 use Rattle.set_catalog.specs.declared.finding.Finding.TheVariants.{Settled, Open}
 use Rattle.set_catalog.specs.declared.outcome.PlanOutcome.{PlanOutcome}
 use Rattle.set_catalog.specs.declared.outcome.PlanOutcome.TheVariants.{Settled as Answered, Open as Changing}
-use Rattle.set_catalog.specs.declared.plan.Gone.{Gone}
+use Rattle.set_catalog.specs.declared.plan.Vacated.{Vacated}
 use Rattle.tree_balance.specs.declared.plan.WritePlan.{WritePlan}
 
 -- These are exactly the objects that the command locks in this state, with what it writes, where an add to a tree may lock so many beside
 -- its own four: different ones, fit to be committed, and a del leaves these vacant.
-pub record IsPlannedWithin (most : ℕ) (command : Command) (s : State) (ws : Writes) (gone : Gone) : Type 0 where
+pub record IsPlannedWithin (most : ℕ) (command : Command) (s : State) (ws : Writes) (gone : Vacated) : Type 0 where
   pub plan : PlanWithin most command s ws
   pub few : length ws ≤ most_locks_of most command
   pub distinct : are_distinct ws ≡ true
@@ -39,7 +39,7 @@ IsFoundWithin most command s (Open plan gone) =
     (changes_in command s false ≡ true) × (plan.count ≤ most_locks_of most command) × IsPlannedWithin most command s (writes_in plan) gone
 
 -- what is planned, where no step follows an add
-abbrev pub IsPlanned : Command → State → Writes → Gone → Type 0
+abbrev pub IsPlanned : Command → State → Writes → Vacated → Type 0
 IsPlanned command s ws gone = IsPlannedWithin 0 command s ws gone
 
 -- what is found where a time is left, and no step follows an add

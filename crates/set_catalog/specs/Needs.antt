@@ -1,9 +1,9 @@
 -- How many nodes a change takes, and how many it gives back.
 use Rattle.std.specs.Prelude.{ℕ, ◌≢◌, ◌-◌, ◌≤◌, ◌==◌, ◌||◌, nat_lt, Bool, true, false, length, if◌then◌else◌}
 use Rattle.mv_history.specs.State.{State}
-use Rattle.set_script.specs.Catalogue.{Map, Maps, map_of, has_key}
-use Rattle.set_script.specs.declared.commands.Command.{Command}
-use Rattle.set_script.specs.declared.commands.Command.TheVariants.{Add, Put, Del, Move}
+use Rattle.set_model.specs.Catalogue.{Map, Maps, map_of, has_key}
+use Rattle.set_model.specs.declared.commands.Command.{Command}
+use Rattle.set_model.specs.declared.commands.Command.TheVariants.{Add, Put, Del, Move}
 use Rattle.set_catalog.specs.Picks.{IsVacant}
 
 -- the names from this one on are those of trees

@@ -2,7 +2,7 @@
 use Rattle.std.specs.Prelude.{ℕ, ◌≡◌, ◌≢◌, ◌+◌, ◌<◌, ◌≤◌, ◌⊎◌, ◌==◌, if◌then◌else◌, length, drop}
 use Rattle.std.specs.Prelude.{slice_index_or, List, [], ◌∷◌, ◌++◌, All, Contains}
 use Rattle.mv_history.specs.State.{State}
-use Rattle.set_script.specs.Objects.{first_node, owner}
+use Rattle.set_model.specs.Objects.{first_node, owner}
 use Rattle.set_catalog.specs.Hinted.{Hinted}
 
 -- the object is a node that nothing owns

@@ -1,13 +1,13 @@
 -- What a command locks and writes in a state: the objects, in the order of locking, with their new words.
 use Rattle.std.specs.Prelude.{ℕ, zero, suc, ◌≡◌, ◌≢◌, ◌+◌, ◌-◌, ◌*◌, ◌%◌, ◌<◌, ◌≤◌, ◌⊎◌, nat_lt, if◌then◌else◌}
 use Rattle.mv_history.specs.State.{State, Writes, written}
-use Rattle.set_script.specs.declared.commands.Command.{Command}
-use Rattle.set_script.specs.declared.commands.Command.TheVariants.{Add, Put, Del, Move}
-use Rattle.set_script.specs.Objects.{link, value}
-use Rattle.set_script.specs.Trees.{Tree, IsGrown}
+use Rattle.set_model.specs.declared.commands.Command.{Command}
+use Rattle.set_model.specs.declared.commands.Command.TheVariants.{Add, Put, Del, Move}
+use Rattle.set_model.specs.Objects.{link, value}
+use Rattle.set_model.specs.Trees.{Tree, HoldsTree}
 use Rattle.section_work.specs.OwnWrites.{with_locks, with_writes, objects_of}
 use Rattle.list_set.specs.Places.{IsAddPlace, add_writes, IsDelPlace, del_writes, IsPutPlace, put_writes}
-use Rattle.tree_set.specs.Places.{IsLeaf, plant_writes, IsGrowPlace, grow_writes, IsBarePlace, bare_writes, IsCutPlace, cut_writes}
+use Rattle.tree_set.specs.Places.{IsLeaf, tree_add_writes, IsGrowPlace, grow_writes, IsBarePlace, bare_writes, IsCutPlace, tree_del_writes}
 use Rattle.tree_balance.specs.Depths.{depth_of}
 use Rattle.tree_balance.specs.Drafts.{IsAddOnWay}
 use Rattle.set_catalog.specs.Needs.{first_tree}
@@ -24,21 +24,21 @@ pub data DelPlan (s : State) (name key node : ℕ) : ℕ → Writes → Type 0 w
       → DelPlan s name key node 0 (del_writes s previous node)
   bares : first_tree ≤ name → IsBarePlace s (head_of name key) key node → DelPlan s name key node 0 (bare_writes s (head_of name key) node)
   cuts : (grand inner : ℕ) → first_tree ≤ name → IsCutPlace s (head_of name key) key grand inner node
-      → DelPlan s name key node inner (cut_writes s grand inner node)
+      → DelPlan s name key node inner (tree_del_writes s grand inner node)
 
 -- an add of the key with this value, which takes the first of these vacant nodes, and in a tree that is not empty the second
 pub data AddPlan (s : State) (name key v first second : ℕ) : Writes → Type 0 where
   links : (previous : ℕ) → name < first_tree → IsAddPlace s (head_of name key) key previous → IsVacant s first
       → AddPlan s name key v first second (add_writes s (head_of name key) key v previous first)
-  plants : first_tree ≤ name → link s (head_of name key) ≡ 0 → IsVacant s first
-      → AddPlan s name key v first second (plant_writes s (head_of name key) key v first)
+  tree_adds : first_tree ≤ name → link s (head_of name key) ≡ 0 → IsVacant s first
+      → AddPlan s name key v first second (tree_add_writes s (head_of name key) key v first)
   grows : (parent leaf : ℕ) → first_tree ≤ name → IsGrowPlace s (head_of name key) key parent leaf → IsVacant s first
       → IsVacant s second → second ≢ first
       → AddPlan s name key v first second (grow_writes s (head_of name key) key v parent leaf first second)
 
 -- the search for the key in the tree of this name passes more than 8 inner nodes
 abbrev pub EndsDeep : State → ℕ → ℕ → Type 0
-EndsDeep s name key = (t : Tree) → IsGrown s (head_of name key) t → 8 < depth_of key t
+EndsDeep s name key = (t : Tree) → HoldsTree s (head_of name key) t → 8 < depth_of key t
 
 -- an add of the key to a tree in which its search passes more than 8 inner nodes, and steps after it by which the tree stays short: at
 -- most so many objects beside the add's own four

@@ -1,8 +1,8 @@
 -- Reading a catalogue head by head.
 use Rattle.std.specs.Prelude.{ℕ, ◌≡◌, ◌<◌, nat_lt, if◌then◌else◌, length, Option, None}
 use Rattle.mv_history.specs.State.{State}
-use Rattle.set_script.specs.Catalogue.{Maps, IsMap, map_of, names, value_of}
-use Rattle.set_script.specs.CatalogueOf.{map_at}
+use Rattle.set_model.specs.Catalogue.{Maps, IsMap, map_of, names, value_of}
+use Rattle.set_model.specs.CatalogueOf.{map_at}
 use Rattle.set_catalog.specs.Plans.{head_of}
 
 -- the value of a key of a name where it stands under one of so many heads, else none

@@ -3,12 +3,12 @@ use Rattle.std.specs.Prelude.{◌≡◌, ◌<◌, ⊤}
 use Rattle.mv_history.specs.State.{State}
 use Rattle.section_work.specs.declared.place.Place.{Place}
 use Rattle.section_work.specs.declared.place.Place.TheVariants.{Commit as AtCommit, Read}
-use Rattle.set_script.specs.CatalogueOf.{catalogue_of}
-use Rattle.set_script.specs.declared.commands.Command.{Command}
+use Rattle.set_model.specs.CatalogueOf.{catalogue_of}
+use Rattle.set_model.specs.declared.commands.Command.{Command}
 use Rattle.set_catalog.specs.Hinted.{Hinted, TakesHints, gone_noted}
 use Rattle.set_catalog.specs.Needs.{wanted}
 use Rattle.set_catalog.specs.Shortages.{followed}
-use Rattle.set_catalog.specs.declared.plan.Gone.{Gone}
+use Rattle.set_catalog.specs.declared.plan.Vacated.{Vacated}
 use Rattle.set_catalog.specs.declared.shortage.Shortage.{Shortage}
 
 -- what a look into a state does to the hints: some were taken, and none where no vacant node is wanted
@@ -22,7 +22,7 @@ IsAfterTheFirst (AtCommit time) = 0 < time
 IsAfterTheFirst (Read time) = ⊤
 
 -- the hints after a command took place here, whose commit left these objects vacant
-abbrev pub hints_at : Place → Hinted → Gone → Hinted
+abbrev pub hints_at : Place → Hinted → Vacated → Hinted
 hints_at (AtCommit time) hints gone = gone_noted hints gone.node gone.inner
 hints_at (Read time) hints gone = hints
 

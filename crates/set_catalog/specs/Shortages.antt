@@ -1,8 +1,8 @@
 -- What is known of how few nodes are vacant at a time of a store.
 use Rattle.std.specs.Prelude.{ℕ, ◌-◌, ◌<◌, ◌≤◌, ◌==◌, ◌&&◌, nat_lt, not, Bool, true, false, length, if◌then◌else◌}
 use Rattle.mv_history.specs.Meaning.{Seat, state_of_time}
-use Rattle.set_script.specs.declared.commands.Command.{Command}
-use Rattle.set_script.specs.declared.commands.Command.TheVariants.{Del, Move}
+use Rattle.set_model.specs.declared.commands.Command.{Command}
+use Rattle.set_model.specs.declared.commands.Command.TheVariants.{Del, Move}
 use Rattle.set_catalog.specs.declared.shortage.Shortage.{Shortage}
 use Rattle.set_catalog.specs.declared.shortage.TheConstants.{NO_BOUND}
 use Rattle.set_catalog.specs.Hinted.{Hinted}

@@ -1,7 +1,7 @@
 -- How many objects a command locks.
 use Rattle.std.specs.Prelude.{ℕ, zero, suc, ◌+◌, ◌-◌, nat_lt, if◌then◌else◌}
-use Rattle.set_script.specs.declared.commands.Command.{Command}
-use Rattle.set_script.specs.declared.commands.Command.TheVariants.{Add, Put}
+use Rattle.set_model.specs.declared.commands.Command.{Command}
+use Rattle.set_model.specs.declared.commands.Command.TheVariants.{Add, Put}
 use Rattle.set_catalog.specs.Needs.{first_tree}
 
 -- a command that makes no steps in a tree locks no more objects than a move

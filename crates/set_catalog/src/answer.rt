@@ -1,6 +1,6 @@
 // What attempts answer.
 use section_work::{Cause, Place};
-use set_script::Reply;
+use set_model::Reply;
 
 /// What an attempt of a command answers.
 #[derive(Clone, Copy, Debug, PartialEq, Eq)]

@@ -15,7 +15,7 @@ use crate::shortage::Shortage;
 use list_set::Fingers;
 use mv_history::Store;
 use section_work::{Attempt, attempt_work};
-use set_script::{Command, SetRules};
+use set_model::{Command, SetRules};
 use std::mem::replace;
 use tree_balance::WritePlan;
 

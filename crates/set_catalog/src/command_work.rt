@@ -1,15 +1,14 @@
 // A command of the sets, as a work.
 ghost use Rattle.std.specs.Prelude.{◌≡◌};
-ghost use Rattle.set_script.specs.Tags.{tag_of as command_tag};
 
 use crate::finding::{answer, find_change};
 use crate::memo::Memo;
 use crate::outcome::PlanOutcome;
-use crate::plan::Gone;
+use crate::plan::Vacated;
 use crate::shortage::Shortage;
 use mv_history::{Tag, View, Words};
 use section_work::{Decision, Work};
-use set_script::{Command, Reply, SetRules};
+use set_model::{Command, Reply, SetRules};
 
 // A command that is to be one section, where an add to a tree may lock so many objects beside its own four, 1 to 12.
 #[derive(Drop)]
@@ -22,12 +21,12 @@ pub struct CommandWork {
 #[derive(Drop)]
 pub struct CommandAnswer {
     pub reply: Reply,
-    pub gone: Gone,
+    pub gone: Vacated,
 }
 
 impl Work for CommandWork {
     ghost use Rattle.std.specs.Prelude.{◌≤◌};
-    ghost use Rattle.set_script.specs.Tags.{tag_of as command_tag};
+    ghost use Rattle.set_model.specs.Tags.{tag_of as command_tag};
     ghost use Rattle.set_catalog.specs.Merges.{writes_in};
     ghost use Rattle.set_catalog.specs.Shortages.{IsKnown};
     ghost use Rattle.set_catalog.specs.CommandMeaning.{command_meaning};
@@ -96,7 +95,7 @@ impl Work for CommandWork {
     }
 
     fn tag(&self, _plan: &()) -> Tag {
-        tag(&self.command)
+        self.command.tag()
     }
 
     fn at_last(&self, _reply: CommandAnswer) -> CommandAnswer {
@@ -115,24 +114,7 @@ impl CommandAnswer {
     {
         CommandAnswer {
             reply,
-            gone: Gone::nothing(),
+            gone: Vacated::nothing(),
         }
-    }
-}
-
-// The tag of a command that changes something.
-fn tag(command: &Command) -> Tag
-    ensures { result ≡ command_tag command.now }
-{
-    match *command {
-        Command::Add { name, key } => [1, name.index() as u64, 0, key as u64],
-        Command::Del { name, key } => [2, name.index() as u64, 0, key as u64],
-        Command::Move {
-            source,
-            target,
-            key,
-        } => [3, source.index() as u64, target.index() as u64, key as u64],
-        Command::Put { name, key, value } => [4, name.index() as u64, value, key as u64],
-        _ => [0; 4],
     }
 }

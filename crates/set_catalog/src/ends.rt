@@ -1,8 +1,8 @@
 // Where the search for a key in a set ended.
 ghost use Rattle.std.specs.Prelude.{◌≡◌, ◌+◌, ◌<◌, ◌≤◌, ℕ, false, [], length};
-ghost use Rattle.set_script.specs.Catalogue.{map_of, has_key, value_of};
-ghost use Rattle.set_script.specs.CatalogueOf.{catalogue_of};
-ghost use Rattle.set_script.specs.Lawful.{IsLawful};
+ghost use Rattle.set_model.specs.Catalogue.{map_of, has_key, value_of};
+ghost use Rattle.set_model.specs.CatalogueOf.{catalogue_of};
+ghost use Rattle.set_model.specs.Lawful.{IsLawful};
 ghost use Rattle.section_work.specs.Held.{count_unheld};
 ghost use Rattle.set_catalog.specs.Ends.{EndsAt, HasHead, Wherever, Present, adds_at, objects_added, dels_at, node_gone, inner_gone, puts_at};
 ghost use Rattle.set_catalog.specs.Merges.{writes_in, merged, PlansMore};
@@ -11,22 +11,22 @@ ghost use Rattle.set_catalog.specs.Plans.{AddsWithin};
 
 use crate::names::{Set, set_of};
 use crate::picks::Picked;
-use crate::plan::Gone;
-use list_set::{Fingers, Spot};
+use crate::plan::Vacated;
+use list_set::{Fingers, Window};
 use mv_history::View;
-use set_script::Name;
+use set_model::{Name, word};
 use tree_balance::{WritePlan, find_way, plan_add};
-use tree_set::{Fork, plant_writes};
+use tree_set::{Descent, tree_add_writes};
 
 /// Where the search for a key ended: all that a command needs to know of its set.
 #[derive(Clone, Copy, Drop)]
 pub enum End {
     /// In the list of this head, of a list or a bucket.
-    Listed { head: u32, spot: Spot },
+    InList { head: u32, window: Window },
     /// At this root, whose tree is empty.
     Empty { root: u32 },
     /// At a leaf of the tree of this root.
-    Grown { root: u32, fork: Fork },
+    InTree { root: u32, descent: Descent },
 }
 
 /// Searches the set of the name for the key. It makes one walk.
@@ -49,20 +49,20 @@ pub(crate) fn search_near<V: View>(view: &mut V, fingers: &mut Fingers, name: Na
     ensures as_before { V.as_before view.old view.new }
 {
     match set_of(name) {
-        Set::List(head) => End::Listed {
+        Set::List(head) => End::InList {
             head,
-            spot: list_set::find_near(view, fingers, head, key),
+            window: list_set::find_near(view, fingers, head, key),
         },
         Set::Table(set) => {
             let head = hash_set::bucket_of(set, key);
-            End::Listed {
+            End::InList {
                 head,
-                spot: list_set::find_near(view, fingers, head, key),
+                window: list_set::find_near(view, fingers, head, key),
             }
         }
         Set::Tree(root) => match tree_set::find(view, root, key) {
             None => End::Empty { root },
-            Some(fork) => End::Grown { root, fork },
+            Some(descent) => End::InTree { root, descent },
         },
     }
 }
@@ -73,9 +73,9 @@ impl End {
         ensures { Wherever self.now key (λ s name. result ≡ has_key key (map_of name (catalogue_of s))) }
     {
         match self {
-            End::Listed { spot, .. } => spot.has(key),
+            End::InList { window, .. } => window.has(key),
             End::Empty { .. } => false,
-            End::Grown { fork, .. } => fork.has(key),
+            End::InTree { descent, .. } => descent.has(key),
         }
     }
 
@@ -87,9 +87,9 @@ impl End {
             return None;
         }
         match self {
-            End::Listed { spot, .. } => Some(spot.node_words[5]),
+            End::InList { window, .. } => Some(window.node_words[word::VALUE]),
             End::Empty { .. } => None,
-            End::Grown { fork, .. } => Some(fork.words[5]),
+            End::InTree { descent, .. } => Some(descent.words[word::VALUE]),
         }
     }
 
@@ -99,9 +99,9 @@ impl End {
         ensures few { result ≤ 2 }
     {
         match self {
-            End::Listed { .. } => 1,
+            End::InList { .. } => 1,
             End::Empty { .. } => 1,
-            End::Grown { .. } => 2,
+            End::InTree { .. } => 2,
         }
     }
 
@@ -113,10 +113,12 @@ impl End {
     {
         let Picked { first, second } = picked;
         match self {
-            End::Listed { head, spot } => plan.write(&spot.add_writes(*head, key, value, first)),
-            End::Empty { root } => plan.write(&plant_writes(*root, key, value, first)),
-            End::Grown { root, fork } => {
-                plan.write(&fork.grow_writes(*root, key, value, first, second))
+            End::InList { head, window } => plan.write(&window.add_writes(
+                *head, key, value, first,
+            )),
+            End::Empty { root } => plan.write(&tree_add_writes(*root, key, value, first)),
+            End::InTree { root, descent } => {
+                plan.write(&descent.grow_writes(*root, key, value, first, second))
             }
         }
     }
@@ -149,7 +151,7 @@ impl End {
             return;
         }
         match self {
-            End::Grown { root, fork } => {
+            End::InTree { root, descent } => {
                 let Picked { first, second } = picked;
                 let way = find_way(view, *root, key);
                 plan_add(
@@ -158,7 +160,7 @@ impl End {
                     *root,
                     key,
                     value,
-                    fork,
+                    descent,
                     &way,
                     first,
                     second,
@@ -170,31 +172,31 @@ impl End {
     }
 
     // Plans a del of the key, which is there, and answers what it leaves vacant.
-    pub(crate) fn del(&self, plan: &mut WritePlan) -> Gone
+    pub(crate) fn del(&self, plan: &mut WritePlan) -> Vacated
         requires none { plan.old.count ≡ 0 }
         ensures writes { (key : ℕ) → Present self.now key (λ s. PlansMore plan.old plan.new (dels_at s self.now)) }
         ensures node { result.node ≡ node_gone self.now }
         ensures inner { result.inner ≡ inner_gone self.now }
     {
         match self {
-            End::Listed { spot, .. } => {
-                plan.write(&spot.del_writes());
-                Gone {
-                    node: spot.node,
+            End::InList { window, .. } => {
+                plan.write(&window.del_writes());
+                Vacated {
+                    node: window.node,
                     inner: 0,
                 }
             }
-            End::Empty { .. } => Gone::nothing(),
-            End::Grown { root, fork } => {
-                let node = fork.leaf;
-                if fork.parent == *root {
-                    plan.write(&fork.bare_writes(*root));
-                    Gone { node, inner: 0 }
+            End::Empty { .. } => Vacated::nothing(),
+            End::InTree { root, descent } => {
+                let node = descent.leaf;
+                if descent.parent == *root {
+                    plan.write(&descent.bare_writes(*root));
+                    Vacated { node, inner: 0 }
                 } else {
-                    plan.write(&fork.cut_writes());
-                    Gone {
+                    plan.write(&descent.tree_del_writes());
+                    Vacated {
                         node,
-                        inner: fork.parent,
+                        inner: descent.parent,
                     }
                 }
             }
@@ -207,9 +209,9 @@ impl End {
         ensures writes { (key : ℕ) → Present self.now key (λ s. PlansMore plan.old plan.new (puts_at s value self.now)) }
     {
         match self {
-            End::Listed { spot, .. } => plan.write(&spot.put_writes(value)),
+            End::InList { window, .. } => plan.write(&window.put_writes(value)),
             End::Empty { .. } => {}
-            End::Grown { fork, .. } => plan.write(&fork.put_writes(value)),
+            End::InTree { descent, .. } => plan.write(&descent.put_writes(value)),
         }
     }
 }

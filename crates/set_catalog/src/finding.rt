@@ -1,11 +1,11 @@
 // What a command comes to in a state, before anything is locked.
 ghost use Rattle.std.specs.Prelude.{◌≡◌, ◌<◌, ◌≤◌, ℕ, true, false, if◌then◌else◌, IfSome, MatchOption};
-ghost use Rattle.set_script.specs.Catalogue.{map_of, has_key};
-ghost use Rattle.set_script.specs.CatalogueOf.{catalogue_of};
-ghost use Rattle.set_script.specs.Lawful.{IsLawful};
-ghost use Rattle.set_script.specs.declared.commands.Command.{Command};
-ghost use Rattle.set_script.specs.declared.commands.Command.TheVariants.{Add, Put, Del, Has, Get, Move, Pair, Size, Next};
-ghost use Rattle.set_script.specs.declared.commands.Reply.TheVariants.{Yes, No};
+ghost use Rattle.set_model.specs.Catalogue.{map_of, has_key};
+ghost use Rattle.set_model.specs.CatalogueOf.{catalogue_of};
+ghost use Rattle.set_model.specs.Lawful.{IsLawful};
+ghost use Rattle.set_model.specs.declared.commands.Command.{Command};
+ghost use Rattle.set_model.specs.declared.commands.Command.TheVariants.{Add, Put, Del, Has, Get, Move, Pair, Size, Next};
+ghost use Rattle.set_model.specs.declared.commands.Reply.TheVariants.{Yes, No};
 ghost use Rattle.set_catalog.specs.Hinted.{TakesHints};
 ghost use Rattle.set_catalog.specs.Ends.{EndsAt, HasHead};
 ghost use Rattle.set_catalog.specs.Picks.{vacant_nodes};
@@ -17,11 +17,11 @@ use crate::ends::{End, search_near};
 use crate::hints::Hints;
 use crate::outcome::PlanOutcome;
 use crate::picks::{Picked, pick};
-use crate::plan::Gone;
+use crate::plan::Vacated;
 use crate::sets::{has, next, size, value};
 use list_set::Fingers;
 use mv_history::View;
-use set_script::{Command, Name, Reply};
+use set_model::{Command, Name, Reply};
 use tree_balance::WritePlan;
 
 /// What a command comes to.
@@ -30,7 +30,7 @@ pub enum Finding {
     /// It changes nothing, and this is its reply.
     Settled(Reply),
     /// It changes something by these writes, and a del leaves these objects vacant.
-    Open { plan: WritePlan, gone: Gone },
+    Open { plan: WritePlan, gone: Vacated },
 }
 
 impl Finding {
@@ -274,7 +274,7 @@ fn find_put<V: View>(
         Some(old) if old == value => PlanOutcome::Settled(Reply::No),
         Some(_) => {
             end.put(plan, value);
-            PlanOutcome::Open(Gone::nothing())
+            PlanOutcome::Open(Vacated::nothing())
         }
     }
 }
@@ -308,7 +308,7 @@ fn find_new<V: View>(
         None => PlanOutcome::Settled(Reply::Full),
         Some(picked) => {
             end.plan_new(plan, view, name, key, value, picked, most);
-            PlanOutcome::Open(Gone::nothing())
+            PlanOutcome::Open(Vacated::nothing())
         }
     }
 }
@@ -367,7 +367,7 @@ fn find_move<V: View>(
     };
     let picked = gone.before(picked);
     to.add(plan, key, value, picked);
-    PlanOutcome::Open(Gone::nothing())
+    PlanOutcome::Open(Vacated::nothing())
 }
 
 // So many vacant objects, 2 at most. Where fewer are known to be vacant, it doesn't look.

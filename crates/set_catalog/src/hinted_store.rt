@@ -5,7 +5,7 @@ use crate::answer::CommandAttempt;
 use crate::attempting::attempt_knowing;
 use crate::memo::Memo;
 use mv_history::Store;
-use set_script::{Command, SetRules};
+use set_model::{Command, SetRules};
 use std::marker::Model;
 
 /// A store and the hints of its seat, which runs commands one after another.

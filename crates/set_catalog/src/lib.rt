@@ -3,7 +3,7 @@
 //! # The model
 //!
 //! A command meets the catalogue of a state, the number of nodes, and whether its place is the last
-//! time; `set_script` says what it replies there and what it changes. It is a work of `section_work`,
+//! time; `set_model` says what it replies there and what it changes. It is a work of `section_work`,
 //! whose attempt makes room in the seat's log, enters one section, and lets it find what it comes to
 //! in the section's snapshot: a reply that changes nothing, or a plan, which has the objects to lock
 //! with the words to write. What changes nothing leaves the section again. A plan is locked and
@@ -61,7 +61,7 @@
 //! # Its place
 //!
 //! It stands on the three crates of sets, whose calls it makes by a command's names, on `tree_balance`,
-//! whose plans are its own, on `set_script`,
+//! whose plans are its own, on `set_model`,
 //! on `section_work`, by which each attempt is made, and on the traits of `mv_history`. It knows no
 //! store, and nothing of logs, chains or marks. The program runs a script by one attempt after another.
 #![tactic(auto)]
@@ -91,7 +91,7 @@ pub use hints::Hints;
 pub use memo::Memo;
 pub use outcome::PlanOutcome;
 pub use picks::{Picked, pick};
-pub use plan::Gone;
+pub use plan::Vacated;
 pub use reading::read_all;
 pub use shortage::Shortage;
 pub use tree_balance::WritePlan;

@@ -2,11 +2,11 @@
 ghost use Rattle.std.specs.Prelude.{◌≡◌, [], IfOk};
 
 use crate::hints::Hints;
-use crate::plan::Gone;
+use crate::plan::Vacated;
 use crate::shortage::Shortage;
 use list_set::Fingers;
 use section_work::Place;
-use set_script::Command;
+use set_model::Command;
 use std::alloc::{AllocError, Global};
 use tree_balance::WritePlan;
 
@@ -62,7 +62,7 @@ impl Memo {
     }
 
     /// Notes that the command took place here, whose commit left these objects vacant.
-    pub fn note(&mut self, command: &Command, gone: Gone, place: Place)
+    pub fn note(&mut self, command: &Command, gone: Vacated, place: Place)
         requires later { IsAfterTheFirst place }
         ensures hints { self.new.hints ≡ hints_at place self.old.hints gone }
         ensures known { self.new.known ≡ known_at place self.old.known command.now }

@@ -1,6 +1,6 @@
 // Names, their sets, and which objects are nodes.
 ghost use Rattle.std.specs.Prelude.{◌≡◌, ◌<◌};
-ghost use Rattle.set_script.specs.CatalogueOf.{name_of as name_of_head};
+ghost use Rattle.set_model.specs.CatalogueOf.{name_of as name_of_head};
 ghost use Rattle.set_catalog.specs.Sets.{IsSetOf};
 
 /// The first object that is the root of a tree; the heads below are those of lists and buckets.
@@ -9,7 +9,7 @@ pub const FIRST_ROOT: u32 = 170;
 /// The first object that is a node; those below are heads.
 pub const FIRST_NODE: u32 = 180;
 
-use set_script::Name;
+use set_model::Name;
 
 // The set of a name, as its own crate numbers it.
 pub enum Set {

@@ -3,8 +3,8 @@ ghost use Rattle.std.specs.Prelude.{◌≡◌};
 ghost use Rattle.set_catalog.specs.Findings.{with_plan};
 
 use crate::finding::Finding;
-use crate::plan::Gone;
-use set_script::Reply;
+use crate::plan::Vacated;
+use set_model::Reply;
 use tree_balance::WritePlan;
 
 /// What a command comes to whose writes are planned in a plan of the caller's.
@@ -13,7 +13,7 @@ pub enum PlanOutcome {
     /// It changes nothing, and this is its reply.
     Settled(Reply),
     /// It changes something by the planned writes, and a del leaves these objects vacant.
-    Open(Gone),
+    Open(Vacated),
 }
 
 impl PlanOutcome {

@@ -1,11 +1,12 @@
 // The search for vacant objects.
 ghost use Rattle.std.specs.Prelude.{◌≡◌, ◌≢◌, ℕ, ◌<◌, ◌≤◌, ◌⊎◌, ◌↔◌, [], length, IsTrue, IfSome, IfNone, MatchOption};
 ghost use Rattle.set_catalog.specs.Picks.{IsVacant, vacant_nodes, ArePicked, TriesHints, TriesFor, AllTried};
-ghost use Rattle.set_script.specs.Objects.{most_objects};
+ghost use Rattle.set_model.specs.Objects.{most_objects};
 
 use crate::hints::Hints;
 use crate::names::FIRST_NODE;
 use mv_history::View;
+use set_model::word;
 
 /// Vacant objects: `first`, and where two were wanted a different `second`, else 0.
 #[derive(Clone, Copy, Debug, PartialEq, Eq)]
@@ -201,5 +202,5 @@ fn is_vacant<V: View>(view: &mut V, object: u32) -> bool
     ensures vacant { IsTrue result ↔ IsVacant (V.state view.old) object }
     ensures as_before { V.as_before view.old view.new }
 {
-    object >= FIRST_NODE && object < view.objects() && view.read(object)[0] == 0
+    object >= FIRST_NODE && object < view.objects() && view.read(object)[word::OWNER] == 0
 }

@@ -7,17 +7,17 @@ use crate::picks::Picked;
 
 /// The objects that a del leaves vacant; each is 0 where there is none.
 #[derive(Clone, Copy)]
-pub struct Gone {
+pub struct Vacated {
     pub node: u32,
     pub inner: u32,
 }
 
-impl Gone {
-    pub(crate) fn nothing() -> Gone
+impl Vacated {
+    pub(crate) fn nothing() -> Vacated
         ensures node { result.node ≡ 0 }
         ensures inner { result.inner ≡ 0 }
     {
-        Gone { node: 0, inner: 0 }
+        Vacated { node: 0, inner: 0 }
     }
 
     // How many vacant objects a move wants beside these, whose add takes so many.

@@ -1,12 +1,12 @@
 // The whole catalogue of a view.
 ghost use Rattle.std.specs.Prelude.{◌≡◌, ◌+◌, ◌*◌, ◌<◌, ◌≤◌, length, IfOk, OnOk};
-ghost use Rattle.set_script.specs.CatalogueOf.{catalogue_of};
-ghost use Rattle.set_script.specs.Lawful.{IsLawful};
+ghost use Rattle.set_model.specs.CatalogueOf.{catalogue_of};
+ghost use Rattle.set_model.specs.Lawful.{IsLawful};
 ghost use Rattle.set_catalog.specs.Readings.{HasHeads};
 
 use crate::names::{FIRST_NODE, FIRST_ROOT, name_of};
 use mv_history::View;
-use set_script::Catalogue;
+use set_model::{Catalogue, word};
 use std::alloc::{AllocError, Global};
 use tree_set::Leaves;
 
@@ -39,7 +39,7 @@ fn read_list<V: View>(view: &mut V, head: u32, all: &mut Catalogue) -> Result<()
     ensures as_before { V.as_before view.old view.new }
 {
     let name = name_of(head);
-    let mut node = view.read(head)[3];
+    let mut node = view.read(head)[word::NEXT];
     while node != 0 {
         let [_, _, key, next, _, value] = view.read(node as u32);
         all.insert(name, key as u32, value)?;

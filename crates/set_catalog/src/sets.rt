@@ -1,13 +1,13 @@
 // The sets by their names: lists, hash tables and trees.
 ghost use Rattle.std.specs.Prelude.{◌≡◌, length};
-ghost use Rattle.set_script.specs.Catalogue.{map_of, has_key, value_of, next_key};
-ghost use Rattle.set_script.specs.CatalogueOf.{catalogue_of};
-ghost use Rattle.set_script.specs.Lawful.{IsLawful};
+ghost use Rattle.set_model.specs.Catalogue.{map_of, has_key, value_of, next_key};
+ghost use Rattle.set_model.specs.CatalogueOf.{catalogue_of};
+ghost use Rattle.set_model.specs.Lawful.{IsLawful};
 
 use crate::names::{Set, set_of};
 use list_set::Fingers;
 use mv_history::View;
-use set_script::Name;
+use set_model::Name;
 
 // Whether the set has the key. In a list or a bucket it begins at a finger.
 pub fn has<V: View>(view: &mut V, fingers: &mut Fingers, name: Name, key: u32) -> bool

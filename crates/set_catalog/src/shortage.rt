@@ -3,7 +3,7 @@ ghost use Rattle.std.specs.Prelude.{◌≡◌, ◌<◌, ◌==◌, nat_lt, not};
 ghost use Rattle.set_catalog.specs.Needs.{first_tree};
 ghost use Rattle.set_catalog.specs.Shortages.{few_at, followed, may_free};
 
-use set_script::{Command, MOST_OBJECTS, Name};
+use set_model::{Command, MOST_OBJECTS, Name};
 
 // More than a store has nodes, so that fewer are vacant in each state.
 const NO_BOUND: u32 = MOST_OBJECTS + 1;

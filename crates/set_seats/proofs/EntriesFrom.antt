@@ -3,7 +3,7 @@ use Rattle.std.proofs.Common.{◌≡◌, ℕ, zero, suc, ◌+◌, ◌<◌, ◌�
 use Rattle.std.proofs.lemmas.Bool.{cases_lt}
 use Rattle.std.proofs.lemmas.Bool.Decides.{nat_tests}
 use Rattle.std.proofs.lemmas.List.{drop-drop}
-use Rattle.set_script.specs.Catalogue.{Map, IsMap, IsAboveKey, value_of, next_key}
+use Rattle.set_model.specs.Catalogue.{Map, IsMap, IsAboveKey, value_of, next_key}
 use Rattle.set_seats.specs.Walks.{entries_from, first_key}
 
 -- they are the map without some entries at its front

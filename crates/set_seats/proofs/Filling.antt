@@ -2,7 +2,7 @@
 use Rattle.std.proofs.Common.{◌≡◌, ◌≢◌, ℕ, suc, ◌+◌, ◌-◌, ◌<◌, ◌≤◌, List, [], ◌∷◌, ◌++◌, map, take, drop, set, length, get_or, Option, Some, None}
 use Rattle.std.proofs.Common.{refl, sym, ap, ◌∙◌, arith}
 use Rattle.std.proofs.lemmas.List.{append_assoc, map-append, length-map, length-drop, length-take-le, set_at, drop_more, take_more, take_all, drop_all}
-use Rattle.set_script.specs.Catalogue.{Map, IsMap}
+use Rattle.set_model.specs.Catalogue.{Map, IsMap}
 use Rattle.set_seats.specs.declared.walk.KeyValue.{KeyValue}
 use Rattle.set_seats.specs.Walks.{Writes, as_entry, entries_from, first_entry, first_key}
 use Rattle.set_seats.proofs.EntriesFrom.{next_at}

@@ -9,8 +9,8 @@ use Rattle.mvrlu.specs.Opened.{IsOpened}
 use Rattle.mvrlu.specs.declared.domain.Domain.{Domain}
 use Rattle.mvrlu.specs.declared.domain.Seat.{Seat}
 use Rattle.mvrlu.proofs.AllSeats.{all_from_places}
-use Rattle.set_script.specs.Lawful.{IsOpening}
-use Rattle.set_script.specs.Objects.{no_words, most_objects}
+use Rattle.set_model.specs.Lawful.{IsOpening}
+use Rattle.set_model.specs.Objects.{no_words, most_objects}
 use Rattle.set_blocks.specs.BlockRules.{IsBlockCommit}
 use Rattle.set_blocks.specs.declared.rules.BlockRules.{BlockRules}
 use Rattle.set_blocks.proofs.Deciding.{lawful_at}

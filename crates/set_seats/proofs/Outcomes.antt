@@ -7,8 +7,8 @@ use Rattle.section_work.specs.declared.attempting.Attempt.TheVariants.{Done as W
 use Rattle.section_work.specs.declared.causes.Cause.{Cause}
 use Rattle.section_work.specs.declared.place.Place.{Place}
 use Rattle.section_work.specs.declared.place.Place.TheVariants.{Commit as AtCommit, Read}
-use Rattle.set_script.specs.declared.commands.Command.{Command}
-use Rattle.set_script.specs.declared.commands.Reply.{Reply}
+use Rattle.set_model.specs.declared.commands.Command.{Command}
+use Rattle.set_model.specs.declared.commands.Reply.{Reply}
 use Rattle.set_blocks.specs.BlockMeaning.{block_meaning}
 use Rattle.set_blocks.proofs.BlockOutcomes.{answered}
 use Rattle.set_catalog.specs.declared.answer.CommandAttempt.{CommandAttempt}

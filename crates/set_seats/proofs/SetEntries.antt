@@ -5,15 +5,15 @@ use Rattle.std.proofs.lemmas.Bool.{cases_lt}
 use Rattle.std.proofs.lemmas.List.{get_or_past}
 use Rattle.mv_history.specs.State.{State}
 use Rattle.mv_history.specs.Meaning.{words_at}
-use Rattle.set_script.specs.Catalogue.{Map, IsMap, map_of, next_key, value_of}
-use Rattle.set_script.specs.CatalogueOf.{is_key_of, catalogue_of}
-use Rattle.set_script.specs.Lawful.{IsLawful}
-use Rattle.set_script.specs.Objects.{owner, key}
-use Rattle.set_script.specs.Replies.{key_reply, value_reply}
-use Rattle.set_script.specs.declared.commands.Reply.{Reply}
-use Rattle.set_script.specs.declared.commands.Reply.TheVariants.{Key, Value}
-use Rattle.set_script.proofs.Mapped.{IsMap-map_among, map_among-value, map_of-catalogue_of, length-catalogue_of, is_key-from}
-use Rattle.set_script.proofs.ObjectWords.{word}
+use Rattle.set_model.specs.Catalogue.{Map, IsMap, map_of, next_key, value_of}
+use Rattle.set_model.specs.CatalogueOf.{is_key_of, catalogue_of}
+use Rattle.set_model.specs.Lawful.{IsLawful}
+use Rattle.set_model.specs.Objects.{owner, key}
+use Rattle.set_model.specs.Replies.{key_reply, value_reply}
+use Rattle.set_model.specs.declared.commands.Reply.{Reply}
+use Rattle.set_model.specs.declared.commands.Reply.TheVariants.{Key, Value}
+use Rattle.set_model.proofs.Mapped.{IsMap-map_among, map_among-value, map_of-catalogue_of, length-catalogue_of, is_key-from}
+use Rattle.set_model.proofs.ObjectWords.{word}
 use Rattle.set_catalog.proofs.NodeReads.{key_fits}
 use Rattle.set_seats.specs.Walks.{as_entry, entries_from, first_entry, first_key}
 use Rattle.set_seats.proofs.EntriesFrom.{next_first, value_at, from_there}

@@ -3,17 +3,17 @@ use Rattle.std.proofs.Common.{◌≡◌, ◌≤◌, Bool, true, false, [], ◌�
 use Rattle.mv_history.specs.State.{State, Writes, written}
 use Rattle.mv_history.specs.Drift.{Drifts}
 use Rattle.section_work.specs.Works.{IsPlanned}
-use Rattle.set_script.specs.CatalogueOf.{catalogue_of}
-use Rattle.set_script.specs.Lawful.{IsLawful}
-use Rattle.set_script.specs.Rules.{capacity, IsSetCommit, Makes, MakesSome}
-use Rattle.set_script.specs.declared.commands.Command.{Command}
-use Rattle.set_script.specs.declared.commands.Reply.{Reply}
-use Rattle.set_script.specs.declared.commands.Reply.TheVariants.{Yes, Worn}
+use Rattle.set_model.specs.CatalogueOf.{catalogue_of}
+use Rattle.set_model.specs.Lawful.{IsLawful}
+use Rattle.set_model.specs.Rules.{capacity, IsSetCommit, Makes, MakesSome}
+use Rattle.set_model.specs.declared.commands.Command.{Command}
+use Rattle.set_model.specs.declared.commands.Reply.{Reply}
+use Rattle.set_model.specs.declared.commands.Reply.TheVariants.{Yes, Worn}
 use Rattle.set_catalog.specs.CommandLaws.{tag_stands}
 use Rattle.set_catalog.specs.Findings.{IsPlanned as IsPlannedFor}
 use Rattle.set_catalog.specs.Merges.{WritePlan, writes_in}
 use Rattle.set_catalog.specs.Replies.{reply_in, changes_in}
-use Rattle.set_catalog.specs.declared.plan.Gone.{Gone}
+use Rattle.set_catalog.specs.declared.plan.Vacated.{Vacated}
 use Rattle.set_catalog.proofs.Deciding.{settled_any, worn_at_last, unchanging_at_last}
 use Rattle.set_catalog.proofs.Merging.{merged-none}
 use Rattle.set_blocks.specs.Blocks.{IsBlock}
@@ -52,19 +52,19 @@ module _ (command : Command) (s : State) where
       (sym (said_one true ∙ ap (λ (r : Reply). r ∷ []) (worn_at_last command s here)), changes_one true ∙ unchanging_at_last command s)
 
   -- what is planned for it is allowed in the state itself
-  makes_here : (ws : Writes) (gone : Gone) → IsPlannedFor command s ws gone → Makes command s (written s ws)
+  makes_here : (ws : Writes) (gone : Vacated) → IsPlannedFor command s ws gone → Makes command s (written s ws)
   makes_here ws gone p =
       let none : Drifts IsSetCommit ws s s = record { commits = []; are_allowed = tt; avoid = tt; leads = refl } in
       subst (λ m. MakesSome m s (written s ws)) (tag_stands command s ws p.plan) (p.fit s none).makes
 
   -- and planned as a block
-  plan_one : (ws : Writes) (gone : Gone) → changes_in command s false ≡ true → IsPlannedFor command s ws gone
+  plan_one : (ws : Writes) (gone : Vacated) → changes_in command s false ≡ true → IsPlannedFor command s ws gone
       → BlockPlan s (command ∷ []) ws (Yes ∷ []) true
   plan_one ws gone c p =
       subst (λ u. BlockPlan s (command ∷ []) u (Yes ∷ []) true) (merged-none ws p.distinct)
       (one_more [] [] [] false command ws Yes true nothing_yet (makes_here ws gone p).in_range (changing ws c p.plan))
 
-  pub change_one : (plan : WritePlan) (gone : Gone) → IsLawful s → changes_in command s false ≡ true → IsPlannedFor command s (writes_in plan) gone
+  pub change_one : (plan : WritePlan) (gone : Vacated) → IsLawful s → changes_in command s false ≡ true → IsPlannedFor command s (writes_in plan) gone
       → (block_changes_in (command ∷ []) s false ≡ true)
       × IsPlanned IsBlockCommit (block_meaning (command ∷ [])) s (block_tag 1) (writes_in plan) (Yes ∷ [])
   change_one plan gone l c p =

@@ -11,8 +11,8 @@ use Rattle.mvrlu.specs.Meant.{seat_of, aborts_in}
 use Rattle.mvrlu.specs.declared.domain.Seat as domain
 use Rattle.section_work.specs.Causes.{Causes, causes}
 use Rattle.section_work.specs.declared.place.Place.TheVariants.{Commit as AtCommit, Read}
-use Rattle.set_script.specs.Lawful.{IsOpening}
-use Rattle.set_script.specs.declared.commands.Command.{Command}
+use Rattle.set_model.specs.Lawful.{IsOpening}
+use Rattle.set_model.specs.declared.commands.Command.{Command}
 use Rattle.set_blocks.specs.BlockAttempts.{BlockAttempted}
 use Rattle.set_blocks.specs.BlockRules.{IsBlockCommit}
 use Rattle.set_blocks.specs.declared.attempt.BlockAttempt.{BlockAttempt}

@@ -8,7 +8,7 @@ use Rattle.mvrlu.specs.declared.domain.Domain.{Domain}
 use Rattle.mvrlu.specs.declared.domain.Seat.{Seat}
 use Rattle.set_blocks.specs.contracts.rules.BlockRulesProtocol.TheImpl.{ghosts}
 use Rattle.set_blocks.specs.declared.rules.BlockRules.{BlockRules}
-use Rattle.set_script.specs.Objects.{no_words, most_objects}
+use Rattle.set_model.specs.Objects.{no_words, most_objects}
 use Rattle.shared_domain.specs.Met.{domain_of}
 use Rattle.set_seats.specs.declared.opening.OpenSets.{OpenSets}
 use Rattle.set_seats.specs.declared.opening.SetsFault.{SetsFault}

@@ -6,8 +6,8 @@ use Rattle.mv_history.specs.Meaning.{Seat}
 use Rattle.section_work.specs.Attempts.{IsReadAt}
 use Rattle.section_work.specs.Causes.{Causes}
 use Rattle.section_work.specs.Works.{Meaning}
-use Rattle.set_script.specs.Catalogue.{Map, map_of}
-use Rattle.set_script.specs.CatalogueOf.{catalogue_of}
+use Rattle.set_model.specs.Catalogue.{Map, map_of}
+use Rattle.set_model.specs.CatalogueOf.{catalogue_of}
 use Rattle.set_seats.specs.declared.walk.KeyValue.{KeyValue}
 use Rattle.set_seats.specs.declared.walk.Walked.{Walked}
 

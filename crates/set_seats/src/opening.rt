@@ -2,7 +2,7 @@
 ghost use Rattle.std.specs.Prelude.{◌≡◌, ◌+◌, ◌<◌, ◌≤◌, map, All, IfOk, IfErr, replicate};
 ghost use Rattle.mvrlu.specs.Opened.{IsOpened};
 ghost use Rattle.shared_domain.specs.Met.{domain_of};
-ghost use Rattle.set_script.specs.Objects.{no_words, most_objects};
+ghost use Rattle.set_model.specs.Objects.{no_words, most_objects};
 ghost use Rattle.set_seats.specs.Opening.{AreOpened, HasObjects, MayShare, Refuses, Shares, config_of, seat_in};
 
 use crate::seat::SetSeat;
@@ -11,7 +11,7 @@ use mv_layout::{Config, ConfigFault};
 use mvrlu::{Domain, Seat, open_zeros};
 use set_blocks::BlockRules;
 use set_catalog::Hints;
-use set_script::MOST_OBJECTS;
+use set_model::MOST_OBJECTS;
 use shared_domain::Share;
 use std::alloc::{AllocError, Global};
 
@@ -20,7 +20,7 @@ use std::alloc::{AllocError, Global};
 pub struct OpenSets {
     /// How many seats, 1 to 64.
     pub seats: u32,
-    /// How many objects, 181 to 16,777,216 (`set_script::MOST_OBJECTS`): 180 heads of the sets, and the nodes for their keys.
+    /// How many objects, 181 to 16,777,216 (`set_model::MOST_OBJECTS`): 180 heads of the sets, and the nodes for their keys.
     pub objects: u32,
     /// How many slots the log of each seat has, 64 to 4,096.
     pub slots: u32,

@@ -14,7 +14,7 @@ use mvrlu::{Domain, Seat};
 use section_work::{Attempt, attempt_work};
 use set_blocks::{Block, BlockAttempt, BlockRules, attempt_block};
 use set_catalog::CommandAttempt;
-use set_script::{Command, Name};
+use set_model::{Command, Name};
 
 // Attempts a command on a seat of the domain.
 #[inline(always)]

@@ -3,7 +3,7 @@ ghost use Rattle.std.specs.Prelude.{◌≡◌, ◌≤◌};
 ghost use Rattle.mvrlu.specs.Meant.{seat_of, IsSeatOf};
 ghost use Rattle.section_work.specs.Sections.{TriesOne};
 ghost use Rattle.shared_domain.specs.Met.{domain_of, gathering_of, Closes};
-ghost use Rattle.set_script.specs.Lawful.{IsOpening};
+ghost use Rattle.set_model.specs.Lawful.{IsOpening};
 ghost use Rattle.set_blocks.specs.BlockRules.{IsBlockCommit};
 ghost use Rattle.set_catalog.specs.Shortages.{IsKnown};
 ghost use Rattle.set_seats.specs.Calls as calls;
@@ -16,7 +16,7 @@ use mv_history::LogTable;
 use mvrlu::Seat;
 use set_blocks::{Block, BlockAttempt, BlockRules};
 use set_catalog::CommandAttempt;
-use set_script::{Command, Name};
+use set_model::{Command, Name};
 use shared_domain::{Closed, Share};
 
 /// A seat of the thirty sets, with a share of its domain, which lasts as long as one of its seats does. It belongs to

@@ -4,8 +4,8 @@ ghost use Rattle.std.specs.Prelude.{◌≡◌, ◌+◌, [], ◌∷◌};
 use mv_history::{Tag, View, Words};
 use section_work::{Decision, Place, Work};
 use set_blocks::BlockRules;
-use set_catalog::{Gone, Hints, Memo, PlanOutcome, Shortage, find_plan_near};
-use set_script::{Command, Reply};
+use set_catalog::{Hints, Memo, PlanOutcome, Shortage, Vacated, find_plan_near};
+use set_model::{Command, Reply};
 use std::marker::Model;
 
 // A command that is to be one section.
@@ -22,7 +22,7 @@ pub(crate) struct OneReply {
 
 impl Model for OneReply {
     ghost use Rattle.std.specs.Prelude.{List, [], ◌∷◌};
-    ghost use Rattle.set_script.specs.declared.commands.Reply.{Reply};
+    ghost use Rattle.set_model.specs.declared.commands.Reply.{Reply};
 
     ghost Value = { List Reply };
 
@@ -43,11 +43,11 @@ impl OneReply {
 pub(crate) struct Remembered {
     pub memo: Memo,
     // What the change that was found last leaves vacant.
-    pub gone: Gone,
+    pub gone: Vacated,
 }
 
 impl Remembered {
-    ghost use Rattle.set_script.specs.Objects.{most_objects};
+    ghost use Rattle.set_model.specs.Objects.{most_objects};
 
     // Nothing but these hints.
     pub(crate) fn of(hints: Hints) -> Remembered
@@ -56,7 +56,7 @@ impl Remembered {
     {
         Remembered {
             memo: Memo::of(hints),
-            gone: Gone { node: 0, inner: 0 },
+            gone: Vacated { node: 0, inner: 0 },
         }
     }
 

@@ -1,9 +1,9 @@
 // A walk over the keys of a set, all of one state.
 ghost use Rattle.std.specs.Prelude.{◌≡◌, ◌+◌, ◌≤◌, false, length};
 ghost use Rattle.mv_history.specs.Calls.{Continues};
-ghost use Rattle.set_script.specs.Catalogue.{map_of};
-ghost use Rattle.set_script.specs.CatalogueOf.{catalogue_of};
-ghost use Rattle.set_script.specs.Lawful.{IsLawful};
+ghost use Rattle.set_model.specs.Catalogue.{map_of};
+ghost use Rattle.set_model.specs.CatalogueOf.{catalogue_of};
+ghost use Rattle.set_model.specs.Lawful.{IsLawful};
 ghost use Rattle.section_work.specs.Causes.{causes};
 ghost use Rattle.set_catalog.specs.Needs.{may_change};
 ghost use Rattle.set_catalog.specs.Replies.{reply_in};
@@ -13,7 +13,7 @@ ghost use Rattle.set_seats.specs.Walks.{IsWalk, Writes, entries_from, entries_in
 use mv_history::{Section, Store, View};
 use set_blocks::BlockRules;
 use set_catalog::{Memo, PlanOutcome, Shortage, find_plan_near};
-use set_script::{Command, Name, Reply};
+use set_model::{Command, Name, Reply};
 
 /// A key of a set, with its value.
 #[repr(C)]

@@ -3,7 +3,7 @@ use crate::comparing::{assert_read, assert_row, must};
 use mv_history::{Store, View, Words};
 use section_work::Place;
 use set_catalog::{CommandAttempt, Hints, attempt_with};
-use set_script::{Command, Name, Reply, SetRules};
+use set_model::{Command, Name, Reply, SetRules};
 use std::alloc::{AllocError, Global};
 use std::process::Abort;
 

@@ -5,7 +5,7 @@ use crate::comparing::{assert_read, assert_row, assert_same, must};
 use block_parser::{BlockFault, BlockKind, parse_blocks};
 use script_parser::FaultKind;
 use set_blocks::Block;
-use set_script::MOST_COMMANDS;
+use set_model::MOST_COMMANDS;
 use std::alloc::{AllocError, Global};
 use std::process::Abort;
 use std::test::Fail;

@@ -7,7 +7,7 @@ use plain_store::PlainStore;
 use section_work::Place;
 use section_work::Place::{Commit, Read};
 use set_blocks::{Block, BlockAttempt, BlockRules, Replies, attempt_block};
-use set_script::{MOST_OBJECTS, Reply};
+use set_model::{MOST_OBJECTS, Reply};
 use std::alloc::{AllocError, Global};
 use std::process::Abort;
 use std::test::Fail;

@@ -1,6 +1,6 @@
 // A catalogue in memory: keys with their values, by name.
 use crate::comparing::{assert_row, must};
-use set_script::Catalogue;
+use set_model::Catalogue;
 use std::alloc::AllocError;
 use std::process::Abort;
 use std::test::Fail;

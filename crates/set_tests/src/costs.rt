@@ -9,7 +9,7 @@ use mv_history::{Section, Store};
 use section_work::Place;
 use section_work::Place::{Commit, Read};
 use set_catalog::{CommandAttempt, HintedStore, Hints, Memo, read_all};
-use set_script::{Catalogue, Command, Reply, SetRules};
+use set_model::{Catalogue, Command, Reply, SetRules};
 use std::alloc::{AllocError, Global};
 use std::process::Abort;
 use std::test::Fail;

@@ -4,7 +4,7 @@ use crate::costs::add;
 use crate::opening::open_sets;
 use mv_history::{Section, Store, View};
 use set_catalog::Hints;
-use set_script::SetRules;
+use set_model::SetRules;
 use std::process::Abort;
 use std::test::Fail;
 

@@ -3,7 +3,7 @@ ghost use Rattle.std.specs.Prelude.{◌≡◌, ◌<◌, ◌≤◌};
 ghost use Rattle.grow_hash.specs.Tables.{grow_levels, most_levels};
 ghost use Rattle.grow_hash.specs.Grown.{first_grown};
 ghost use Rattle.grow_hash.specs.GrowPlans.{IsOfGrown};
-ghost use Rattle.set_script.specs.Objects.{most_objects};
+ghost use Rattle.set_model.specs.Objects.{most_objects};
 
 use crate::comparing::{assert_row, must};
 use crate::counted::Counted;
@@ -11,7 +11,7 @@ use grow_hash::{GROW_LEVELS, GrowRules, GrowStep, GrowingRules, attempt_grow};
 use mv_history::{Store, View, WORDS};
 use plain_store::PlainStore;
 use section_work::Place;
-use set_script::{Command, Name, Reply};
+use set_model::{Command, Name, Reply};
 use std::alloc::{AllocError, Global};
 use std::process::Abort;
 use std::test::Fail;

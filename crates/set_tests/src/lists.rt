@@ -1,6 +1,6 @@
 // What the calls of lists and tables do when they run.
 ghost use Rattle.std.specs.Prelude.{◌≡◌, ℕ, ◌+◌, ◌<◌, true, Some};
-ghost use Rattle.set_script.specs.Lawful.{IsLawful};
+ghost use Rattle.set_model.specs.Lawful.{IsLawful};
 ghost use Rattle.list_set.specs.Filling.{IsFilled};
 ghost use Rattle.list_set.specs.declared.answers.SetStep.TheVariants.{Yes, No};
 ghost use Rattle.list_set.specs.declared.answers.Removed.TheVariants.{Took, Absent};

@@ -1,13 +1,13 @@
 // New plain stores of zeros, and sections over them in which nothing is filled.
 ghost use Rattle.std.specs.Prelude.{◌≡◌, IfOk, replicate};
-ghost use Rattle.set_script.specs.Objects.{no_words};
+ghost use Rattle.set_model.specs.Objects.{no_words};
 ghost use Rattle.list_set.specs.Filling.{IsFilled as AreListsFilled};
 ghost use Rattle.tree_set.specs.Filling.{IsFilled as IsTreeFilled};
 
 use crate::comparing::must;
 use mv_history::{AnyRules, Section, Store, WORDS, Words};
 use plain_store::{PlainSection, PlainStore};
-use set_script::{MOST_OBJECTS, SetRules};
+use set_model::{MOST_OBJECTS, SetRules};
 use std::alloc::{AllocError, Global};
 use std::process::Abort;
 

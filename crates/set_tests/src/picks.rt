@@ -4,7 +4,7 @@ use crate::counted::Counted;
 use mv_history::{AnyRules, Section, Store, View, WORDS, Words};
 use plain_store::{PlainSection, PlainStore};
 use set_catalog::{Hints, Picked, pick};
-use set_script::MOST_OBJECTS;
+use set_model::MOST_OBJECTS;
 use std::alloc::{AllocError, Global};
 use std::process::Abort;
 use std::test::Fail;

@@ -3,7 +3,7 @@ use crate::asked::Ask::{Add, Del, Get, Has, Move, Next, Pair, Put, Size};
 use crate::asked::{Ask, command, expect_commands, name};
 use crate::comparing::{assert_read, assert_same, must};
 use script_parser::{FaultKind, Format, ScriptFault, parse, parse_line};
-use set_script::{Command, MOST_COMMANDS, Name};
+use set_model::{Command, MOST_COMMANDS, Name};
 use std::alloc::{AllocError, Global};
 use std::process::Abort;
 use std::test::Fail;

@@ -1,6 +1,6 @@
 // What the calls do when they run.
 ghost use Rattle.std.specs.Prelude.{◌≡◌, ◌<◌, ◌≤◌, length, true};
-ghost use Rattle.set_script.specs.Lawful.{IsLawful};
+ghost use Rattle.set_model.specs.Lawful.{IsLawful};
 ghost use Rattle.tree_set.specs.Filling.{IsFilled};
 
 use crate::asked::Asked::{Get, Has, Next, Size};

@@ -22,7 +22,7 @@
 //! there just before, and the machine is then at the state that the step makes. By `replays_are_ruled` each such state is
 //! one of the core's rule, with all points of it. `replay` has its words on one.
 //!
-//! **Place.** It stands on `replay_rules` for what a plan's run is and for the laws of all runs, on `set_script` for the words of
+//! **Place.** It stands on `replay_rules` for what a plan's run is and for the laws of all runs, on `set_model` for the words of
 //! a line and their numbers, on `mv_layout` for the numbers and the places of a domain, on `mv_core` for the rule, and on
 //! `mv_history` and `commit_abort` for the words of an object and the answers' types. The program's `replay` stands on it.
 //! Crates above name `replay_rules` through this crate.

@@ -5,20 +5,20 @@ use Rattle.std.proofs.lemmas.List.{set-get_or}
 use Rattle.mv_history.specs.State.{State, Writes, written, touches}
 use Rattle.mv_history.specs.Meaning.{words_at}
 use Rattle.mv_history.proofs.Writing.{length-written}
-use Rattle.set_script.specs.Catalogue.{Map, map_of, put}
-use Rattle.set_script.specs.CatalogueOf.{name_of, map_in, catalogue_of}
-use Rattle.set_script.specs.Objects.{owner}
-use Rattle.set_script.specs.Trees.{IsGrown, EndsAt}
-use Rattle.set_script.specs.Lawful.{IsLawful}
-use Rattle.set_script.proofs.ObjectWords.{word}
-use Rattle.set_script.proofs.Frames.{IsOf, IsWithin, ends_stay}
-use Rattle.set_script.proofs.Heads.{name_bound}
-use Rattle.set_script.proofs.Mapped.{catalogue_set}
-use Rattle.set_script.proofs.NameMaps.{map_in-alone}
-use Rattle.set_script.proofs.FrameMaps.{map_in-within}
-use Rattle.set_script.proofs.TreeMaps.{map_at-tree, map_of-tree}
-use Rattle.set_script.proofs.Halves.{Half}
-use Rattle.set_script.proofs.Ways.{IsVacant, Lacks}
+use Rattle.set_model.specs.Catalogue.{Map, map_of, put}
+use Rattle.set_model.specs.CatalogueOf.{name_of, map_in, catalogue_of}
+use Rattle.set_model.specs.Objects.{owner}
+use Rattle.set_model.specs.Trees.{HoldsTree, EndsAt}
+use Rattle.set_model.specs.Lawful.{IsLawful}
+use Rattle.set_model.proofs.ObjectWords.{word}
+use Rattle.set_model.proofs.Frames.{IsOf, IsWithin, ends_stay}
+use Rattle.set_model.proofs.Heads.{name_bound}
+use Rattle.set_model.proofs.Mapped.{catalogue_set}
+use Rattle.set_model.proofs.NameMaps.{map_in-alone}
+use Rattle.set_model.proofs.FrameMaps.{map_in-within}
+use Rattle.set_model.proofs.TreeMaps.{map_at-tree, map_of-tree}
+use Rattle.set_model.proofs.Halves.{Half}
+use Rattle.set_model.proofs.Ways.{IsVacant, Lacks}
 use Rattle.tree_set.specs.Paths.{plug}
 use Rattle.tree_set.specs.Places.{IsGrowPlace, grow_writes}
 use Rattle.tree_set.proofs.Growing.{sprout, grown_more}
@@ -97,7 +97,7 @@ balanced_half s root k v p l m w ws law lo lt fits place vm vw ne d =
     steps : Rebalances (written s (grow_writes s root k v p l m w)) (written s ws) root
     steps =
         let r = grow_site s root k p l m w fits place vm vw ne in
-        let grown : IsGrown (written s (grow_writes s root k v p l m w)) root (plug r.2 (sprout k v m w l r.0 r.1)) =
+        let grown : HoldsTree (written s (grow_writes s root k v p l m w)) root (plug r.2 (sprout k v m w l r.0 r.1)) =
         grown_more s (written s (grow_writes s root k v p l m w)) root k v p l m w r.0 r.1 r.2 lt r.3
         (grow_sprouts s root k v p l m w r.0 r.1 r.2 law lt r.3) in
         subst (λ (u : State). Rebalances (written s (grow_writes s root k v p l m w)) u root) (sym d.leaves)

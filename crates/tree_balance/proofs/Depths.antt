@@ -1,10 +1,10 @@
 -- A search's way remembers no more objects than are above the leaf.
 use Rattle.std.proofs.Common.{◌≡◌, ◌≢◌, ℕ, suc, ◌+◌, ◌≤◌, Bool, true, false, cond, ltb, eq-eqb, ne_eqb, refl, ap, ◌∙◌, arith}
 use Rattle.mv_history.specs.State.{State}
-use Rattle.set_script.specs.Objects.{key, link, right_link}
-use Rattle.set_script.specs.Trees.{Tree, top, Stands, IsGrown}
-use Rattle.set_script.specs.Trees.Tree.{leaf, inner}
-use Rattle.set_script.proofs.ObjectWords.{word}
+use Rattle.set_model.specs.Objects.{key, link, right_link}
+use Rattle.set_model.specs.Trees.{Tree, top, Stands, HoldsTree}
+use Rattle.set_model.specs.Trees.Tree.{leaf, inner}
+use Rattle.set_model.proofs.ObjectWords.{word}
 use Rattle.tree_balance.specs.Depths.{depth_of, child_for, IsPassed, IsOfWay}
 
 pub passed_first : (s : State) (root k node : ℕ) → node ≡ link s root → IsPassed s root k node 1

@@ -9,7 +9,7 @@ use Rattle.mv_history.proofs.Writing.{words-written_other, words-written_same, l
 use Rattle.section_work.specs.OwnWrites.{with_locks, objects_of}
 use Rattle.section_work.specs.Held.{count_unheld}
 use Rattle.section_work.proofs.OwnWrites.{touches-with_locks, distinct-with_locks, written-with_writes, written-with_locks}
-use Rattle.set_script.specs.Objects.{revalue}
+use Rattle.set_model.specs.Objects.{revalue}
 use Rattle.tree_set.specs.Places.{redirect}
 use Rattle.tree_balance.specs.declared.steps.BalanceStep.{BalanceStep}
 use Rattle.tree_balance.specs.declared.steps.BalanceStep.TheVariants.{Rank, Rotate}

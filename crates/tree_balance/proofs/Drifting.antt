@@ -6,7 +6,7 @@ use Rattle.mv_history.specs.Meaning.{words_at}
 use Rattle.mv_history.proofs.Writing.{length-written, words-written_other}
 use Rattle.section_work.specs.OwnWrites.{objects_of}
 use Rattle.section_work.proofs.Objects.{IsIn, in-touches}
-use Rattle.set_script.proofs.ObjectWords.{owned_in_range}
+use Rattle.set_model.proofs.ObjectWords.{owned_in_range}
 use Rattle.tree_set.specs.Places.{IsParent}
 use Rattle.tree_set.proofs.TreeWays.{inner_same, child_same, parent_same}
 use Rattle.tree_balance.specs.declared.steps.BalanceStep.{BalanceStep}

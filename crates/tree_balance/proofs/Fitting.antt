@@ -7,17 +7,17 @@ use Rattle.mv_history.specs.Meaning.{words_at}
 use Rattle.mv_history.proofs.Drifting.{drift_keeps_apart}
 use Rattle.mv_history.proofs.Writing.{length-written}
 use Rattle.section_work.proofs.Objects.{IsIn, in-touches, touches-in}
-use Rattle.set_script.specs.Catalogue.{map_of, put}
-use Rattle.set_script.specs.CatalogueOf.{name_of, catalogue_of}
-use Rattle.set_script.specs.Lawful.{IsLawful}
-use Rattle.set_script.specs.Rules.{IsSetCommit}
-use Rattle.set_script.specs.Tags.{tag_of}
-use Rattle.set_script.specs.declared.commands.Command.{Command}
-use Rattle.set_script.specs.declared.commands.Command.TheVariants.{Add, Put}
-use Rattle.set_script.proofs.Entries.{has_entry-absent}
-use Rattle.set_script.proofs.Heads.{name_bound}
-use Rattle.set_script.proofs.ObjectWords.{word}
-use Rattle.set_script.proofs.Ways.{IsVacant, Lacks, Does, set_commit}
+use Rattle.set_model.specs.Catalogue.{map_of, put}
+use Rattle.set_model.specs.CatalogueOf.{name_of, catalogue_of}
+use Rattle.set_model.specs.Lawful.{IsLawful}
+use Rattle.set_model.specs.Rules.{IsSetCommit}
+use Rattle.set_model.specs.Tags.{tag_of}
+use Rattle.set_model.specs.declared.commands.Command.{Command}
+use Rattle.set_model.specs.declared.commands.Command.TheVariants.{Add, Put}
+use Rattle.set_model.proofs.Entries.{has_entry-absent}
+use Rattle.set_model.proofs.Heads.{name_bound}
+use Rattle.set_model.proofs.ObjectWords.{word}
+use Rattle.set_model.proofs.Ways.{IsVacant, Lacks, Does, set_commit}
 use Rattle.tree_set.specs.Places.{IsGrowPlace, grow_writes}
 use Rattle.tree_set.proofs.Around.{at_in_range}
 use Rattle.tree_set.proofs.TreeWays.{parent_same, parent_at_root, ends_at_root}

@@ -1,8 +1,8 @@
 -- The laws of steps.
 use Rattle.std.proofs.Common.{ℕ, ◌<◌, ◌≤◌, [], ◌∷◌, refl, arith, Option, Some, None}
 use Rattle.mv_history.specs.State.{State}
-use Rattle.set_script.specs.Trees.{Tree, IsTree}
-use Rattle.set_script.specs.Lawful.{IsLawful}
+use Rattle.set_model.specs.Trees.{Tree, IsTree}
+use Rattle.set_model.specs.Lawful.{IsLawful}
 use Rattle.tree_balance.specs.declared.steps.BalanceStep.{BalanceStep}
 use Rattle.tree_balance.specs.declared.steps.BalanceStep.TheVariants.{Rank, Rotate}
 use Rattle.tree_balance.specs.Steps.{IsStep, after_steps}

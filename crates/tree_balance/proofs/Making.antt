@@ -4,8 +4,8 @@ use Rattle.mv_history.specs.State.{State, Writes, written}
 use Rattle.mv_history.specs.Legal.{are_distinct}
 use Rattle.mv_history.specs.Meaning.{words_at}
 use Rattle.section_work.specs.Held.{count_unheld}
-use Rattle.set_script.specs.Objects.{link}
-use Rattle.set_script.proofs.ObjectWords.{word}
+use Rattle.set_model.specs.Objects.{link}
+use Rattle.set_model.proofs.ObjectWords.{word}
 use Rattle.tree_set.specs.Places.{IsInner, IsChild, IsParent, redirect}
 use Rattle.tree_balance.specs.Steps.{HasInner, lowered, raised}
 use Rattle.tree_balance.specs.Drafts.{merged, Extends}

@@ -2,14 +2,14 @@
 use Rattle.std.proofs.Common.{◌≡◌, ℕ, ◌<◌, ◌≤◌, ◌⊎◌, inl, inr, cond, ltb, [], ◌∷◌, ◌++◌, length, refl, sym, ap, ◌∙◌, arith, Some}
 use Rattle.mv_history.specs.State.{State}
 use Rattle.mv_history.specs.Meaning.{words_at}
-use Rattle.set_script.specs.Catalogue.{Map}
-use Rattle.set_script.specs.Trees.{Tree, top, objects_in, entries_in, IsGrown, seek, EndsAt}
-use Rattle.set_script.specs.TreeLaws.{grown_once}
-use Rattle.set_script.specs.Trees.Tree.{leaf, inner}
-use Rattle.set_script.specs.Lawful.{IsLawful}
-use Rattle.set_script.proofs.ObjectWords.{word}
-use Rattle.set_script.proofs.Frames.{IsWithin, lawful_by_tree}
-use Rattle.set_script.proofs.Ways.{IsAt}
+use Rattle.set_model.specs.Catalogue.{Map}
+use Rattle.set_model.specs.Trees.{Tree, top, objects_in, entries_in, HoldsTree, seek, EndsAt}
+use Rattle.set_model.specs.TreeLaws.{grown_once}
+use Rattle.set_model.specs.Trees.Tree.{leaf, inner}
+use Rattle.set_model.specs.Lawful.{IsLawful}
+use Rattle.set_model.proofs.ObjectWords.{word}
+use Rattle.set_model.proofs.Frames.{IsWithin, lawful_by_tree}
+use Rattle.set_model.proofs.Ways.{IsAt}
 use Rattle.section_work.proofs.Objects.{IsIn, in_either}
 use Rattle.tree_set.specs.Paths.{Path, plug}
 use Rattle.tree_set.specs.Paths.PathStep.{left, right}
@@ -47,8 +47,8 @@ entries_same (right n d a ∷ ps) u v e = ap (λ (m : Map). entries_in a ++ m) (
 pub record Rebalances (s s' : State) (root : ℕ) : Type 0 where
   pub tree : Tree
   pub next : Tree
-  pub grown : IsGrown s root tree
-  pub grows : IsGrown s' root next
+  pub grown : HoldsTree s root tree
+  pub grows : HoldsTree s' root next
   pub seeks : (k : ℕ) → seek k next ≡ seek k tree
   pub entries : entries_in next ≡ entries_in tree
   pub keeps : (o i : ℕ) → i < 3 → word i (words_at s' o) ≡ word i (words_at s o)
@@ -56,7 +56,7 @@ pub record Rebalances (s s' : State) (root : ℕ) : Type 0 where
   pub len : length s' ≡ length s
 
 -- nothing changed
-pub rebalances_none : (s : State) (root : ℕ) (t : Tree) → IsGrown s root t → Rebalances s s root
+pub rebalances_none : (s : State) (root : ℕ) (t : Tree) → HoldsTree s root t → Rebalances s s root
 rebalances_none s root t g = record {
   tree = t;
   next = t;

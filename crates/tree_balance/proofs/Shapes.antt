@@ -1,10 +1,10 @@
 -- A rotation of two inner nodes keeps the objects of a tree, its order, its entries and where each search ends.
 use Rattle.std.proofs.Common.{◌≡◌, ◌≢◌, ℕ, ◌<◌, ◌≤◌, ◌⊎◌, inl, inr, List, ◌∷◌, ◌++◌, refl, sym, ◌∙◌, subst, append_assoc, arith}
 use Rattle.std.proofs.lemmas.Bool.{cases_lt}
-use Rattle.set_script.specs.Trees.{Tree, objects_in, IsDistinct, entries_in, AllBelow, AllFrom, IsOrdered, seek}
-use Rattle.set_script.specs.Trees.Tree.{leaf, inner}
+use Rattle.set_model.specs.Trees.{Tree, objects_in, IsDistinct, entries_in, AllBelow, AllFrom, IsOrdered, seek}
+use Rattle.set_model.specs.Trees.Tree.{leaf, inner}
 use Rattle.section_work.proofs.Objects.{IsIn, in_left, in_right, in_either}
-use Rattle.set_script.proofs.TreeShape.{not_in, is_in-none, distinct_left, distinct_right, distinct_apart, distinct_join, seek_left, seek_right}
+use Rattle.set_model.proofs.TreeShape.{not_in, is_in-none, distinct_left, distinct_right, distinct_apart, distinct_join, seek_left, seek_right}
 
 -- The second tree has the objects, the entries and the order of the first, and each search ends in it where it ended.
 pub record IsReshaped (u v : Tree) : Type 0 where

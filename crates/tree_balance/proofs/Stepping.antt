@@ -6,13 +6,13 @@ use Rattle.mv_history.specs.Legal.{are_distinct}
 use Rattle.mv_history.specs.Meaning.{words_at}
 use Rattle.mv_history.proofs.Writing.{length-written, words-written_other, words-written_same}
 use Rattle.section_work.proofs.Objects.{IsIn, in_left, in_right, touches-out}
-use Rattle.set_script.specs.Objects.{owner, kind, rank, inner_words, revalue}
-use Rattle.set_script.specs.Trees.{Tree, top, objects_in, Stands, IsGrown}
-use Rattle.set_script.specs.Trees.Tree.{leaf, inner}
-use Rattle.set_script.proofs.ObjectWords.{word, owned_in_range, inner_kept, owner-revalue, kind-revalue, key-revalue}
-use Rattle.set_script.proofs.Ways.{IsAt}
-use Rattle.set_script.proofs.TreeShape.{is_in-none}
-use Rattle.set_script.proofs.Written.{distinct-objects_of}
+use Rattle.set_model.specs.Objects.{owner, kind, rank, inner_words, revalue}
+use Rattle.set_model.specs.Trees.{Tree, top, objects_in, Stands, HoldsTree}
+use Rattle.set_model.specs.Trees.Tree.{leaf, inner}
+use Rattle.set_model.proofs.ObjectWords.{word, owned_in_range, inner_kept, owner-revalue, kind-revalue, key-revalue}
+use Rattle.set_model.proofs.Ways.{IsAt}
+use Rattle.set_model.proofs.TreeShape.{is_in-none}
+use Rattle.set_model.proofs.Written.{distinct-objects_of}
 use Rattle.tree_set.specs.Places.{IsInner, IsParent}
 use Rattle.tree_set.proofs.Replacing.{ranked}
 use Rattle.tree_set.proofs.TreeWays.{parent_at_root}
@@ -67,7 +67,7 @@ module _ (s : State) (root n r : ℕ) (lt : root < 180) (is : IsInner s root n) 
           ap (λ (x : ℕ). word i (words_at (stepped s (Rank n r)) x)) e ∙ ap (word i) rank_here ∙ at i lo ∙ ap (λ (x : ℕ). word i (words_at s x)) (sym e)
       go (inr ne) = ap (word i) (rank_other o ne)
 
-  rank_rebalances : (t : Tree) → IsGrown s root t → Rebalances s (stepped s (Rank n r)) root
+  rank_rebalances : (t : Tree) → HoldsTree s root t → Rebalances s (stepped s (Rank n r)) root
   rank_rebalances t g = record {
     tree = t;
     next = t;
@@ -121,7 +121,7 @@ step_rotates s root g p c lt some above p_inner c_inner pg cg pc = record {
     )
 
 -- A step keeps what the tree stands for,
-pub step_rebalances : (s : State) (root : ℕ) (step : BalanceStep) (t : Tree) → root < 180 → 180 < length s → IsGrown s root t → IsStep s root step
+pub step_rebalances : (s : State) (root : ℕ) (step : BalanceStep) (t : Tree) → root < 180 → 180 < length s → HoldsTree s root t → IsStep s root step
     → Rebalances s (stepped s step) root
 step_rebalances s root (Rank n r) t lt some g is = rank_rebalances s root n r lt is t g
 step_rebalances s root (Rotate g p c) t lt some gr (above, p_inner, child, c_inner) =
@@ -129,7 +129,7 @@ step_rebalances s root (Rotate g p c) t lt some gr (above, p_inner, child, c_inn
     (step_rotates s root g p c lt some above p_inner c_inner)
 
 -- and so do several.
-pub steps_rebalance : (s : State) (root : ℕ) (steps : List BalanceStep) (t : Tree) → root < 180 → 180 < length s → IsGrown s root t → AreSteps s root steps
+pub steps_rebalance : (s : State) (root : ℕ) (steps : List BalanceStep) (t : Tree) → root < 180 → 180 < length s → HoldsTree s root t → AreSteps s root steps
     → Rebalances s (after_steps s steps) root
 steps_rebalance s root [] t lt some g are = rebalances_none s root t g
 steps_rebalance s root (step ∷ steps) t lt some g are =

@@ -4,13 +4,13 @@ use Rattle.std.proofs.Common.{refl, sym, ap, ◌∙◌, subst, arith}
 use Rattle.std.proofs.lemmas.Bool.{cases_eq}
 use Rattle.mv_history.specs.State.{State}
 use Rattle.mv_history.specs.Meaning.{words_at}
-use Rattle.set_script.specs.Objects.{kind, link, right_link, rank, inner_words}
-use Rattle.set_script.specs.Trees.{Tree, top, objects_in, Stands, IsGrown}
-use Rattle.set_script.specs.Trees.Tree.{leaf, inner}
-use Rattle.set_script.proofs.ObjectWords.{word}
-use Rattle.set_script.proofs.Ways.{IsAt}
+use Rattle.set_model.specs.Objects.{kind, link, right_link, rank, inner_words}
+use Rattle.set_model.specs.Trees.{Tree, top, objects_in, Stands, HoldsTree}
+use Rattle.set_model.specs.Trees.Tree.{leaf, inner}
+use Rattle.set_model.proofs.ObjectWords.{word}
+use Rattle.set_model.proofs.Ways.{IsAt}
 use Rattle.section_work.proofs.Objects.{IsIn, in_left, in_right}
-use Rattle.set_script.proofs.TreeShape.{top_in, only_in, Stands-same, Stands-node, Stands-owner}
+use Rattle.set_model.proofs.TreeShape.{top_in, only_in, Stands-same, Stands-node, Stands-owner}
 use Rattle.tree_set.specs.Paths.{Path, plug, parent_of, around}
 use Rattle.tree_set.specs.Places.{IsInner, IsChild, IsParent, redirect}
 use Rattle.tree_set.proofs.Plugging.{part_in, plug_in, plug_apart, distinct_part, stands_part, ordered_part, ordered_within}
@@ -50,7 +50,7 @@ rotates_keeps s s' g p c r o i lt = go (cases_eq o g) (cases_eq o p) (cases_eq o
     go (inr ng) (inr np) (inr nc) = ap (word i) (r.others o ng np nc)
 
 -- A part at the end of a path, with the parent on top and the child in it, that the rotation reshapes.
-module _ (s s' : State) (root g p c : ℕ) (ps : Path) (u v : Tree) (lt : root < 180) (grown : IsGrown s root (plug ps u)) (above : parent_of root ps ≡ g)
+module _ (s s' : State) (root g p c : ℕ) (ps : Path) (u v : Tree) (lt : root < 180) (grown : HoldsTree s root (plug ps u)) (above : parent_of root ps ≡ g)
     (r : Rotates s s' g p c) (top_was : top u ≡ p) (top_is : top v ≡ c) (p_in : IsIn p (objects_in u)) (c_in : IsIn c (objects_in u))
     (shape : IsReshaped u v) (stands : Stands s' root v) where
   part_not_grand : (o : ℕ) → IsIn o (objects_in u) → o ≢ g
@@ -113,7 +113,7 @@ module _ (s s' : State) (root g n m d e : ℕ) (ps : Path) (lt : root < 180) (ab
   rest = objects_in a ++ (objects_in b ++ objects_in f)
 
   -- the subtrees stand as before
-  kept : (u : Tree) → IsGrown s root (plug ps u) → ((o : ℕ) → IsIn o rest → IsIn o (objects_in u)) → (IsIn n rest → ⊥) → (IsIn m rest → ⊥) → (t : Tree)
+  kept : (u : Tree) → HoldsTree s root (plug ps u) → ((o : ℕ) → IsIn o rest → IsIn o (objects_in u)) → (IsIn n rest → ⊥) → (IsIn m rest → ⊥) → (t : Tree)
       → ((o : ℕ) → IsIn o (objects_in t) → IsIn o rest) → Stands s root t → Stands s' root t
   kept u grown in_u nn nm t in_rest q =
       Stands-same s s' root t q
@@ -130,7 +130,7 @@ module _ (s s' : State) (root g n m d e : ℕ) (ps : Path) (lt : root < 180) (ab
   f_in o i = in_right (objects_in a) (objects_in b ++ objects_in f) o (in_right (objects_in b) (objects_in f) o i)
 
   -- The left child takes its parent's place.
-  pub turned_right : IsGrown s root (plug ps (inner n d (inner m e a b) f)) → Rebalances s s' root
+  pub turned_right : HoldsTree s root (plug ps (inner n d (inner m e a b) f)) → Rebalances s s' root
   turned_right grown =
       turned s s' root g n m ps u v lt grown above r refl refl (inl refl) (inr (inl refl))
       (right_turn n d m e a b f (ordered_part ps u grown.ordered) (distinct_part ps u grown.distinct))
@@ -170,7 +170,7 @@ module _ (s s' : State) (root g n m d e : ℕ) (ps : Path) (lt : root < 180) (ab
       stands_lower = (stood.0, stood.1, ranked s' root d (top b) (top f) (rank s n) n parent_words, keep b b_in low.4, keep f f_in stood.4)
 
   -- The right child takes its parent's place.
-  pub turned_left : IsGrown s root (plug ps (inner n d a (inner m e b f))) → Rebalances s s' root
+  pub turned_left : HoldsTree s root (plug ps (inner n d a (inner m e b f))) → Rebalances s s' root
   turned_left grown =
       turned s s' root g n m ps u v lt grown above r refl refl (inl refl) (inr (in_right (objects_in a) (objects_in (inner m e b f)) m (inl refl)))
       (left_turn m e n d a b f (ordered_part ps u grown.ordered) (distinct_part ps u grown.distinct))
@@ -213,28 +213,28 @@ module _ (s s' : State) (root g n m d e : ℕ) (ps : Path) (lt : root < 180) (ab
       stands_lower = (stood.0, stood.1, ranked s' root d (top a) (top b) (rank s n) n parent_words, keep a a_in stood.3, keep b b_in low.3)
 
 -- A rotation of two inner nodes, one a child of the other, under the parent of both.
-pub rotation_rebalances : (s s' : State) (root g p c : ℕ) (t : Tree) → root < 180 → IsGrown s root t → IsParent s root g p → IsInner s root p → IsChild s p c
+pub rotation_rebalances : (s s' : State) (root g p c : ℕ) (t : Tree) → root < 180 → HoldsTree s root t → IsParent s root g p → IsInner s root p → IsChild s p c
     → IsInner s root c → (p ≢ g → c ≢ g → p ≢ c → Rotates s s' g p c) → Rebalances s s' root
 rotation_rebalances s s' root g p c t lt grown above p_inner child c_inner r =
     part (path_of t p (only_in s root t grown p p_inner.0 p_inner.1))
   where
-    turns : (ps : Path) (u : Tree) (n m : ℕ) → n ≡ p → m ≡ c → IsGrown s root (plug ps u) → parent_of root ps ≡ g → IsIn n (objects_in u)
+    turns : (ps : Path) (u : Tree) (n m : ℕ) → n ≡ p → m ≡ c → HoldsTree s root (plug ps u) → parent_of root ps ≡ g → IsIn n (objects_in u)
         → IsIn m (objects_in u) → n ≢ m → Rotates s s' g n m
     turns ps u n m e f gr up i j ne =
         subst (λ (x : ℕ). Rotates s s' g x m) (sym e) (subst (λ (x : ℕ). Rotates s s' g p x) (sym f)
         (r (λ z. part_not_parent s root ps u lt gr g up n i (e ∙ z)) (λ z. part_not_parent s root ps u lt gr g up m j (f ∙ z)) (λ z. ne (e ∙ z ∙ sym f))))
 
-    over : (ps : Path) (n d : ℕ) (a b : Tree) → n ≡ p → IsGrown s root (plug ps (inner n d a b)) → parent_of root ps ≡ g → Stands s root (inner n d a b)
+    over : (ps : Path) (n d : ℕ) (a b : Tree) → n ≡ p → HoldsTree s root (plug ps (inner n d a b)) → parent_of root ps ≡ g → Stands s root (inner n d a b)
         → Rebalances s s' root
     over ps n d a b e gr up st = side child
       where
-        at_left : (q : Tree) → top q ≡ c → Stands s root q → IsGrown s root (plug ps (inner n d q b)) → Rebalances s s' root
+        at_left : (q : Tree) → top q ≡ c → Stands s root q → HoldsTree s root (plug ps (inner n d q b)) → Rebalances s s' root
         at_left (leaf m k v) h w _ = absurd (let two = c_inner.2 in let one : kind s c ≡ 1 = ap (kind s) (sym h) ∙ ap (word 1) w.2 in omega arith)
         at_left (inner m k x y) h w gn =
             turned_right s s' root g n m d k ps lt up (turns ps (inner n d (inner m k x y) b) n m e h gn up (inl refl) (inr (inl refl))
             (low_apart n m (objects_in x) (objects_in y) (objects_in b) (distinct_part ps (inner n d (inner m k x y) b) gn.distinct)).differ) x y b gn
 
-        at_right : (q : Tree) → top q ≡ c → Stands s root q → IsGrown s root (plug ps (inner n d a q)) → Rebalances s s' root
+        at_right : (q : Tree) → top q ≡ c → Stands s root q → HoldsTree s root (plug ps (inner n d a q)) → Rebalances s s' root
         at_right (leaf m k v) h w _ = absurd (let two = c_inner.2 in let one : kind s c ≡ 1 = ap (kind s) (sym h) ∙ ap (word 1) w.2 in omega arith)
         at_right (inner m k x y) h w gn =
             turned_left s s' root g n m d k ps lt up (turns ps (inner n d a (inner m k x y)) n m e h gn up (inl refl)
@@ -246,12 +246,12 @@ rotation_rebalances s s' root g p c t lt grown above p_inner child c_inner r =
         side (inl f) = at_left a (sym (ap (word 3) st.2) ∙ ap (link s) e ∙ f) st.3 gr
         side (inr f) = at_right b (sym (ap (word 4) st.2) ∙ ap (right_link s) e ∙ f) st.4 gr
 
-    whole : (ps : Path) (u : Tree) → top u ≡ p → IsGrown s root (plug ps u) → Stands s root u → Rebalances s s' root
+    whole : (ps : Path) (u : Tree) → top u ≡ p → HoldsTree s root (plug ps u) → Stands s root u → Rebalances s s' root
     whole ps (leaf n k v) e gr st = absurd (let two = p_inner.2 in let one : kind s p ≡ 1 = ap (kind s) (sym e) ∙ ap (word 1) st.2 in omega arith)
     whole ps (inner n d a b) e gr st =
         over ps n d a b e gr (parent_is s root ps (inner n d a b) gr g (subst (λ (x : ℕ). IsParent s root g x) (sym e) above)) st
 
     part : (ps : Path) × (u : Tree) × (t ≡ plug ps u) × (top u ≡ p) → Rebalances s s' root
     part (ps, u, e, f) =
-        let gr : IsGrown s root (plug ps u) = subst (λ (x : Tree). IsGrown s root x) e grown in
+        let gr : HoldsTree s root (plug ps u) = subst (λ (x : Tree). HoldsTree s root x) e grown in
         whole ps u f gr (stands_part s root ps u gr.stands)

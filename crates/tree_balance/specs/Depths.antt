@@ -1,9 +1,9 @@
 -- How deep a search ends.
 use Rattle.std.specs.Prelude.{ℕ, zero, suc, ◌≡◌, ◌+◌, ◌≤◌, ◌==◌, nat_lt, if◌then◌else◌}
 use Rattle.mv_history.specs.State.{State}
-use Rattle.set_script.specs.Objects.{key, link, right_link}
-use Rattle.set_script.specs.Trees.{Tree, top, Stands, IsGrown}
-use Rattle.set_script.specs.Trees.Tree.{leaf, inner}
+use Rattle.set_model.specs.Objects.{key, link, right_link}
+use Rattle.set_model.specs.Trees.{Tree, top, Stands, HoldsTree}
+use Rattle.set_model.specs.Trees.Tree.{leaf, inner}
 
 -- how many inner nodes the search for the key passes
 abbrev pub depth_of : ℕ → Tree → ℕ
@@ -19,8 +19,8 @@ child_for s k object =
 -- nodes that it passed.
 abbrev pub IsPassed : State → ℕ → ℕ → ℕ → ℕ → Type 0
 IsPassed s root k node count =
-    (t : Tree) → IsGrown s root t → (part : Tree) × Stands s root part × (node ≡ top part) × (count + depth_of k part ≤ suc (depth_of k t))
+    (t : Tree) → HoldsTree s root t → (part : Tree) × Stands s root part × (node ≡ top part) × (count + depth_of k part ≤ suc (depth_of k t))
 
 -- so many objects are remembered at most: the root, and each inner node of the way
 abbrev pub IsOfWay : State → ℕ → ℕ → ℕ → Type 0
-IsOfWay s root k count = (t : Tree) → IsGrown s root t → count ≤ suc (depth_of k t)
+IsOfWay s root k count = (t : Tree) → HoldsTree s root t → count ≤ suc (depth_of k t)

@@ -2,9 +2,9 @@
 use Rattle.std.specs.Prelude.{ℕ, ◌≡◌, ◌+◌, ◌<◌, ◌≤◌, true, false, ◌||◌, length, slice_index_or, if◌then◌else◌, List, [], ◌∷◌, ◌++◌, take}
 use Rattle.mv_history.specs.State.{State, Writes, written, touches, rewritten}
 use Rattle.mv_history.specs.Legal.{are_distinct}
-use Rattle.set_script.specs.Catalogue.{with_key}
-use Rattle.set_script.specs.CatalogueOf.{name_of, catalogue_of}
-use Rattle.set_script.specs.Lawful.{IsLawful}
+use Rattle.set_model.specs.Catalogue.{with_key}
+use Rattle.set_model.specs.CatalogueOf.{name_of, catalogue_of}
+use Rattle.set_model.specs.Lawful.{IsLawful}
 use Rattle.tree_set.specs.Places.{grow_writes}
 use Rattle.tree_balance.specs.declared.plan.WritePlan.{WritePlan}
 use Rattle.tree_balance.specs.declared.steps.BalanceStep.{BalanceStep}

@@ -3,14 +3,14 @@ use Rattle.std.specs.Prelude.{ℕ, ◌≡◌, ◌≢◌, ◌^◌, ◌<◌, ◌�
 use Rattle.mv_history.specs.State.{State, Writes, written}
 use Rattle.mv_history.specs.Legal.{are_distinct, AreWithin}
 use Rattle.mv_history.specs.Drift.{IsFit}
-use Rattle.set_script.specs.Catalogue.{with_key}
-use Rattle.set_script.specs.CatalogueOf.{name_of, catalogue_of}
-use Rattle.set_script.specs.Objects.{owner, kind, key}
-use Rattle.set_script.specs.Trees.{EndsAt}
-use Rattle.set_script.specs.Lawful.{IsLawful}
-use Rattle.set_script.specs.Rules.{Keeps, IsSetCommit}
-use Rattle.set_script.specs.Tags.{tag_of}
-use Rattle.set_script.specs.declared.commands.Command.TheVariants.{Add, Put}
+use Rattle.set_model.specs.Catalogue.{with_key}
+use Rattle.set_model.specs.CatalogueOf.{name_of, catalogue_of}
+use Rattle.set_model.specs.Objects.{owner, kind, key}
+use Rattle.set_model.specs.Trees.{EndsAt}
+use Rattle.set_model.specs.Lawful.{IsLawful}
+use Rattle.set_model.specs.Rules.{Keeps, IsSetCommit}
+use Rattle.set_model.specs.Tags.{tag_of}
+use Rattle.set_model.specs.declared.commands.Command.TheVariants.{Add, Put}
 use Rattle.tree_set.specs.Places.{IsGrowPlace, grow_writes}
 use Rattle.tree_balance.specs.declared.steps.BalanceStep.{BalanceStep}
 use Rattle.tree_balance.specs.Steps.{after_steps, AreSteps}

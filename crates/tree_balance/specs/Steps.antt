@@ -2,7 +2,7 @@
 use Rattle.std.specs.Prelude.{ℕ, suc, ◌≡◌, ◌≤◌, Bool, false, ◌==◌, ◌||◌, eqb, ⊤, List, [], ◌∷◌, set, slice_index_or, if◌then◌else◌}
 use Rattle.mv_history.specs.State.{State, Writes, written}
 use Rattle.mv_history.specs.Meaning.{words_at}
-use Rattle.set_script.specs.Objects.{revalue}
+use Rattle.set_model.specs.Objects.{revalue}
 use Rattle.tree_balance.specs.declared.steps.BalanceStep.{BalanceStep}
 use Rattle.tree_balance.specs.declared.steps.BalanceStep.TheVariants.{Rank, Rotate}
 use Rattle.tree_set.specs.Places.{IsInner, IsChild, IsParent, redirect}

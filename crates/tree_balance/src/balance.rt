@@ -1,9 +1,9 @@
 // Which steps follow an add on the way of its search.
 ghost use Rattle.std.specs.Prelude.{◌≡◌, ◌≢◌, ◌+◌, ◌<◌, ◌≤◌, length, slice_index_or, true};
 ghost use Rattle.mv_history.specs.Legal.{are_distinct};
-ghost use Rattle.set_script.specs.Lawful.{IsLawful};
-ghost use Rattle.set_script.specs.Objects.{owner};
-ghost use Rattle.tree_set.specs.Forks.{EndsHere};
+ghost use Rattle.set_model.specs.Lawful.{IsLawful};
+ghost use Rattle.set_model.specs.Objects.{owner};
+ghost use Rattle.tree_set.specs.Descents.{EndsHere};
 ghost use Rattle.tree_set.specs.Places.{grow_writes};
 ghost use Rattle.tree_balance.specs.Drafts.{writes_in, Extends, IsAddOnWay};
 
@@ -11,7 +11,8 @@ use crate::plan::WritePlan;
 use crate::steps::BalanceStep;
 use crate::way::Way;
 use mv_history::{View, Words};
-use tree_set::Fork;
+use set_model::word;
+use tree_set::Descent;
 
 /// A way of at most so many objects, the root and 8 inner nodes, is left as it is.
 pub const SHORT: usize = 9;
@@ -34,24 +35,28 @@ struct ClimbPlace {
 
 // The rank of a node with these words: a leaf has rank 0.
 fn rank_of(words: Words) -> u64 {
-    if words[1] == 2 { words[5] } else { 0 }
+    if words[word::KIND] == word::INNER {
+        words[word::RANK]
+    } else {
+        0
+    }
 }
 
 // The child of an inner node with these words that is on the same side as `child`, and the other one of `words`.
 fn child_beside(words: Words, child: u32) -> u64 {
-    if words[3] == child as u64 {
-        words[4]
+    if words[word::LEFT] == child as u64 {
+        words[word::RIGHT]
     } else {
-        words[3]
+        words[word::LEFT]
     }
 }
 
 // The child of the node with `words` that is nearer to the sibling of that node.
 fn child_inside(parent: Words, child: u32, words: Words) -> u64 {
-    if parent[3] == child as u64 {
-        words[4]
+    if parent[word::LEFT] == child as u64 {
+        words[word::RIGHT]
     } else {
-        words[3]
+        words[word::LEFT]
     }
 }
 
@@ -89,8 +94,12 @@ impl WritePlan {
         let (_, here) = self.look(view, child as u64)?;
         let (_, sibling) = self.look(view, child_beside(above, child))?;
         let beside = rank_of(sibling);
-        if above[5] <= beside.saturating_add(1) {
-            let most = if here[5] < beside { beside } else { here[5] };
+        if above[word::RANK] <= beside.saturating_add(1) {
+            let most = if here[word::RANK] < beside {
+                beside
+            } else {
+                here[word::RANK]
+            };
             let raise = BalanceStep::Rank {
                 node: parent,
                 rank: most.saturating_add(1),
@@ -122,9 +131,11 @@ impl WritePlan {
         let (inside, words) = self.look(view, child_inside(above, child, here))?;
         let lower = BalanceStep::Rank {
             node: parent,
-            rank: above[5].saturating_sub(1),
+            rank: above[word::RANK].saturating_sub(1),
         };
-        if words[1] != 2 || here[5] >= words[5].saturating_add(2) {
+        if words[word::KIND] != word::INNER
+            || here[word::RANK] >= words[word::RANK].saturating_add(2)
+        {
             let turn = BalanceStep::Rotate {
                 grand,
                 parent,
@@ -151,11 +162,11 @@ impl WritePlan {
         };
         let raise = BalanceStep::Rank {
             node: inside,
-            rank: words[5].saturating_add(1),
+            rank: words[word::RANK].saturating_add(1),
         };
         let lower_child = BalanceStep::Rank {
             node: child,
-            rank: here[5].saturating_sub(1),
+            rank: here[word::RANK].saturating_sub(1),
         };
         Some(Choice {
             steps: [first, second, raise, lower_child, lower],
@@ -189,7 +200,7 @@ impl WritePlan {
         let (node, words) = self.look(view, choice.next as u64)?;
         Some(ClimbPlace {
             node,
-            rank: words[5],
+            rank: words[word::RANK],
         })
     }
 
@@ -212,7 +223,7 @@ impl WritePlan {
         ensures as_before { V.as_before view.old view.new }
     {
         let (_, above) = self.look(view, parent as u64)?;
-        if at.rank >= above[5] {
+        if at.rank >= above[word::RANK] {
             return self.mend(view, root, grand, parent, at.node, above, limit);
         }
         if falls {
@@ -220,7 +231,7 @@ impl WritePlan {
         }
         Some(ClimbPlace {
             node: parent,
-            rank: above[5],
+            rank: above[word::RANK],
         })
     }
 
@@ -284,7 +295,7 @@ impl WritePlan {
 /// Plans an add of the key, with this value, where the search for it ended, and the steps after it by which the
 /// tree stays short, in a plan that has nothing yet.
 ///
-/// It needs a lawful state in which that search ended at this fork, at a leaf of another key, and two
+/// It needs a lawful state in which that search ended at this descent, at a leaf of another key, and two
 /// vacant objects. The way is what [`find_way`](crate::find_way) remembers; `most` is how many objects
 /// may be locked beside the add's own four, at most 12. It refuses nothing, and takes no memory.
 ///
@@ -296,7 +307,7 @@ pub fn plan_add<V: View>(
     root: u32,
     key: u32,
     value: u64,
-    fork: &Fork,
+    descent: &Descent,
     way: &Way,
     leaf: u32,
     inner: u32,
@@ -306,16 +317,16 @@ pub fn plan_add<V: View>(
     requires root_from { 170 ≤ root }
     requires root_in { root < 180 }
     requires lawful { IsLawful (V.state view.old) }
-    requires ends { EndsHere (V.state view.old) root key fork.now }
-    requires lacks { slice_index_or fork.now.words 2 0 ≢ key }
+    requires ends { EndsHere (V.state view.old) root key descent.now }
+    requires lacks { slice_index_or descent.now.words 2 0 ≢ key }
     requires leaf_vacant { (180 ≤ leaf) × (leaf < length (V.state view.old)) × (owner (V.state view.old) leaf ≡ 0) }
     requires inner_vacant { (180 ≤ inner) × (inner < length (V.state view.old)) × (owner (V.state view.old) inner ≡ 0) }
     requires differ { leaf ≢ inner }
     requires most { most ≤ 12 }
-    ensures plan { IsAddOnWay (V.state view.old) root key value fork.now.parent fork.now.leaf leaf inner most (writes_in plan.new) }
-    ensures short { way.now.count ≤ 9 → writes_in plan.new ≡ grow_writes (V.state view.old) root key value fork.now.parent fork.now.leaf leaf inner }
+    ensures plan { IsAddOnWay (V.state view.old) root key value descent.now.parent descent.now.leaf leaf inner most (writes_in plan.new) }
+    ensures short { way.now.count ≤ 9 → writes_in plan.new ≡ grow_writes (V.state view.old) root key value descent.now.parent descent.now.leaf leaf inner }
     ensures as_before { V.as_before view.old view.new }
 {
-    plan.write(&fork.grow_writes(root, key, value, leaf, inner));
+    plan.write(&descent.grow_writes(root, key, value, leaf, inner));
     plan.rebalance(view, root, way, inner, most + 4);
 }

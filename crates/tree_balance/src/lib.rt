@@ -41,7 +41,7 @@
 //!
 //! # Its place
 //!
-//! It stands on `tree_set`, whose `Fork` says where a search ended and what an add writes there, and on
+//! It stands on `tree_set`, whose `Descent` says where a search ended and what an add writes there, and on
 //! `mv_history`, whose trait `View` it is generic over. It locks nothing, commits nothing and takes no
 //! memory.
 #![tactic(auto)]

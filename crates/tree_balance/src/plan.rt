@@ -8,6 +8,7 @@ ghost use Rattle.section_work.specs.Held.{count_unheld};
 
 use crate::steps::{BalanceStep, is_child, is_inner, is_parent, lowered, raised, redirected};
 use mv_history::{View, Words};
+use set_model::word;
 
 /// The objects to lock, in this order, each with the words to write: at most 16. No change of the sets writes more of them:
 /// a move writes 5, and an add to a tree as many more than its own 4 as [`plan_add`](crate::plan_add) is told.
@@ -134,7 +135,7 @@ impl WritePlan {
             return false;
         }
         let mut ranked = words;
-        ranked[5] = rank;
+        ranked[word::RANK] = rank;
         self.write(&[(node, ranked)]);
         true
     }

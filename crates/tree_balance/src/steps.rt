@@ -4,6 +4,7 @@ ghost use Rattle.tree_set.specs.Places.{redirect};
 ghost use Rattle.tree_balance.specs.Steps.{lowered, raised, HasInner};
 
 use mv_history::Words;
+use set_model::word;
 
 /// A step by which a tree is rebalanced. It changes links and ranks of inner nodes alone.
 #[derive(Clone, Copy)]
@@ -23,17 +24,17 @@ pub(crate) fn is_inner(root: u32, object: u32, words: Words) -> bool
     if object < 180 {
         return false;
     }
-    if words[0] != root as u64 + 1 {
+    if words[word::OWNER] != root as u64 + 1 {
         return false;
     }
-    words[1] == 2
+    words[word::KIND] == word::INNER
 }
 
 // Whether these words lead to the child.
 pub(crate) fn is_child(words: Words, child: u32) -> bool
     ensures { result ≡ true → (slice_index_or words 3 0 ≡ child) ⊎ (slice_index_or words 4 0 ≡ child) }
 {
-    words[3] == child as u64 || words[4] == child as u64
+    words[word::LEFT] == child as u64 || words[word::RIGHT] == child as u64
 }
 
 // Whether the root, or an inner node, with these words leads to the child.
@@ -43,7 +44,7 @@ pub(crate) fn is_parent(root: u32, object: u32, words: Words, child: u32) -> boo
         ⊎ (HasInner root object words × ((slice_index_or words 3 0 ≡ child) ⊎ (slice_index_or words 4 0 ≡ child))) }
 {
     if object == root {
-        return words[3] == child as u64;
+        return words[word::LEFT] == child as u64;
     }
     is_inner(root, object, words) && is_child(words, child)
 }
@@ -53,10 +54,10 @@ pub(crate) fn redirected(words: Words, old: u32, new: u32) -> Words
     ensures { result ≡ redirect words old new }
 {
     let mut words = words;
-    if words[3] == old as u64 {
-        words[3] = new as u64;
+    if words[word::LEFT] == old as u64 {
+        words[word::LEFT] = new as u64;
     } else {
-        words[4] = new as u64;
+        words[word::RIGHT] = new as u64;
     }
     words
 }
@@ -66,10 +67,10 @@ pub(crate) fn lowered(parent: Words, child: u32, words: Words) -> Words
     ensures { result ≡ lowered parent child words }
 {
     let mut parent = parent;
-    if parent[3] == child as u64 {
-        parent[3] = words[4];
+    if parent[word::LEFT] == child as u64 {
+        parent[word::LEFT] = words[word::RIGHT];
     } else {
-        parent[4] = words[3];
+        parent[word::RIGHT] = words[word::LEFT];
     }
     parent
 }
@@ -79,10 +80,10 @@ pub(crate) fn raised(parent_words: Words, parent: u32, child: u32, words: Words)
     ensures { result ≡ raised parent_words parent child words }
 {
     let mut words = words;
-    if parent_words[3] == child as u64 {
-        words[4] = parent as u64;
+    if parent_words[word::LEFT] == child as u64 {
+        words[word::RIGHT] = parent as u64;
     } else {
-        words[3] = parent as u64;
+        words[word::LEFT] = parent as u64;
     }
     words
 }

@@ -1,6 +1,6 @@
 // The last objects of the way that a search takes.
 ghost use Rattle.std.specs.Prelude.{◌≡◌, ◌+◌, ◌<◌, ◌≤◌, length, take};
-ghost use Rattle.set_script.specs.Lawful.{IsLawful};
+ghost use Rattle.set_model.specs.Lawful.{IsLawful};
 ghost use Rattle.tree_balance.specs.Depths.{child_for, IsOfWay};
 
 use mv_history::View;

@@ -7,24 +7,24 @@ use Rattle.mv_history.specs.Legal.{are_distinct, AreWithin}
 use Rattle.mv_history.specs.Meaning.{InSection, words_at, state_of}
 use Rattle.mv_history.specs.Calls.{IsAsBefore}
 use Rattle.mv_history.proofs.Holding.{state_of-as_before}
-use Rattle.set_script.specs.Catalogue.{Map, map_of, has_key, value_of, put, take_out}
-use Rattle.set_script.specs.CatalogueOf.{name_of, catalogue_of}
-use Rattle.set_script.specs.Objects.{link, value}
+use Rattle.set_model.specs.Catalogue.{Map, map_of, has_key, value_of, put, take_out}
+use Rattle.set_model.specs.CatalogueOf.{name_of, catalogue_of}
+use Rattle.set_model.specs.Objects.{link, value}
 use Rattle.section_work.specs.OwnWrites.{objects_of}
-use Rattle.set_script.specs.Lawful.{IsLawful}
-use Rattle.set_script.proofs.ObjectWords.{word, owned_in_range}
+use Rattle.set_model.specs.Lawful.{IsLawful}
+use Rattle.set_model.proofs.ObjectWords.{word, owned_in_range}
 use Rattle.section_work.proofs.Objects.{IsIn, in_either, in-touches}
-use Rattle.set_script.proofs.Ways.{IsVacant, AreVacant, Way}
+use Rattle.set_model.proofs.Ways.{IsVacant, AreVacant, Way}
 use Rattle.list_set.specs.Places.{put_writes}
 use Rattle.section_work.specs.Locking.{Rewritten}
-use Rattle.tree_set.specs.Places.{IsLeaf, plant_writes, IsGrowPlace, grow_writes, IsBarePlace, bare_writes, IsCutPlace, cut_writes}
+use Rattle.tree_set.specs.Places.{IsLeaf, tree_add_writes, IsGrowPlace, grow_writes, IsBarePlace, bare_writes, IsCutPlace, tree_del_writes}
 use Rattle.tree_set.specs.Calls.{IsAdd, IsDel, Gains, Loses}
 use Rattle.tree_set.specs.Calls.IsAdd.{first_leaf, beside_leaf}
 use Rattle.tree_set.specs.Calls.IsDel.{last_leaf, leaf_and_parent}
-use Rattle.tree_set.specs.Walks.{IsFork}
+use Rattle.tree_set.specs.Walks.{IsDescent}
 use Rattle.tree_set.proofs.Around.{at_in_range}
 use Rattle.tree_set.proofs.Found.{found_has, found_leaf, found_words, found_value}
-use Rattle.tree_set.proofs.TreeWays.{grow_way, plant_way, cut_way, bare_way, put_way}
+use Rattle.tree_set.proofs.TreeWays.{grow_way, tree_add_way, cut_way, bare_way, put_way}
 
 pub both_vacant : (s : State) (m w : ℕ) → IsVacant s m → IsVacant s w → AreVacant s (m ∷ w ∷ [])
 both_vacant s m w a b o (inl e) = subst (λ (u : ℕ). IsVacant s u) (sym e) a
@@ -44,7 +44,7 @@ pub record IsFoundLeaf (s : State) (root k l : ℕ) (words : List ℕ) : Type 0 
   pub words_are : words ≡ words_at s l
   pub value_is : value_of k (map_of (name_of root) (catalogue_of s)) ≡ Some (word 5 words)
 
-pub put_found : (s t : State) (root k g p l r : ℕ) (words : List ℕ) → s ≡ t → IsFork s root k g p l r words → IsLawful t → 170 ≤ root → root < 180 →
+pub put_found : (s t : State) (root k g p l r : ℕ) (words : List ℕ) → s ≡ t → IsDescent s root k g p l r words → IsLawful t → 170 ≤ root → root < 180 →
     has_key k (map_of (name_of root) (catalogue_of t)) ≡ true → IsFoundLeaf t root k l words
 put_found s t root k g p l r words same f law lo lt present =
     let e : word 2 words ≡ k = eqb-true (word 2 words) k (sym (found_has s t root k g p l r words same f law lo lt) ∙ present) in
@@ -83,11 +83,11 @@ module _ {Fits : Map → Type 0} {change : Map → Map} (root : ℕ) (w : Way ro
 -- What the locks need.
 module _ (a b : InSection) (root k : ℕ) (le : a.at ≤ length a.seat.seen) (same : IsAsBefore a b) (l : IsLawful (state_of a)) (lo : 170 ≤ root)
     (lt : root < 180) where
-  pub planted_in_range : (m : ℕ) → k < 2 ^ 32 → link (state_of a) root ≡ 0 → IsVacant (state_of a) m →
+  pub tree_added_in_range : (m : ℕ) → k < 2 ^ 32 → link (state_of a) root ≡ 0 → IsVacant (state_of a) m →
       AreWithin ((root, []) ∷ (m, []) ∷ []) (length (state_of b))
-  unfolding plant_way
-  planted_in_range m fits e vm =
-      way_within root (plant_way root k 0 m lo lt fits) lt a b le same l e (one_vacant (state_of a) m vm)
+  unfolding tree_add_way
+  tree_added_in_range m fits e vm =
+      way_within root (tree_add_way root k 0 m lo lt fits) lt a b le same l e (one_vacant (state_of a) m vm)
 
   pub grown_in_range : (p n m w : ℕ) → k < 2 ^ 32 → IsGrowPlace (state_of a) root k p n → IsVacant (state_of a) m → IsVacant (state_of a) w → m ≢ w →
       AreWithin ((p, []) ∷ (n, []) ∷ (m, []) ∷ (w, []) ∷ []) (length (state_of b))
@@ -155,13 +155,14 @@ made_as a c made ws e r = subst (λ (u : Writes). Rewritten a c (objects_of u) u
 -- What an add leaves.
 module _ (a c : InSection) (root k v m w : ℕ) (l : IsLawful (state_of a)) (lo : 170 ≤ root) (lt : root < 180) (fits : k < 2 ^ 32)
     (vm : IsVacant (state_of a) m) where
-  pub planted_gains : (made : Writes) → link (state_of a) root ≡ 0 → made ≡ plant_writes (state_of a) root k v m → Rewritten a c (objects_of made) made →
+  pub tree_added_gains : (made : Writes) → link (state_of a) root ≡ 0 → made ≡ tree_add_writes (state_of a) root k v m → Rewritten a c (objects_of made) made →
       (ws : Writes) × IsAdd (state_of a) root k v m w ws × Gains a c root k v ws
-  unfolding plant_way
-  planted_gains made e is r = (
-    plant_writes (state_of a) root k v m,
+  unfolding tree_add_way
+  tree_added_gains made e is r = (
+    tree_add_writes (state_of a) root k v m,
     first_leaf e,
-    way_gains root k v (plant_way root k v m lo lt fits) a c l e (one_vacant (state_of a) m vm) (made_as a c made (plant_writes (state_of a) root k v m) is r),
+    way_gains root k v (tree_add_way root k v m lo lt fits) a c l e (one_vacant (state_of a) m vm)
+        (made_as a c made (tree_add_writes (state_of a) root k v m) is r),
   )
 
   pub grown_gains : (p n : ℕ) (made : Writes) → IsVacant (state_of a) w → m ≢ w → IsGrowPlace (state_of a) root k p n →
@@ -194,14 +195,14 @@ module _ (a c : InSection) (root k : ℕ) (l : IsLawful (state_of a)) (lo : 170 
         (made_as a c made (bare_writes (state_of a) root n) is r),
   )
 
-  pub cut_loses : (g p n : ℕ) (made : Writes) → IsCutPlace (state_of a) root k g p n → made ≡ cut_writes (state_of a) g p n →
+  pub cut_loses : (g p n : ℕ) (made : Writes) → IsCutPlace (state_of a) root k g p n → made ≡ tree_del_writes (state_of a) g p n →
       Rewritten a c (objects_of made) made → (ws : Writes) × IsDel (state_of a) root k n p ws × Loses a c root k ws
   unfolding cut_way
   cut_loses g p n made place is r = (
-    cut_writes (state_of a) g p n,
+    tree_del_writes (state_of a) g p n,
     leaf_and_parent g p n place,
     way_loses root k (cut_way root k (value (state_of a) n) g p n lo lt) a c l (place, refl) (none_vacant (state_of a))
-        (made_as a c made (cut_writes (state_of a) g p n) is r),
+        (made_as a c made (tree_del_writes (state_of a) g p n) is r),
   )
 
   -- What a put leaves.

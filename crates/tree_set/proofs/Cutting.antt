@@ -3,16 +3,16 @@ use Rattle.std.proofs.Common.{◌≡◌, ◌≢◌, ℕ, suc, ◌<◌, ◌≤◌
 use Rattle.std.proofs.lemmas.Bool.{cases_eq}
 use Rattle.mv_history.specs.State.{State}
 use Rattle.mv_history.specs.Meaning.{words_at}
-use Rattle.set_script.specs.Catalogue.{Map, value_of, take_out}
-use Rattle.set_script.specs.Objects.{owner, kind, key, value, no_words}
-use Rattle.set_script.specs.Trees.{top, objects_in, IsDistinct, entries_in, Stands, IsGrown, seek}
-use Rattle.set_script.specs.Trees.Tree.{leaf}
-use Rattle.set_script.proofs.ObjectWords.{word}
-use Rattle.set_script.proofs.Frames.{IsOf, IsWithin}
-use Rattle.set_script.proofs.MapParts.{take_out-behind}
+use Rattle.set_model.specs.Catalogue.{Map, value_of, take_out}
+use Rattle.set_model.specs.Objects.{owner, kind, key, value, no_words}
+use Rattle.set_model.specs.Trees.{top, objects_in, IsDistinct, entries_in, Stands, HoldsTree, seek}
+use Rattle.set_model.specs.Trees.Tree.{leaf}
+use Rattle.set_model.proofs.ObjectWords.{word}
+use Rattle.set_model.proofs.Frames.{IsOf, IsWithin}
+use Rattle.set_model.proofs.MapParts.{take_out-behind}
 use Rattle.section_work.proofs.Objects.{IsIn}
-use Rattle.set_script.proofs.TreeShape.{Stands-same, only_in}
-use Rattle.set_script.proofs.TreeMaps.{leaf_value}
+use Rattle.set_model.proofs.TreeShape.{Stands-same, only_in}
+use Rattle.set_model.proofs.TreeMaps.{leaf_value}
 use Rattle.tree_set.specs.Paths.{PathStep, Path, plug, node_of, parent_of, Follows, around, before, after}
 use Rattle.tree_set.specs.Paths.PathStep.{left, right}
 use Rattle.tree_set.specs.Places.{redirect, sibling}
@@ -32,7 +32,7 @@ pub record Prunes (s s' : State) (g p l : ℕ) : Type 0 where
 
 -- The leaf l behind the last turn of the search's path, at the parent p, and the grandparent g before it.
 pub record IsTwig (s : State) (root k g p l x : ℕ) (ps : Path) (q : PathStep) : Type 0 where
-  pub grown : IsGrown s root (plug ps (plug (q ∷ []) (leaf l k x)))
+  pub grown : HoldsTree s root (plug ps (plug (q ∷ []) (leaf l k x)))
   pub follows : Follows k ps
   pub turns : Follows k (q ∷ [])
   pub grand : parent_of root ps ≡ g
@@ -111,7 +111,7 @@ module _ (s s' : State) (root k g p l x : ℕ) (ps : Path) (q : PathStep) (lt : 
       ]
 
   -- The tree without the leaf and its parent.
-  pub grown_less : IsGrown s' root (plug ps (beside q))
+  pub grown_less : HoldsTree s' root (plug ps (beside q))
   grown_less = replaced s s' root ps (plug (q ∷ []) (leaf l k x)) (beside q) lt a.grown pruned_as
 
   pub cut_within : IsWithin s s' root

@@ -6,16 +6,16 @@ use Rattle.mv_history.specs.Meaning.{Seat, InSection, words_at, state_of}
 use Rattle.mv_history.specs.Calls.{Enters, IsAsBefore}
 use Rattle.mv_history.proofs.Writing.{length-written, length-rewritten, touches-append, words-written_other}
 use Rattle.mv_history.proofs.Holding.{state_of-as_before}
-use Rattle.set_script.specs.Objects.{owner, link}
+use Rattle.set_model.specs.Objects.{owner, link}
 use Rattle.section_work.specs.OwnWrites.{objects_of, with_locks, with_writes}
-use Rattle.set_script.specs.Trees.{objects_in, EndsAt}
-use Rattle.set_script.specs.Lawful.{IsLawful, IsOpening}
-use Rattle.set_script.proofs.ObjectWords.{word}
-use Rattle.set_script.proofs.Opening.{opening_owner, opening_lawful}
+use Rattle.set_model.specs.Trees.{objects_in, EndsAt}
+use Rattle.set_model.specs.Lawful.{IsLawful, IsOpening}
+use Rattle.set_model.proofs.ObjectWords.{word}
+use Rattle.set_model.proofs.Opening.{opening_owner, opening_lawful}
 use Rattle.section_work.proofs.Objects.{IsIn, touches-out, in-touches}
-use Rattle.set_script.proofs.TreeShape.{seek_in, Stands-node, Stands-owner}
+use Rattle.set_model.proofs.TreeShape.{seek_in, Stands-node, Stands-owner}
 use Rattle.section_work.proofs.OwnWrites.{touches-with_locks, touches-with_writes}
-use Rattle.set_script.proofs.Ways.{IsAt}
+use Rattle.set_model.proofs.Ways.{IsAt}
 use Rattle.section_work.specs.Held.{count_unheld, HasRoom}
 use Rattle.section_work.specs.Locking.{Rewritten}
 use Rattle.list_set.specs.Places.{put_writes}

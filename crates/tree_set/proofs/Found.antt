@@ -3,26 +3,26 @@ use Rattle.std.proofs.Common.{◌≡◌, ◌≢◌, ℕ, suc, ◌+◌, ◌<◌, 
 use Rattle.std.proofs.Common.{arith, Some, None}
 use Rattle.mv_history.specs.State.{State}
 use Rattle.mv_history.specs.Meaning.{words_at}
-use Rattle.set_script.specs.Catalogue.{map_of, has_key, value_of}
-use Rattle.set_script.specs.CatalogueOf.{name_of, catalogue_of}
-use Rattle.set_script.specs.Objects.{owner, key, link, leaf_words}
-use Rattle.set_script.specs.Trees.{Tree, top, Stands, IsGrown}
-use Rattle.set_script.specs.Trees.Tree.{leaf}
-use Rattle.set_script.specs.TreeLaws.{top_is_node}
-use Rattle.set_script.specs.Lawful.{IsLawful}
-use Rattle.set_script.proofs.ObjectWords.{word}
+use Rattle.set_model.specs.Catalogue.{map_of, has_key, value_of}
+use Rattle.set_model.specs.CatalogueOf.{name_of, catalogue_of}
+use Rattle.set_model.specs.Objects.{owner, key, link, leaf_words}
+use Rattle.set_model.specs.Trees.{Tree, top, Stands, HoldsTree}
+use Rattle.set_model.specs.Trees.Tree.{leaf}
+use Rattle.set_model.specs.TreeLaws.{top_is_node}
+use Rattle.set_model.specs.Lawful.{IsLawful}
+use Rattle.set_model.proofs.ObjectWords.{word}
 use Rattle.list_set.specs.Places.{put_writes}
 use Rattle.tree_set.specs.Paths.{Path, plug, node_of, parent_of, grand_of}
-use Rattle.tree_set.specs.Places.{IsInner, IsLeaf, IsParent, redirect, inner_over, plant_writes, IsGrowPlace, grow_writes, IsBarePlace}
+use Rattle.tree_set.specs.Places.{IsInner, IsLeaf, IsParent, redirect, inner_over, tree_add_writes, IsGrowPlace, grow_writes, IsBarePlace}
 use Rattle.tree_set.specs.Places.{IsCutPlace}
-use Rattle.tree_set.specs.Walks.{IsFork}
+use Rattle.tree_set.specs.Walks.{IsDescent}
 use Rattle.tree_set.proofs.Plugging.{stands_part, seek_plug}
 use Rattle.tree_set.proofs.Replacing.{parent_leads}
 use Rattle.tree_set.proofs.Turns.{last_turn, plug_last, parent_last, grand_last, top_turn}
-use Rattle.tree_set.proofs.Forks.{fork_has, fork_value, no_keys}
+use Rattle.tree_set.proofs.Descents.{descent_has, descent_value, no_keys}
 use Rattle.tree_set.proofs.Ends.{no_tree}
 
-module _ (s : State) (root k g p l r : ℕ) (words : List ℕ) (f : IsFork s root k g p l r words) where
+module _ (s : State) (root k g p l r : ℕ) (words : List ℕ) (f : IsDescent s root k g p l r words) where
   stood : Stands s root (leaf l f.key f.value)
   stood = stands_part s root f.path (leaf l f.key f.value) f.grown.stands
 
@@ -63,12 +63,12 @@ module _ (s : State) (root k g p l r : ℕ) (words : List ℕ) (f : IsFork s roo
     | inr a ↦ record { above = grand f.path f.grown f.parent_is f.grand_is; is_inner = a.0; child = a.1; is_leaf = is_leaf e }
   ]
     where
-      grand : (ps : Path) → IsGrown s root (plug ps (leaf l f.key f.value)) → p ≡ parent_of root ps → g ≡ grand_of root root ps → IsParent s root g p
+      grand : (ps : Path) → HoldsTree s root (plug ps (leaf l f.key f.value)) → p ≡ parent_of root ps → g ≡ grand_of root root ps → IsParent s root g p
       grand [] w a b = absurd (n a)
       grand (t ∷ ps) w a b =
           let q = last_turn t ps in
-          let whole : IsGrown s root (plug q.0 (plug (q.1 ∷ []) (leaf l f.key f.value))) =
-          subst (λ (u : Tree). IsGrown s root u) (ap (λ (u : Path). plug u (leaf l f.key f.value)) q.2 ∙ plug_last q.0 q.1 (leaf l f.key f.value)) w in
+          let whole : HoldsTree s root (plug q.0 (plug (q.1 ∷ []) (leaf l f.key f.value))) =
+          subst (λ (u : Tree). HoldsTree s root u) (ap (λ (u : Path). plug u (leaf l f.key f.value)) q.2 ∙ plug_last q.0 q.1 (leaf l f.key f.value)) w in
           let gp : g ≡ parent_of root q.0 = b ∙ ap (grand_of root root) q.2 ∙ grand_last root root q.0 q.1 in
           let pp : p ≡ node_of q.1 = a ∙ ap (parent_of root) q.2 ∙ parent_last root q.0 q.1 in
           subst (λ (o : ℕ). IsParent s root o p) (sym gp)
@@ -76,13 +76,13 @@ module _ (s : State) (root k g p l r : ℕ) (words : List ℕ) (f : IsFork s roo
           (parent_leads s root q.0 (plug (q.1 ∷ []) (leaf l f.key f.value)) whole))
 
 -- The same in the state of a section, which its view has.
-module _ (s t : State) (root k g p l r : ℕ) (words : List ℕ) (same : s ≡ t) (f : IsFork s root k g p l r words) where
-  there : IsFork t root k g p l r words
-  there = subst (λ (u : State). IsFork u root k g p l r words) same f
+module _ (s t : State) (root k g p l r : ℕ) (words : List ℕ) (same : s ≡ t) (f : IsDescent s root k g p l r words) where
+  there : IsDescent t root k g p l r words
+  there = subst (λ (u : State). IsDescent u root k g p l r words) same f
 
   pub found_some : link t root ≢ 0
   found_some e =
-      let x : IsFork t root k g p l r words = there in
+      let x : IsDescent t root k g p l r words = there in
       let first : link t root ≡ top (plug x.path (leaf l x.key x.value)) = ap (word 3) x.grown.first in
       let node : 180 ≤ top (plug x.path (leaf l x.key x.value)) = top_is_node t root (plug x.path (leaf l x.key x.value)) x.grown.stands in omega arith
 
@@ -102,11 +102,11 @@ module _ (s t : State) (root k g p l r : ℕ) (words : List ℕ) (same : s ≡ t
   found_cut = cut_place t root k g p l r words there
 
   pub found_has : IsLawful t → 170 ≤ root → root < 180 → has_key k (map_of (name_of root) (catalogue_of t)) ≡ eqb (word 2 words) k
-  found_has l lo lt = fork_has t root k g p _ r words l lo lt there
+  found_has l lo lt = descent_has t root k g p _ r words l lo lt there
 
   pub found_value : IsLawful t → 170 ≤ root → root < 180 →
       value_of k (map_of (name_of root) (catalogue_of t)) ≡ cond (eqb (word 2 words) k) (Some (word 5 words)) None
-  found_value l lo lt = fork_value t root k g p _ r words l lo lt there
+  found_value l lo lt = descent_value t root k g p _ r words l lo lt there
 
 pub found_none : (s t : State) (root k : ℕ) → s ≡ t → link s root ≡ 0 → IsLawful t → 170 ≤ root → root < 180 →
     has_key k (map_of (name_of root) (catalogue_of t)) ≡ false
@@ -117,9 +117,9 @@ pub found_empty : (s t : State) (root : ℕ) → s ≡ t → link s root ≡ 0 �
 found_empty s t root same e = ap (λ (u : State). link u root) (sym same) ∙ e
 
 -- The words that the code makes are those of the places.
-pub plant_made : (s : State) (root k v m : ℕ) → IsLawful s → 170 ≤ root → root < 180 → link s root ≡ 0 →
-    ((root, 0 ∷ 0 ∷ 0 ∷ m ∷ 0 ∷ 0 ∷ []) ∷ (m, (root + 1) ∷ 1 ∷ k ∷ 0 ∷ 0 ∷ v ∷ []) ∷ []) ≡ plant_writes s root k v m
-plant_made s root k v m l lo lt e =
+pub tree_add_made : (s : State) (root k v m : ℕ) → IsLawful s → 170 ≤ root → root < 180 → link s root ≡ 0 →
+    ((root, 0 ∷ 0 ∷ 0 ∷ m ∷ 0 ∷ 0 ∷ []) ∷ (m, (root + 1) ∷ 1 ∷ k ∷ 0 ∷ 0 ∷ v ∷ []) ∷ []) ≡ tree_add_writes s root k v m
+tree_add_made s root k v m l lo lt e =
     let q = (no_tree s root l lo lt e).0 in let one : root + 1 ≡ suc root = omega arith in cc
 
 pub grow_made : (s : State) (root k v p l m w : ℕ) (words parent_words inner_words_made read : List ℕ) → words ≡ words_at s l → read ≡ words_at s p →

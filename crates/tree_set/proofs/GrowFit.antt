@@ -6,19 +6,19 @@ use Rattle.mv_history.specs.State.{State, written}
 use Rattle.mv_history.specs.Legal.{are_distinct}
 use Rattle.mv_history.specs.Meaning.{words_at}
 use Rattle.mv_history.proofs.Writing.{words-written_other, words-written_same}
-use Rattle.set_script.specs.Catalogue.{Map, IsAboveKey, has_key, put}
-use Rattle.set_script.specs.Objects.{owner}
-use Rattle.set_script.specs.Trees.{Tree, entries_in, IsGrown, seek}
-use Rattle.set_script.specs.TreeLaws.{grown_once}
-use Rattle.set_script.specs.Trees.Tree.{leaf}
-use Rattle.set_script.specs.Lawful.{IsLawful}
-use Rattle.set_script.proofs.ObjectWords.{word, owned_in_range}
-use Rattle.set_script.proofs.MapParts.{IsUnderKey, put-behind, put-above, has_key-at}
-use Rattle.set_script.proofs.TreeShape.{is_in-none}
+use Rattle.set_model.specs.Catalogue.{Map, IsAboveKey, has_key, put}
+use Rattle.set_model.specs.Objects.{owner}
+use Rattle.set_model.specs.Trees.{Tree, entries_in, HoldsTree, seek}
+use Rattle.set_model.specs.TreeLaws.{grown_once}
+use Rattle.set_model.specs.Trees.Tree.{leaf}
+use Rattle.set_model.specs.Lawful.{IsLawful}
+use Rattle.set_model.proofs.ObjectWords.{word, owned_in_range}
+use Rattle.set_model.proofs.MapParts.{IsUnderKey, put-behind, put-above, has_key-at}
+use Rattle.set_model.proofs.TreeShape.{is_in-none}
 use Rattle.section_work.proofs.Objects.{touches-out, out-touches}
-use Rattle.set_script.proofs.Written.{distinct-objects_of}
-use Rattle.set_script.proofs.Halves.{Half}
-use Rattle.set_script.proofs.Ways.{IsAt, IsVacant, Lacks}
+use Rattle.set_model.proofs.Written.{distinct-objects_of}
+use Rattle.set_model.proofs.Halves.{Half}
+use Rattle.set_model.proofs.Ways.{IsAt, IsVacant, Lacks}
 use Rattle.tree_set.specs.Paths.{Path, plug, Follows, before, after}
 use Rattle.tree_set.specs.Places.{IsGrowPlace, grow_writes}
 use Rattle.tree_set.proofs.Plugging.{path_to, stands_part, seek_plug, entries_plug, before_under, after_above}
@@ -38,9 +38,9 @@ grow_site s root k p l m w fits place vm vw ne = (r.2, r.3, r.0, site)
     found : r.1 ≡ l
     found = sym (ap (seek k) r.4 ∙ seek_plug k r.0 (leaf r.1 r.2 r.3) r.5) ∙ place.ends.2
 
-    grown : IsGrown s root (plug r.0 (leaf l r.2 r.3))
+    grown : HoldsTree s root (plug r.0 (leaf l r.2 r.3))
     grown =
-        subst (λ (n : ℕ). IsGrown s root (plug r.0 (leaf n r.2 r.3))) found (subst (λ (u : Tree). IsGrown s root u) r.4 place.ends.1)
+        subst (λ (n : ℕ). HoldsTree s root (plug r.0 (leaf n r.2 r.3))) found (subst (λ (u : Tree). HoldsTree s root u) r.4 place.ends.1)
 
     site : IsSite s root k p l m w r.2 r.3 r.0
     site = record {
@@ -137,7 +137,7 @@ grow_half s root k v p l m w law lo lt fits place vm vw ne =
     from j x ps a =
         let s' : State = written s (grow_writes s root k v p l m w) in
         let c : Sprouts s s' root k v p l m w = grow_sprouts s root k v p l m w j x ps law lt a in
-        let new : IsGrown s' root (plug ps (sprout k v m w l j x)) = grown_more s s' root k v p l m w j x ps lt a c in
+        let new : HoldsTree s' root (plug ps (sprout k v m w l j x)) = grown_more s s' root k v p l m w j x ps lt a c in
         tree_half s (grow_writes s root k v p l m w) root (Lacks k) (put k v) (Some (plug ps (leaf l j x))) (Some (plug ps (sprout k v m w l j x))) law
         lo lt a.grown new
         (record {

@@ -4,14 +4,14 @@ use Rattle.std.proofs.Common.{le-ltb, [], ◌∷◌, refl, sym, ap, ◌∙◌, s
 use Rattle.std.proofs.lemmas.Bool.{cases_eq, cases_lt}
 use Rattle.mv_history.specs.State.{State}
 use Rattle.mv_history.specs.Meaning.{words_at}
-use Rattle.set_script.specs.Objects.{owner, kind, key, leaf_words, inner_words}
-use Rattle.set_script.specs.Trees.{Tree, top, objects_in, IsDistinct, IsOrdered, Stands, IsGrown, seek}
-use Rattle.set_script.specs.Trees.Tree.{leaf, inner}
-use Rattle.set_script.proofs.ObjectWords.{word}
-use Rattle.set_script.proofs.Frames.{IsOf, IsWithin}
+use Rattle.set_model.specs.Objects.{owner, kind, key, leaf_words, inner_words}
+use Rattle.set_model.specs.Trees.{Tree, top, objects_in, IsDistinct, IsOrdered, Stands, HoldsTree, seek}
+use Rattle.set_model.specs.Trees.Tree.{leaf, inner}
+use Rattle.set_model.proofs.ObjectWords.{word}
+use Rattle.set_model.proofs.Frames.{IsOf, IsWithin}
 use Rattle.section_work.proofs.Objects.{IsIn}
-use Rattle.set_script.proofs.TreeShape.{is_in-none, only_in}
-use Rattle.set_script.proofs.Ways.{IsVacant}
+use Rattle.set_model.proofs.TreeShape.{is_in-none, only_in}
+use Rattle.set_model.proofs.Ways.{IsVacant}
 use Rattle.tree_set.specs.Paths.{Path, plug, parent_of, Follows, around}
 use Rattle.tree_set.specs.Paths.PathStep.{left, right}
 use Rattle.tree_set.specs.Places.{redirect, inner_over}
@@ -28,7 +28,7 @@ pub record Sprouts (s s' : State) (root k v p l m w : ℕ) : Type 0 where
 
 -- The leaf l at the end of the search's path, its parent p, and two vacant nodes.
 pub record IsSite (s : State) (root k p l m w j x : ℕ) (ps : Path) : Type 0 where
-  pub grown : IsGrown s root (plug ps (leaf l j x))
+  pub grown : HoldsTree s root (plug ps (leaf l j x))
   pub follows : Follows k ps
   pub parent : parent_of root ps ≡ p
   pub other : j ≢ k
@@ -175,7 +175,7 @@ module _ (s s' : State) (root k v p l m w j x : ℕ) (ps : Path) (lt : root < 18
       (λ o i. elim i [ inl e ↦ inl e | inr (inl e) ↦ inr (inr (inl e)) | inr (inr e) ↦ inr (inl e) ]))
 
   -- The tree with the new leaf.
-  pub grown_more : IsGrown s' root (plug ps (sprout k v m w l j x))
+  pub grown_more : HoldsTree s' root (plug ps (sprout k v m w l j x))
   grown_more = replaced s s' root ps (leaf l j x) (sprout k v m w l j x) lt a.grown (elim (cases_lt k j) [
     | inl lo ↦ below_old lo
     | inr le ↦ (let n = a.other in above_old (omega arith))

@@ -3,18 +3,18 @@ use Rattle.std.proofs.Common.{◌≡◌, ◌≢◌, ℕ, ◌<◌, ◌≤◌, ◌
 use Rattle.std.proofs.lemmas.Bool.{cases_eq}
 use Rattle.mv_history.specs.State.{State, Writes, written, touches}
 use Rattle.mv_history.proofs.Writing.{length-written}
-use Rattle.set_script.specs.Catalogue.{Map, map_of}
-use Rattle.set_script.specs.CatalogueOf.{name_of, map_in, map_at, catalogue_of}
-use Rattle.set_script.specs.Objects.{owner, kind, key}
-use Rattle.set_script.specs.Trees.{Tree, entries_in, IsTree, EndsAt}
-use Rattle.set_script.specs.Lawful.{IsLawful}
-use Rattle.set_script.proofs.Frames.{IsWithin, ends_stay, lawful_by_tree}
-use Rattle.set_script.proofs.Heads.{name_bound}
-use Rattle.set_script.proofs.Mapped.{catalogue_set}
-use Rattle.set_script.proofs.NameMaps.{map_in-alone}
-use Rattle.set_script.proofs.FrameMaps.{map_in-within}
-use Rattle.set_script.proofs.TreeMaps.{map_at-tree, map_at-empty, map_of-tree, map_of-empty}
-use Rattle.set_script.proofs.Halves.{Half}
+use Rattle.set_model.specs.Catalogue.{Map, map_of}
+use Rattle.set_model.specs.CatalogueOf.{name_of, map_in, map_at, catalogue_of}
+use Rattle.set_model.specs.Objects.{owner, kind, key}
+use Rattle.set_model.specs.Trees.{Tree, entries_in, IsTree, EndsAt}
+use Rattle.set_model.specs.Lawful.{IsLawful}
+use Rattle.set_model.proofs.Frames.{IsWithin, ends_stay, lawful_by_tree}
+use Rattle.set_model.proofs.Heads.{name_bound}
+use Rattle.set_model.proofs.Mapped.{catalogue_set}
+use Rattle.set_model.proofs.NameMaps.{map_in-alone}
+use Rattle.set_model.proofs.FrameMaps.{map_in-within}
+use Rattle.set_model.proofs.TreeMaps.{map_at-tree, map_at-empty, map_of-tree, map_of-empty}
+use Rattle.set_model.proofs.Halves.{Half}
 
 -- the entries of the tree of a root, if it has one
 abbrev pub entries_at : Option Tree → Map

@@ -33,20 +33,20 @@ use Rattle.std.proofs.lemmas.List.{get_or_append_left}
 use Rattle.std.proofs.lemmas.Bool.{cases_eq}
 use Rattle.mv_history.specs.State.{State}
 use Rattle.mv_history.specs.Meaning.{words_at}
-use Rattle.set_script.specs.Catalogue.{Map, map_of}
-use Rattle.set_script.specs.CatalogueOf.{name_of, catalogue_of}
-use Rattle.set_script.specs.Objects.{kind, key, link, right_link, value, most_objects}
-use Rattle.set_script.specs.Trees.{Tree, top, objects_in, entries_in, Stands}
-use Rattle.set_script.specs.Trees.Tree.{leaf, inner}
-use Rattle.set_script.specs.TreeLaws.{top_is_node}
-use Rattle.set_script.specs.Lawful.{IsLawful}
-use Rattle.set_script.proofs.ObjectWords.{word, owned_in_range}
-use Rattle.set_script.proofs.TreeMaps.{map_of-tree}
-use Rattle.set_script.proofs.TreeShape.{top_in, Stands-owner, objects_count}
+use Rattle.set_model.specs.Catalogue.{Map, map_of}
+use Rattle.set_model.specs.CatalogueOf.{name_of, catalogue_of}
+use Rattle.set_model.specs.Objects.{kind, key, link, right_link, value, most_objects}
+use Rattle.set_model.specs.Trees.{Tree, top, objects_in, entries_in, Stands}
+use Rattle.set_model.specs.Trees.Tree.{leaf, inner}
+use Rattle.set_model.specs.TreeLaws.{top_is_node}
+use Rattle.set_model.specs.Lawful.{IsLawful}
+use Rattle.set_model.proofs.ObjectWords.{word, owned_in_range}
+use Rattle.set_model.proofs.TreeMaps.{map_of-tree}
+use Rattle.set_model.proofs.TreeShape.{top_in, Stands-owner, objects_count}
 use Rattle.tree_set.specs.Leaves.{ArePending, AreAhead, entries_of_all, count_objects, IsWalk, IsStopped, IsPassed, IsCounted, pending_leaves, leaves_left}
 use Rattle.tree_set.specs.Walks.{walk_left}
 use Rattle.tree_set.proofs.Ends.{some_tree}
-use Rattle.tree_set.proofs.Forks.{no_keys}
+use Rattle.tree_set.proofs.Descents.{no_keys}
 use Rattle.tree_set.proofs.Walking.{few_nodes, walk_counts}
 
 -- the walk begins at what the root leads to

@@ -12,7 +12,7 @@ pub mod Putting
 pub mod TreeWays
 pub mod Walking
 pub mod NodeWords
-pub mod Forks
+pub mod Descents
 pub mod LeafWalks
 pub mod NodeCounts
 pub mod Found

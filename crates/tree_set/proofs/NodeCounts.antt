@@ -4,16 +4,16 @@ use Rattle.std.proofs.Common.{Option, Some, None}
 use Rattle.std.proofs.lemmas.List.{drop_more}
 use Rattle.mv_history.specs.State.{State}
 use Rattle.mv_history.specs.Meaning.{words_at}
-use Rattle.set_script.specs.Catalogue.{map_of}
-use Rattle.set_script.specs.CatalogueOf.{name_of, is_key_at, map_at, catalogue_of}
-use Rattle.set_script.specs.Lawful.{IsLawful}
-use Rattle.set_script.specs.Objects.{key, most_objects}
-use Rattle.set_script.specs.Trees.{Tree, IsTree, seek}
-use Rattle.set_script.proofs.Heads.{is_key_at-from}
-use Rattle.set_script.proofs.ObjectWords.{word}
-use Rattle.set_script.proofs.Tally.{tally, tally-bound, length-map_among, node_at}
-use Rattle.set_script.proofs.TreeMaps.{map_of-root, seek_leaf}
-use Rattle.set_script.proofs.TreeShape.{only_in}
+use Rattle.set_model.specs.Catalogue.{map_of}
+use Rattle.set_model.specs.CatalogueOf.{name_of, is_key_at, map_at, catalogue_of}
+use Rattle.set_model.specs.Lawful.{IsLawful}
+use Rattle.set_model.specs.Objects.{key, most_objects}
+use Rattle.set_model.specs.Trees.{Tree, IsTree, seek}
+use Rattle.set_model.proofs.Heads.{is_key_at-from}
+use Rattle.set_model.proofs.ObjectWords.{word}
+use Rattle.set_model.proofs.Tally.{tally, tally-bound, length-map_among, node_at}
+use Rattle.set_model.proofs.TreeMaps.{map_of-root, seek_leaf}
+use Rattle.set_model.proofs.TreeShape.{only_in}
 
 -- so many leaves of this root's tree are among the nodes before this object
 abbrev pub CountsBefore : State → ℕ → ℕ → ℕ → Type 0

@@ -3,16 +3,16 @@ use Rattle.std.proofs.Common.{◌≡◌, ◌≢◌, ℕ, ◌^◌, ◌<◌, ◌�
 use Rattle.std.proofs.Common.{refl, sym, ap, ◌∙◌, subst, arith, ne_eqb, eq-eqb, Option, Some, None}
 use Rattle.mv_history.specs.State.{State}
 use Rattle.mv_history.specs.Meaning.{words_at}
-use Rattle.set_script.specs.Objects.{kind, key, link, right_link, value, rank, head_words, leaf_words, inner_words}
-use Rattle.set_script.specs.Trees.{Tree, top, Stands, IsTree}
-use Rattle.set_script.specs.Trees.Tree.{leaf, inner}
-use Rattle.set_script.specs.Lawful.{IsLawful}
-use Rattle.set_script.proofs.ObjectWords.{word}
+use Rattle.set_model.specs.Objects.{kind, key, link, right_link, value, rank, head_words, leaf_words, inner_words}
+use Rattle.set_model.specs.Trees.{Tree, top, Stands, IsTree}
+use Rattle.set_model.specs.Trees.Tree.{leaf, inner}
+use Rattle.set_model.specs.Lawful.{IsLawful}
+use Rattle.set_model.proofs.ObjectWords.{word}
 use Rattle.tree_set.specs.declared.nodes.Node.{Node}
 use Rattle.tree_set.specs.Nodes.{IsNodeAt, branch_words}
-use Rattle.tree_set.specs.Walks.{IsDescent, IsFork}
+use Rattle.tree_set.specs.Walks.{IsDescending, IsDescent}
 use Rattle.tree_set.proofs.Plugging.{stands_part}
-use Rattle.tree_set.proofs.Walking.{IsStep, descent_start, children_fit, find_step, fork_found}
+use Rattle.tree_set.proofs.Walking.{IsStep, descending_start, children_fit, find_step, descent_found}
 
 -- The root's words are zero but for its link.
 pub root_words : (s : State) (root first : ℕ) → IsLawful s → 170 ≤ root → root < 180 → first ≡ link s root → first ≢ 0
@@ -26,18 +26,18 @@ root_words s root first l lo lt e n node is = go (l.trees root lo lt).0 (l.trees
         ∙ ap head_words (is ∙ e ∙ ap (word 3) q.first) ∙ sym q.first
 
 -- The search begins at the node to which the root leads.
-pub first_descent : (s : State) (root k first : ℕ) → IsLawful s → 170 ≤ root → root < 180 → first ≡ link s root → first ≢ 0
-    → IsDescent s root k root root first 0
-first_descent s root k first l lo lt e n =
-    subst (λ (o : ℕ). IsDescent s root k root root o 0) (sym e)
-    (descent_start s root k (words_at s root) l lo lt refl (λ z. n (e ∙ z)))
+pub first_descending : (s : State) (root k first : ℕ) → IsLawful s → 170 ≤ root → root < 180 → first ≡ link s root → first ≢ 0
+    → IsDescending s root k root root first 0
+first_descending s root k first l lo lt e n =
+    subst (λ (o : ℕ). IsDescending s root k root root o 0) (sym e)
+    (descending_start s root k (words_at s root) l lo lt refl (λ z. n (e ∙ z)))
 
 -- a tree stands at no head
 top_from : (s : State) (root : ℕ) (t : Tree) → Stands s root t → 180 ≤ top t
 top_from s root (leaf n k v) q = q.0
 top_from s root (inner n d a b) q = q.0
 
-module _ (s : State) (root k grand parent object right : ℕ) (node : Node) (d : IsDescent s root k grand parent object right)
+module _ (s : State) (root k grand parent object right : ℕ) (node : Node) (d : IsDescending s root k grand parent object right)
     (is : IsNodeAt s object node) where
   -- an object with a left child is an inner node
   pub inner_here : node.left ≢ 0 → kind s object ≡ 2
@@ -95,10 +95,10 @@ module _ (s : State) (root k grand parent object right : ℕ) (node : Node) (d :
       (inr (subst (λ (x : ℕ). x ≤ k) is.key_is le, p ∙ is.right_is, q))
 
   -- and the leaf at which it ends
-  pub node_found : (words : List ℕ) → words ≡ leaf_words root node.key node.value → node.left ≡ 0 → IsFork s root k grand parent object right words
+  pub node_found : (words : List ℕ) → words ≡ leaf_words root node.key node.value → node.left ≡ 0 → IsDescent s root k grand parent object right words
   node_found words e z =
       let one : word 1 words ≡ 1 = ap (word 1) e in
-      fork_found s root k grand parent object right words d (e ∙ leaf_words_here z) (λ two. absurd (omega arith))
+      descent_found s root k grand parent object right words d (e ∙ leaf_words_here z) (λ two. absurd (omega arith))
 
 -- The same node by another state.
 pub node_at : (s t : State) (object : ℕ) (node : Node) → IsNodeAt t object node → t ≡ s → IsNodeAt s object node

@@ -1,14 +1,14 @@
--- What the writes of a fork are in the state of a section.
+-- What the writes of a descent are in the state of a section.
 use Rattle.std.proofs.Common.{◌≡◌, ◌≢◌, ℕ, Bool, true, false, eqb, eq-eqb, eqb-true, ◌==◌, if◌then◌else◌, List, [], ◌∷◌, sym, ap, ◌∙◌, subst, true≢false}
 use Rattle.mv_history.specs.State.{State, Writes}
 use Rattle.mv_history.specs.Legal.{AreWithin}
 use Rattle.mv_history.specs.Meaning.{words_at}
-use Rattle.set_script.specs.Objects.{no_words}
-use Rattle.set_script.proofs.ObjectWords.{word}
-use Rattle.tree_set.specs.Places.{redirect, sibling, bare_writes, cut_writes}
-use Rattle.tree_set.specs.Walks.{IsFork}
-use Rattle.tree_set.specs.Forks.{HasWords, EndsHere}
-use Rattle.tree_set.specs.declared.search.Fork.{Fork}
+use Rattle.set_model.specs.Objects.{no_words}
+use Rattle.set_model.proofs.ObjectWords.{word}
+use Rattle.tree_set.specs.Places.{redirect, sibling, bare_writes, tree_del_writes}
+use Rattle.tree_set.specs.Walks.{IsDescent}
+use Rattle.tree_set.specs.Descents.{HasWords, EndsHere}
+use Rattle.tree_set.specs.declared.search.Descent.{Descent}
 
 -- whether the leaf has the key, by the test of it
 pub key_is : (k j : ℕ) (b : Bool) → b ≡ eqb j k → b ≡ true → j ≡ k
@@ -18,18 +18,19 @@ pub key_not : (k j : ℕ) (b : Bool) → b ≡ eqb j k → b ≡ false → j ≢
 key_not k j b e f q = true≢false (sym (eq-eqb j k q) ∙ sym e ∙ f)
 
 -- where a search ended in one state it ended in the same one
-pub ends_in : (s t : State) (root k : ℕ) (fork : Fork) → s ≡ t → IsFork s root k fork.grand fork.parent fork.leaf fork.right fork.words → HasWords s fork →
-    EndsHere t root k fork
-ends_in s t root k fork same f w = subst (λ (u : State). EndsHere u root k fork) same (record { ends = f; words = w })
+pub ends_in : (s t : State) (root k : ℕ) (descent : Descent) → s ≡ t → IsDescent s root k descent.grand descent.parent descent.leaf descent.right descent.words
+    → HasWords s descent →
+    EndsHere t root k descent
+ends_in s t root k descent same f w = subst (λ (u : State). EndsHere u root k descent) same (record { ends = f; words = w })
 
 -- The words that the code makes are those of the places.
-pub bare_here : (s : State) (root k g p l r : ℕ) (words : List ℕ) → IsFork s root k g p l r words →
+pub bare_here : (s : State) (root k g p l r : ℕ) (words : List ℕ) → IsDescent s root k g p l r words →
     ((root, no_words) ∷ (l, no_words) ∷ []) ≡ bare_writes s root l
 bare_here s root k g p l r words f = let q = f.grown.first in cc
 
 pub cut_here : (s : State) (g p l sib : ℕ) (grand_words grand_read parent_read : List ℕ) → grand_read ≡ words_at s g → parent_read ≡ words_at s p →
     sib ≡ (if word 3 parent_read == l then word 4 parent_read else word 3 parent_read) → grand_words ≡ redirect grand_read p sib →
-    ((g, grand_words) ∷ (p, no_words) ∷ (l, no_words) ∷ []) ≡ cut_writes s g p l
+    ((g, grand_words) ∷ (p, no_words) ∷ (l, no_words) ∷ []) ≡ tree_del_writes s g p l
 cut_here s g p l sib grand_words grand_read parent_read a b c d =
     let sib_is : sib ≡ sibling s p l = c ∙ ap (λ (w : List ℕ). if word 3 w == l then word 4 w else word 3 w) b in
     let grand_is : grand_words ≡ redirect (words_at s g) p (sibling s p l) = d ∙ ap (λ (u : List ℕ). redirect u p sib) a ∙

@@ -3,14 +3,14 @@ use Rattle.std.proofs.Common.{◌≡◌, ℕ, ◌⊎◌, inl, inr, [], ◌∷◌
 use Rattle.std.proofs.lemmas.Bool.{cases_lt}
 use Rattle.std.proofs.lemmas.List.{append-nil}
 use Rattle.mv_history.specs.State.{State}
-use Rattle.set_script.specs.Catalogue.{Map, IsAboveKey}
-use Rattle.set_script.specs.Trees.{Tree, top, objects_in, IsDistinct, entries_in, AllBelow, AllFrom, IsOrdered, Stands, seek}
-use Rattle.set_script.specs.Trees.Tree.{leaf, inner}
-use Rattle.set_script.proofs.MapParts.{IsUnderKey, under_append, above_append, under_higher, from_above}
+use Rattle.set_model.specs.Catalogue.{Map, IsAboveKey}
+use Rattle.set_model.specs.Trees.{Tree, top, objects_in, IsDistinct, entries_in, AllBelow, AllFrom, IsOrdered, Stands, seek}
+use Rattle.set_model.specs.Trees.Tree.{leaf, inner}
+use Rattle.set_model.proofs.MapParts.{IsUnderKey, under_append, above_append, under_higher, from_above}
 use Rattle.section_work.proofs.Objects.{IsIn, in_left, in_right, in_either}
-use Rattle.set_script.proofs.TreeShape.{not_in, is_in-none, distinct_left, distinct_right, distinct_apart}
-use Rattle.set_script.proofs.TreeShape.{distinct_join, seek_left, seek_right}
-use Rattle.set_script.proofs.TreeMaps.{below_entries, from_entries}
+use Rattle.set_model.proofs.TreeShape.{not_in, is_in-none, distinct_left, distinct_right, distinct_apart}
+use Rattle.set_model.proofs.TreeShape.{distinct_join, seek_left, seek_right}
+use Rattle.set_model.proofs.TreeMaps.{below_entries, from_entries}
 use Rattle.tree_set.specs.Paths.{PathStep, Path, plug, node_of, parent_of, Follows, around, before, after}
 use Rattle.tree_set.specs.Paths.PathStep.{left, right}
 

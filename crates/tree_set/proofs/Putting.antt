@@ -5,19 +5,19 @@ use Rattle.std.proofs.lemmas.Bool.Decides.{nat_tests}
 use Rattle.mv_history.specs.State.{State, written}
 use Rattle.mv_history.specs.Meaning.{words_at}
 use Rattle.mv_history.proofs.Writing.{words-written_other, words-written_same}
-use Rattle.set_script.specs.Catalogue.{Map, has_key, has_entry, put}
-use Rattle.set_script.specs.Objects.{owner, kind, key, link, value, leaf_words, revalue}
-use Rattle.set_script.specs.Trees.{entries_in, Stands, IsGrown, seek}
-use Rattle.set_script.specs.Trees.Tree.{leaf}
-use Rattle.set_script.specs.TreeLaws.{grown_once}
-use Rattle.set_script.specs.Lawful.{IsLawful}
-use Rattle.set_script.proofs.ObjectWords.{word, owned_in_range}
-use Rattle.set_script.proofs.Frames.{IsOf, IsWithin}
-use Rattle.set_script.proofs.MapParts.{IsUnderKey, put-behind, has_key-behind}
+use Rattle.set_model.specs.Catalogue.{Map, has_key, has_entry, put}
+use Rattle.set_model.specs.Objects.{owner, kind, key, link, value, leaf_words, revalue}
+use Rattle.set_model.specs.Trees.{entries_in, Stands, HoldsTree, seek}
+use Rattle.set_model.specs.Trees.Tree.{leaf}
+use Rattle.set_model.specs.TreeLaws.{grown_once}
+use Rattle.set_model.specs.Lawful.{IsLawful}
+use Rattle.set_model.proofs.ObjectWords.{word, owned_in_range}
+use Rattle.set_model.proofs.Frames.{IsOf, IsWithin}
+use Rattle.set_model.proofs.MapParts.{IsUnderKey, put-behind, has_key-behind}
 use Rattle.section_work.proofs.Objects.{IsIn, touches-out}
-use Rattle.set_script.proofs.TreeShape.{only_in}
-use Rattle.set_script.proofs.Halves.{Half}
-use Rattle.set_script.proofs.Ways.{HasOther}
+use Rattle.set_model.proofs.TreeShape.{only_in}
+use Rattle.set_model.proofs.Halves.{Half}
+use Rattle.set_model.proofs.Ways.{HasOther}
 use Rattle.tree_set.specs.Paths.{Path, plug, parent_of, Follows, around, before, after}
 use Rattle.tree_set.specs.Paths.PathStep.{left, right}
 use Rattle.list_set.specs.Places.{put_writes}
@@ -46,7 +46,7 @@ parent_words : (s : State) (root p l : ℕ) → IsParent s root p l → (word 3 
 parent_words s root p l (inl (e, c)) = inl (ap (link s) e ∙ c)
 parent_words s root p l (inr (i, c)) = c
 
-module _ (s : State) (root k v l x : ℕ) (ps : Path) (lt : root < 180) (grown : IsGrown s root (plug ps (leaf l k x))) (f : Follows k ps) where
+module _ (s : State) (root k v l x : ℕ) (ps : Path) (lt : root < 180) (grown : HoldsTree s root (plug ps (leaf l k x))) (f : Follows k ps) where
   stood : Stands s root (leaf l k x)
   stood = stands_part s root ps (leaf l k x) grown.stands
 
@@ -82,7 +82,7 @@ module _ (s : State) (root k v l x : ℕ) (ps : Path) (lt : root < 180) (grown :
       owned o e (inr n) = sym (ap (word 0) (stays o n)) ∙ e
 
   -- the tree with the value
-  pub put_grown : IsGrown (written s (put_writes s l v)) root (plug ps (leaf l k v))
+  pub put_grown : HoldsTree (written s (put_writes s l v)) root (plug ps (leaf l k v))
   put_grown = replaced s (written s (put_writes s l v)) root ps (leaf l k x) (leaf l k v) lt grown put_as
 
   put_within : IsWithin s (written s (put_writes s l v)) root

@@ -5,13 +5,13 @@ use Rattle.std.proofs.lemmas.List.{set-get_or}
 use Rattle.std.proofs.lemmas.Bool.{cases_eq}
 use Rattle.mv_history.specs.State.{State}
 use Rattle.mv_history.specs.Meaning.{words_at}
-use Rattle.set_script.specs.Objects.{owner, kind, link, right_link, rank, head_words, inner_words}
-use Rattle.set_script.specs.Trees.{Tree, top, objects_in, IsDistinct, IsOrdered, Stands, IsGrown}
-use Rattle.set_script.specs.Trees.Tree.{leaf, inner}
-use Rattle.set_script.proofs.ObjectWords.{word}
+use Rattle.set_model.specs.Objects.{owner, kind, link, right_link, rank, head_words, inner_words}
+use Rattle.set_model.specs.Trees.{Tree, top, objects_in, IsDistinct, IsOrdered, Stands, HoldsTree}
+use Rattle.set_model.specs.Trees.Tree.{leaf, inner}
+use Rattle.set_model.proofs.ObjectWords.{word}
 use Rattle.section_work.proofs.Objects.{IsIn, in_left, in_right, in_either}
-use Rattle.set_script.proofs.TreeShape.{not_in, is_in-from, distinct_left, distinct_right, distinct_apart, top_in}
-use Rattle.set_script.proofs.TreeShape.{child_in, only_in, Stands-same, Stands-node}
+use Rattle.set_model.proofs.TreeShape.{not_in, is_in-from, distinct_left, distinct_right, distinct_apart, top_in}
+use Rattle.set_model.proofs.TreeShape.{child_in, only_in, Stands-same, Stands-node}
 use Rattle.tree_set.specs.Paths.{PathStep, Path, plug, parent_of, around}
 use Rattle.tree_set.specs.Paths.PathStep.{left, right}
 use Rattle.tree_set.specs.Places.{IsInner, IsChild, IsParent, redirect}
@@ -112,8 +112,8 @@ stands_plug s s' root parent (right n d a ∷ p ∷ ps) u v q dis leads others n
     )
 
 -- The root's tree is the one with the other part.
-pub replaced : (s s' : State) (root : ℕ) (ps : Path) (u v : Tree) → root < 180 → IsGrown s root (plug ps u) → Replaced s s' root ps u v
-    → IsGrown s' root (plug ps v)
+pub replaced : (s s' : State) (root : ℕ) (ps : Path) (u v : Tree) → root < 180 → HoldsTree s root (plug ps u) → Replaced s s' root ps u v
+    → HoldsTree s' root (plug ps v)
 replaced s s' root ps u v lt g r = record {
   first = first ps g r.leads r.others;
   stands = stands_plug s s' root root ps u v g.stands g.distinct r.leads (λ o i. r.others o (inr i)) r.stands;
@@ -122,7 +122,7 @@ replaced s s' root ps u v lt g r = record {
   only = λ o lo e. is_in-from o (objects_in (plug ps v)) (elim (r.only o lo e) [ inl i ↦ around_in ps v o i | inr i ↦ part_in ps v o i ]);
 }
   where
-    first : (ps : Path) → IsGrown s root (plug ps u) → words_at s' (parent_of root ps) ≡ redirect (words_at s (parent_of root ps)) (top u) (top v)
+    first : (ps : Path) → HoldsTree s root (plug ps u) → words_at s' (parent_of root ps) ≡ redirect (words_at s (parent_of root ps)) (top u) (top v)
         → ((o : ℕ) → (o ≡ root) ⊎ IsIn o (around ps) → o ≢ parent_of root ps → words_at s' o ≡ words_at s o) → words_at s' root ≡ head_words (top (plug ps v))
     first [] g leads others = leads ∙ ap (λ (w : List ℕ). redirect w (top u) (top v)) g.first ∙ redirect_head (top u) (top v)
     first (p ∷ ps) g leads others =
@@ -187,7 +187,7 @@ inner_parent s root parent (right n d a ∷ ps) u q dis p (inr i) z c = elim (in
   | inr j ↦ inner_parent s root n ps u q.4 (distinct_right (objects_in a) (objects_in (plug ps u)) dis.1) p j z c
 ]
 
-pub parent_is : (s : State) (root : ℕ) (ps : Path) (u : Tree) → IsGrown s root (plug ps u) → (p : ℕ) → IsParent s root p (top u) → parent_of root ps ≡ p
+pub parent_is : (s : State) (root : ℕ) (ps : Path) (u : Tree) → HoldsTree s root (plug ps u) → (p : ℕ) → IsParent s root p (top u) → parent_of root ps ≡ p
 parent_is s root ps u g p (inl (e, c)) =
     ends_here root ps u g.distinct (sym (ap (word 3) g.first) ∙ c) ∙ sym e
 parent_is s root ps u g p (inr (i, c)) =
@@ -201,7 +201,7 @@ inner_leads s root parent (right n d a) [] u q = ((q.0, ap (word 0) q.2, ap (wor
 inner_leads s root parent (left n d b) (t ∷ ps) u q = inner_leads s root n t ps u q.3
 inner_leads s root parent (right n d a) (t ∷ ps) u q = inner_leads s root n t ps u q.4
 
-pub parent_leads : (s : State) (root : ℕ) (ps : Path) (u : Tree) → IsGrown s root (plug ps u) → IsParent s root (parent_of root ps) (top u)
+pub parent_leads : (s : State) (root : ℕ) (ps : Path) (u : Tree) → HoldsTree s root (plug ps u) → IsParent s root (parent_of root ps) (top u)
 parent_leads s root [] u g = inl (refl, ap (word 3) g.first)
 parent_leads s root (p ∷ ps) u g = inr (inner_leads s root root p ps u g.stands)
 

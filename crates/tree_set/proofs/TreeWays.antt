@@ -3,21 +3,22 @@ use Rattle.std.proofs.Common.{◌≡◌, ◌≢◌, ℕ, ◌^◌, ◌<◌, ◌�
 use Rattle.mv_history.specs.State.{State}
 use Rattle.mv_history.specs.Legal.{are_distinct}
 use Rattle.mv_history.specs.Meaning.{words_at}
-use Rattle.set_script.specs.Catalogue.{map_of, value_of}
-use Rattle.set_script.specs.CatalogueOf.{name_of, catalogue_of}
-use Rattle.set_script.specs.Objects.{kind, link, value}
-use Rattle.set_script.specs.Lawful.{IsLawful}
-use Rattle.set_script.specs.Trees.{objects_in, entries_in, EndsAt}
-use Rattle.set_script.proofs.ObjectWords.{word}
+use Rattle.set_model.specs.Catalogue.{map_of, value_of}
+use Rattle.set_model.specs.CatalogueOf.{name_of, catalogue_of}
+use Rattle.set_model.specs.Objects.{kind, link, value}
+use Rattle.set_model.specs.Lawful.{IsLawful}
+use Rattle.set_model.specs.Trees.{objects_in, entries_in, EndsAt}
+use Rattle.set_model.proofs.ObjectWords.{word}
 use Rattle.section_work.proofs.Objects.{IsIn}
-use Rattle.set_script.proofs.TreeShape.{seek_in, only_in, Stands-node, Stands-owner}
-use Rattle.set_script.proofs.TreeMaps.{leaf_value, map_of-tree}
-use Rattle.set_script.proofs.Ways.{IsAt, AreVacant, DelWay, AddWay, PutWay}
+use Rattle.set_model.proofs.TreeShape.{seek_in, only_in, Stands-node, Stands-owner}
+use Rattle.set_model.proofs.TreeMaps.{leaf_value, map_of-tree}
+use Rattle.set_model.proofs.Ways.{IsAt, AreVacant, DelWay, AddWay, PutWay}
 use Rattle.list_set.specs.Places.{put_writes}
-use Rattle.tree_set.specs.Places.{IsInner, IsLeaf, IsChild, IsParent, plant_writes, IsGrowPlace, grow_writes, IsBarePlace, bare_writes, IsCutPlace, cut_writes}
+use Rattle.tree_set.specs.Places.{IsInner, IsLeaf, IsChild, IsParent, tree_add_writes, IsGrowPlace, grow_writes, IsBarePlace, bare_writes, IsCutPlace}
+use Rattle.tree_set.specs.Places.{tree_del_writes}
 use Rattle.tree_set.proofs.GrowFit.{grow_site, grow_distinct, grow_half}
 use Rattle.tree_set.proofs.CutFit.{tree_with, cut_twig, cut_distinct, cut_half}
-use Rattle.tree_set.proofs.Ends.{no_tree, plant_distinct, plant_half, bare_distinct, bare_half}
+use Rattle.tree_set.proofs.Ends.{no_tree, tree_add_distinct, tree_add_half, bare_distinct, bare_half}
 use Rattle.tree_set.proofs.Putting.{put_half}
 
 -- What a place says of an object stays where the object's words do.
@@ -79,21 +80,21 @@ grow_way root k v p l m w lo lt fits ne = record {
     owned s place o (inr (inr e)) = absurd e
 
 -- the first key of a tree
-unfoldable pub plant_way : (root k v m : ℕ) → 170 ≤ root → root < 180 → k < 2 ^ 32 → AddWay root k v
-plant_way root k v m lo lt fits = record {
+unfoldable pub tree_add_way : (root k v m : ℕ) → 170 ≤ root → root < 180 → k < 2 ^ 32 → AddWay root k v
+tree_add_way root k v m lo lt fits = record {
   Place = λ s. link s root ≡ 0;
   objects = root ∷ [];
   fresh = m ∷ [];
-  writes = λ s. plant_writes s root k v m;
+  writes = λ s. tree_add_writes s root k v m;
   names = λ s. refl;
   stays = λ s s' ws keeps out same place. ap (word 3) (same root (inl refl)) ∙ place;
   same = λ s s' same. writes_same s s' (same root (inl refl));
-  distinct = λ s law place vacant. plant_distinct s root k v m law lo lt fits (no_tree s root law lo lt place) (vacant m (inl refl));
+  distinct = λ s law place vacant. tree_add_distinct s root k v m law lo lt fits (no_tree s root law lo lt place) (vacant m (inl refl));
   owned = λ s law place o i. elim i [ inl e ↦ inl e | inr e ↦ absurd e ];
-  half = λ s law place vacant. plant_half s root k v m law lo lt fits place (vacant m (inl refl));
+  half = λ s law place vacant. tree_add_half s root k v m law lo lt fits place (vacant m (inl refl));
 }
   where
-    writes_same : (s s' : State) → words_at s' root ≡ words_at s root → plant_writes s' root k v m ≡ plant_writes s root k v m
+    writes_same : (s s' : State) → words_at s' root ≡ words_at s root → tree_add_writes s' root k v m ≡ tree_add_writes s root k v m
     writes_same s s' e = cc
 
 -- a key less, where others are left
@@ -102,7 +103,7 @@ cut_way root k v g p l lo lt = record {
   Place = λ s. IsCutPlace s root k g p l × (value s l ≡ v);
   objects = g ∷ p ∷ l ∷ [];
   fresh = [];
-  writes = λ s. cut_writes s g p l;
+  writes = λ s. tree_del_writes s g p l;
   names = λ s. refl;
   stays = λ s s' ws keeps out same place. (
     record {
@@ -119,10 +120,10 @@ cut_way root k v g p l lo lt = record {
   half = λ s law place vacant. cut_half s root k v g p l law lo lt place.0 place.1;
 }
   where
-    writes_same : (s s' : State) → words_at s' g ≡ words_at s g → words_at s' p ≡ words_at s p → cut_writes s' g p l ≡ cut_writes s g p l
+    writes_same : (s s' : State) → words_at s' g ≡ words_at s g → words_at s' p ≡ words_at s p → tree_del_writes s' g p l ≡ tree_del_writes s g p l
     writes_same s s' e f = cc
 
-    distinct : (s : State) → IsLawful s → IsCutPlace s root k g p l → are_distinct (cut_writes s g p l) ≡ true
+    distinct : (s : State) → IsLawful s → IsCutPlace s root k g p l → are_distinct (tree_del_writes s g p l) ≡ true
     distinct s law place =
         let r = cut_twig s root k g p l law lo lt place in cut_distinct s root k g p l r.0 r.1 r.2 law lt r.3
 

@@ -2,16 +2,16 @@
 use Rattle.std.proofs.Common.{◌≡◌, ◌≢◌, ℕ, ◌⊎◌, inl, inr, Bool, cond, eq-eqb, ne_eqb, [], ◌∷◌, ◌++◌, refl, sym, ap, ◌∙◌, subst, append_assoc}
 use Rattle.std.proofs.lemmas.Bool.{cases_lt}
 use Rattle.mv_history.specs.State.{State}
-use Rattle.set_script.specs.Catalogue.{Map, take_out}
-use Rattle.set_script.specs.Objects.{link, right_link}
-use Rattle.set_script.specs.Trees.{Tree, top, objects_in, IsDistinct, entries_in, IsOrdered, Stands, seek}
-use Rattle.set_script.specs.Trees.Tree.{leaf, inner}
-use Rattle.set_script.proofs.ObjectWords.{word}
-use Rattle.set_script.proofs.MapParts.{IsUnderKey, under_higher, take_out-behind}
+use Rattle.set_model.specs.Catalogue.{Map, take_out}
+use Rattle.set_model.specs.Objects.{link, right_link}
+use Rattle.set_model.specs.Trees.{Tree, top, objects_in, IsDistinct, entries_in, IsOrdered, Stands, seek}
+use Rattle.set_model.specs.Trees.Tree.{leaf, inner}
+use Rattle.set_model.proofs.ObjectWords.{word}
+use Rattle.set_model.proofs.MapParts.{IsUnderKey, under_higher, take_out-behind}
 use Rattle.section_work.proofs.Objects.{IsIn, in_left, in_right, in_either}
-use Rattle.set_script.proofs.TreeShape.{not_in, distinct_left, distinct_right, distinct_apart, top_in, seek_left}
-use Rattle.set_script.proofs.TreeShape.{seek_right}
-use Rattle.set_script.proofs.TreeMaps.{below_entries}
+use Rattle.set_model.proofs.TreeShape.{not_in, distinct_left, distinct_right, distinct_apart, top_in, seek_left}
+use Rattle.set_model.proofs.TreeShape.{seek_right}
+use Rattle.set_model.proofs.TreeMaps.{below_entries}
 use Rattle.tree_set.specs.Paths.{PathStep, Path, plug, node_of, parent_of, grand_of, Follows}
 use Rattle.tree_set.specs.Paths.PathStep.{left, right}
 use Rattle.tree_set.specs.Places.{sibling}

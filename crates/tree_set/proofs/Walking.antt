@@ -6,16 +6,16 @@ use Rattle.std.specs.List.{list_any, IsDistinct as IsDistinctBy, AllByRecursion}
 use Rattle.std.proofs.lemmas.Map.Steps.{length-le_from_distinct_below}
 use Rattle.mv_history.specs.State.{State}
 use Rattle.mv_history.specs.Meaning.{words_at}
-use Rattle.set_script.specs.Objects.{kind, key, link, right_link}
-use Rattle.set_script.specs.Trees.{Tree, top, objects_in, is_in, IsDistinct, Stands, IsGrown, IsTree}
-use Rattle.set_script.specs.Trees.Tree.{leaf, inner}
-use Rattle.set_script.specs.TreeLaws.{stands_once}
-use Rattle.set_script.specs.Lawful.{IsLawful}
-use Rattle.set_script.proofs.ObjectWords.{word, owned_in_range}
-use Rattle.set_script.proofs.TreeShape.{IsIn-from, top_in, Stands-owner}
+use Rattle.set_model.specs.Objects.{kind, key, link, right_link}
+use Rattle.set_model.specs.Trees.{Tree, top, objects_in, is_in, IsDistinct, Stands, HoldsTree, IsTree}
+use Rattle.set_model.specs.Trees.Tree.{leaf, inner}
+use Rattle.set_model.specs.TreeLaws.{stands_once}
+use Rattle.set_model.specs.Lawful.{IsLawful}
+use Rattle.set_model.proofs.ObjectWords.{word, owned_in_range}
+use Rattle.set_model.proofs.TreeShape.{IsIn-from, top_in, Stands-owner}
 use Rattle.tree_set.specs.Paths.{Path, plug, right_of, Follows}
 use Rattle.tree_set.specs.Paths.PathStep.{left, right}
-use Rattle.tree_set.specs.Walks.{nodes_under, walk_left, IsDescent, IsFork, IsSubtree, IsLeftmost, first_key}
+use Rattle.tree_set.specs.Walks.{nodes_under, walk_left, IsDescending, IsDescent, IsSubtree, IsLeftmost, first_key}
 use Rattle.tree_set.proofs.Plugging.{stands_part}
 use Rattle.tree_set.proofs.Turns.{plug_last, parent_last, grand_last}
 
@@ -38,7 +38,7 @@ is_in-any : (o : ℕ) (ns : List ℕ) → is_in o ns ≡ list_any (eqb o) ns
 is_in-any o [] = refl
 is_in-any o (n ∷ ns) = ap (λ (b : Bool). eqb o n || b) (is_in-any o ns)
 
-pub few_nodes : (s : State) (root : ℕ) (t : Tree) → IsGrown s root t → length (objects_in t) ≤ length s
+pub few_nodes : (s : State) (root : ℕ) (t : Tree) → HoldsTree s root t → length (objects_in t) ≤ length s
 few_nodes s root t g =
     length-le_from_distinct_below (objects_in t) (length s) (distinct_all (objects_in t) g.distinct)
     (λ o e. owned_in_range s o root (Stands-owner s root t g.stands o (IsIn-from o (objects_in t) (is_in-any o (objects_in t) ∙ e))))
@@ -73,11 +73,11 @@ pub walk_counts : (s : State) (root node : ℕ) (t : Tree) → Stands s root t �
 walk_counts s root node t q e few = ap (walk_left s) e ∙ nodes_counted (length s) s root t q few
 
 -- The walk begins at what the root leads to.
-pub descent_start : (s : State) (root k : ℕ) (words : List ℕ) → IsLawful s → 170 ≤ root → root < 180 → words ≡ words_at s root → word 3 words ≢ 0
-    → IsDescent s root k root root (word 3 words) 0
-descent_start s root k words l lo lt e n = go (l.trees root lo lt).0 (l.trees root lo lt).1
+pub descending_start : (s : State) (root k : ℕ) (words : List ℕ) → IsLawful s → 170 ≤ root → root < 180 → words ≡ words_at s root → word 3 words ≢ 0
+    → IsDescending s root k root root (word 3 words) 0
+descending_start s root k words l lo lt e n = go (l.trees root lo lt).0 (l.trees root lo lt).1
   where
-    go : (t : Option Tree) → IsTree s root t → IsDescent s root k root root (word 3 words) 0
+    go : (t : Option Tree) → IsTree s root t → IsDescending s root k root root (word 3 words) 0
     go None q = absurd (n (ap (word 3) e ∙ ap (word 3) q.0))
     go (Some t) q = record {
       path = [];
@@ -94,14 +94,14 @@ pub root_in_range : (s : State) (root : ℕ) → IsLawful s → root < 180 → r
 root_in_range s root l lt = let some = l.some in omega arith
 
 -- where the walk stands is an object
-pub descent_in_range : (s : State) (root k grand parent node r : ℕ) → IsDescent s root k grand parent node r → node < length s
-descent_in_range s root k grand parent node r d =
+pub descending_in_range : (s : State) (root k grand parent node r : ℕ) → IsDescending s root k grand parent node r → node < length s
+descending_in_range s root k grand parent node r d =
     let own = Stands-owner s root d.part (stands_part s root d.path d.part d.grown.stands) (top d.part) (top_in d.part) in
     subst (λ (o : ℕ). o < length s) (sym d.here) (owned_in_range s (top d.part) root own)
 
-pub descent_fits : (s : State) (root k grand parent node r : ℕ) → IsLawful s → IsDescent s root k grand parent node r → node < 2 ^ 32
-descent_fits s root k grand parent node r l d =
-    let few = l.few in let lt = descent_in_range s root k grand parent node r d in omega arith
+pub descending_fits : (s : State) (root k grand parent node r : ℕ) → IsLawful s → IsDescending s root k grand parent node r → node < 2 ^ 32
+descending_fits s root k grand parent node r l d =
+    let few = l.few in let lt = descending_in_range s root k grand parent node r d in omega arith
 
 right_left : (other : ℕ) (ps : Path) (n d : ℕ) (b : Tree) → right_of other (ps ++ left n d b ∷ []) ≡ top b
 right_left other [] n d b = refl
@@ -120,17 +120,17 @@ follows_both k (right n d a ∷ ps) qs f g = (f.0, follows_both k ps qs f.1 g)
 
 -- one step further down, with less left to go
 pub record IsStep (s : State) (root k grand parent node right before : ℕ) : Type 0 where
-  pub descent : IsDescent s root k grand parent node right
+  pub descending : IsDescending s root k grand parent node right
   pub less : walk_left s node < walk_left s before
 
-module _ (s : State) (root k grand parent node right_of_it : ℕ) (words : List ℕ) (d : IsDescent s root k grand parent node right_of_it)
+module _ (s : State) (root k grand parent node right_of_it : ℕ) (words : List ℕ) (d : IsDescending s root k grand parent node right_of_it)
     (e : words ≡ words_at s node) where
   -- at an inner node the search goes on at one of its children
   pub step_down : word 1 words ≡ 2 → (k < word 2 words → IsStep s root k parent node (word 3 words) (word 4 words) node)
       × (word 2 words ≤ k → IsStep s root k parent node (word 4 words) right_of_it node)
   step_down two = go d.part d.grown (stands_part s root d.path d.part d.grown.stands) d.here
     where
-      go : (t : Tree) → IsGrown s root (plug d.path t) → Stands s root t → node ≡ top t
+      go : (t : Tree) → HoldsTree s root (plug d.path t) → Stands s root t → node ≡ top t
           → (k < word 2 words → IsStep s root k parent node (word 3 words) (word 4 words) node)
           × (word 2 words ≤ k → IsStep s root k parent node (word 4 words) right_of_it node)
       go (leaf n j v) g q h =
@@ -146,10 +146,10 @@ module _ (s : State) (root k grand parent node right_of_it : ℕ) (words : List 
           let wa : walk_left s (word 3 words) ≡ length (objects_in a) = walk_counts s root (word 3 words) a q.3 la (omega arith) in
           let wb : walk_left s (word 4 words) ≡ length (objects_in b) = walk_counts s root (word 4 words) b q.4 lb (omega arith) in (
             λ lt. record {
-              descent = record {
+              descending = record {
                 path = d.path ++ left n c b ∷ [];
                 part = a;
-                grown = subst (λ (t : Tree). IsGrown s root t) (sym (plug_last d.path (left n c b) a)) g;
+                grown = subst (λ (t : Tree). HoldsTree s root t) (sym (plug_last d.path (left n c b) a)) g;
                 here = la;
                 follows = follows_both k d.path (left n c b ∷ []) d.follows (omega arith, tt);
                 parent_is = h ∙ sym (parent_last root d.path (left n c b));
@@ -159,10 +159,10 @@ module _ (s : State) (root k grand parent node right_of_it : ℕ) (words : List 
               less = omega arith;
             },
             λ le. record {
-              descent = record {
+              descending = record {
                 path = d.path ++ right n c a ∷ [];
                 part = b;
-                grown = subst (λ (t : Tree). IsGrown s root t) (sym (plug_last d.path (right n c a) b)) g;
+                grown = subst (λ (t : Tree). HoldsTree s root t) (sym (plug_last d.path (right n c a) b)) g;
                 here = lb;
                 follows = follows_both k d.path (right n c a ∷ []) d.follows (omega arith, tt);
                 parent_is = h ∙ sym (parent_last root d.path (right n c a));
@@ -191,16 +191,16 @@ module _ (s : State) (root k grand parent node right_of_it : ℕ) (words : List 
       )
 
   -- and ends at a leaf
-  pub fork_found : word 1 words ≢ 2 → IsFork s root k grand parent node right_of_it words
-  fork_found n2 = go d.part d.grown (stands_part s root d.path d.part d.grown.stands) d.here
+  pub descent_found : word 1 words ≢ 2 → IsDescent s root k grand parent node right_of_it words
+  descent_found n2 = go d.part d.grown (stands_part s root d.path d.part d.grown.stands) d.here
     where
-      go : (t : Tree) → IsGrown s root (plug d.path t) → Stands s root t → node ≡ top t → IsFork s root k grand parent node right_of_it words
+      go : (t : Tree) → HoldsTree s root (plug d.path t) → Stands s root t → node ≡ top t → IsDescent s root k grand parent node right_of_it words
       go (inner n c a b) g q h = absurd (n2 (ap (word 1) e ∙ ap (kind s) h ∙ ap (word 1) q.2))
       go (leaf n j v) g q h = record {
         path = d.path;
         key = j;
         value = v;
-        grown = subst (λ (o : ℕ). IsGrown s root (plug d.path (leaf o j v))) (sym h) g;
+        grown = subst (λ (o : ℕ). HoldsTree s root (plug d.path (leaf o j v))) (sym h) g;
         words_are = e ∙ ap (words_at s) h ∙ q.2;
         follows = d.follows;
         parent_is = d.parent_is;
@@ -209,7 +209,7 @@ module _ (s : State) (root k grand parent node right_of_it : ℕ) (words : List 
       }
 
 -- The step that the code takes, by the words that it read.
-pub find_step : (s : State) (root k grand parent node r next next_right : ℕ) (words : List ℕ) → IsDescent s root k grand parent node r
+pub find_step : (s : State) (root k grand parent node r next next_right : ℕ) (words : List ℕ) → IsDescending s root k grand parent node r
     → words ≡ words_at s node → word 1 words ≡ 2 → ((k < word 2 words) × (next ≡ word 3 words) × (next_right ≡ word 4 words))
     ⊎ ((word 2 words ≤ k) × (next ≡ word 4 words) × (next_right ≡ r)) → IsStep s root k parent node next next_right node
 find_step s root k grand parent node r next next_right words d e two (inl (lt, p, q)) =

@@ -2,8 +2,8 @@
 use Rattle.std.specs.Prelude.{ℕ, ◌+◌, ◌*◌, ◌≡◌, ◌≢◌, ◌≤◌, true, length}
 use Rattle.mv_history.specs.State.{touches}
 use Rattle.mv_history.specs.Meaning.{InSection, state_of}
-use Rattle.set_script.specs.Lawful.{IsLawful}
-use Rattle.set_script.specs.Objects.{first_node, owner, link}
+use Rattle.set_model.specs.Lawful.{IsLawful}
+use Rattle.set_model.specs.Objects.{first_node, owner, link}
 
 -- After n adds the first 2n nodes at most are not vacant. Those that are not are held, and so is the root unless its tree is
 -- empty; two objects for each add at most are held.

@@ -2,10 +2,10 @@
 use Rattle.std.specs.Prelude.{ℕ, zero, suc, ◌≡◌, ◌+◌, ◌/◌, ◌≤◌, ◌⊎◌, ◌==◌, if◌then◌else◌, ⊤, List, []}
 use Rattle.std.specs.Prelude.{◌∷◌, ◌++◌, length, slice_index_or, Option, Some, None}
 use Rattle.mv_history.specs.State.{State}
-use Rattle.set_script.specs.Catalogue.{Map}
+use Rattle.set_model.specs.Catalogue.{Map}
 use Rattle.tree_set.specs.declared.leaves.Leaves.{Leaves}
 use Rattle.tree_set.specs.declared.leaves.Leaf.{Leaf}
-use Rattle.set_script.specs.Trees.{Tree, top, objects_in, entries_in, Stands}
+use Rattle.set_model.specs.Trees.{Tree, top, objects_in, entries_in, Stands}
 use Rattle.tree_set.specs.Walks.{walk_left}
 
 -- trees stand at the objects in the first so many places of a table, the last place's first

@@ -4,5 +4,5 @@ pub mod Paths
 pub mod Walks
 pub mod Nodes
 pub mod Leaves
-pub mod Forks
+pub mod Descents
 pub mod Filling

@@ -1,7 +1,7 @@
 -- What a search reads of a tree's objects: four of their words.
 use Rattle.std.specs.Prelude.{ℕ, ◌≡◌, ◌==◌, if◌then◌else◌, List}
 use Rattle.mv_history.specs.State.{State}
-use Rattle.set_script.specs.Objects.{key, link, right_link, value, head_words, inner_words}
+use Rattle.set_model.specs.Objects.{key, link, right_link, value, head_words, inner_words}
 use Rattle.tree_set.specs.declared.nodes.Node.{Node}
 
 -- these are the key, the two links and the value of the object, or its rank

@@ -1,8 +1,8 @@
 -- The path from the root of a tree down to a part of it.
 use Rattle.std.specs.Prelude.{ℕ, ◌<◌, ◌≤◌, ⊤, List, [], ◌∷◌, ◌++◌}
-use Rattle.set_script.specs.Catalogue.{Map}
-use Rattle.set_script.specs.Trees.{Tree, top, objects_in, entries_in}
-use Rattle.set_script.specs.Trees.Tree.{inner}
+use Rattle.set_model.specs.Catalogue.{Map}
+use Rattle.set_model.specs.Trees.{Tree, top, objects_in, entries_in}
+use Rattle.set_model.specs.Trees.Tree.{inner}
 
 -- one turn at an inner node, with its dividing key and the tree on the side that is not taken
 pub data PathStep : Type 0 where

@@ -3,8 +3,8 @@ use Rattle.std.specs.Prelude.{ℕ, suc, ◌≡◌, ◌≢◌, ◌≤◌, ◌⊎�
 use Rattle.std.specs.Prelude.{if◌then◌else◌}
 use Rattle.mv_history.specs.State.{State, Writes}
 use Rattle.mv_history.specs.Meaning.{words_at}
-use Rattle.set_script.specs.Objects.{first_node, owner, kind, key, link, right_link, leaf_words, inner_words, no_words, relink}
-use Rattle.set_script.specs.Trees.{EndsAt}
+use Rattle.set_model.specs.Objects.{first_node, owner, kind, key, link, right_link, leaf_words, inner_words, no_words, relink}
+use Rattle.set_model.specs.Trees.{EndsAt}
 
 -- the object is an inner node of the tree
 abbrev pub IsInner : State → ℕ → ℕ → Type 0
@@ -31,8 +31,8 @@ abbrev pub inner_over : ℕ → ℕ → ℕ → ℕ → ℕ → List ℕ
 inner_over root k new_leaf j leaf = if nat_lt k j then inner_words root j new_leaf leaf 0 else inner_words root k leaf new_leaf 0
 
 -- the first leaf of an empty tree: the link of the root, and the words of the leaf
-abbrev pub plant_writes : State → ℕ → ℕ → ℕ → ℕ → Writes
-plant_writes s root k value leaf = (root, relink (words_at s root) leaf) ∷ (leaf, leaf_words root k value) ∷ []
+abbrev pub tree_add_writes : State → ℕ → ℕ → ℕ → ℕ → Writes
+tree_add_writes s root k value leaf = (root, relink (words_at s root) leaf) ∷ (leaf, leaf_words root k value) ∷ []
 
 -- The search for the key ends at this leaf, which has another key, and this is its parent.
 pub record IsGrowPlace (s : State) (root k parent leaf : ℕ) : Type 0 where
@@ -67,6 +67,6 @@ pub record IsCutPlace (s : State) (root k grand parent leaf : ℕ) : Type 0 wher
   pub is_leaf : IsLeaf s root k leaf
 
 -- a leaf less: the link of the grandparent, which leads to the leaf's sibling, and the parent and the leaf, which become zero
-abbrev pub cut_writes : State → ℕ → ℕ → ℕ → Writes
-cut_writes s grand parent leaf =
+abbrev pub tree_del_writes : State → ℕ → ℕ → ℕ → Writes
+tree_del_writes s grand parent leaf =
     (grand, redirect (words_at s grand) parent (sibling s parent leaf)) ∷ (parent, no_words) ∷ (leaf, no_words) ∷ []

@@ -1,9 +1,9 @@
 -- A walk down a tree that looks for a key.
 use Rattle.std.specs.Prelude.{ℕ, zero, suc, ◌≡◌, ◌+◌, ◌≤◌, ◌==◌, List, length, if◌then◌else◌}
 use Rattle.mv_history.specs.State.{State}
-use Rattle.set_script.specs.Objects.{kind, link, right_link, leaf_words}
-use Rattle.set_script.specs.Trees.{Tree, top, objects_in, Stands, IsGrown}
-use Rattle.set_script.specs.Trees.Tree.{leaf, inner}
+use Rattle.set_model.specs.Objects.{kind, link, right_link, leaf_words}
+use Rattle.set_model.specs.Trees.{Tree, top, objects_in, Stands, HoldsTree}
+use Rattle.set_model.specs.Trees.Tree.{leaf, inner}
 use Rattle.tree_set.specs.Paths.{Path, plug, parent_of, grand_of, right_of, Follows}
 
 -- the number of nodes at and under an object, as far down as so many steps lead
@@ -17,22 +17,22 @@ abbrev pub walk_left : State → ℕ → ℕ
 walk_left s node = nodes_under (length s) s node
 
 -- The search for key k has come to this node, by this parent and the one before it, and `right` is what it last left on the right.
-pub record IsDescent (s : State) (root k grand parent node right : ℕ) : Type 0 where
+pub record IsDescending (s : State) (root k grand parent node right : ℕ) : Type 0 where
   pub path : Path
   pub part : Tree
-  pub grown : IsGrown s root (plug path part)
+  pub grown : HoldsTree s root (plug path part)
   pub here : node ≡ top part
   pub follows : Follows k path
   pub parent_is : parent ≡ parent_of root path
   pub grand_is : grand ≡ grand_of root root path
   pub right_is : right ≡ right_of 0 path
 
--- What the search for key k found: a leaf with its words, and what a descent has.
-pub record IsFork (s : State) (root k grand parent node right : ℕ) (words : List ℕ) : Type 0 where
+-- What the search for key k found: a leaf with its words, and what a descending has.
+pub record IsDescent (s : State) (root k grand parent node right : ℕ) (words : List ℕ) : Type 0 where
   pub path : Path
   pub key : ℕ
   pub value : ℕ
-  pub grown : IsGrown s root (plug path (leaf node key value))
+  pub grown : HoldsTree s root (plug path (leaf node key value))
   pub words_are : words ≡ leaf_words root key value
   pub follows : Follows k path
   pub parent_is : parent ≡ parent_of root path

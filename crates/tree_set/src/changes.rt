@@ -2,10 +2,10 @@
 ghost use Rattle.std.specs.Prelude.{true, false, ◌≡◌, ◌≢◌, ℕ, ◌<◌, ◌≤◌, ◌↔◌, [], ◌∷◌, length, Some};
 ghost use Rattle.mv_history.specs.State.{Writes};
 ghost use Rattle.mv_history.specs.Meaning.{state_of};
-ghost use Rattle.set_script.specs.Catalogue.{map_of, has_key, value_of};
-ghost use Rattle.set_script.specs.CatalogueOf.{name_of, catalogue_of};
-ghost use Rattle.set_script.specs.Lawful.{IsLawful};
-ghost use Rattle.set_script.specs.Objects.{owner, link};
+ghost use Rattle.set_model.specs.Catalogue.{map_of, has_key, value_of};
+ghost use Rattle.set_model.specs.CatalogueOf.{name_of, catalogue_of};
+ghost use Rattle.set_model.specs.Lawful.{IsLawful};
+ghost use Rattle.set_model.specs.Objects.{owner, link};
 ghost use Rattle.section_work.specs.OwnWrites.{objects_of};
 ghost use Rattle.list_set.specs.Places.{put_writes};
 ghost use Rattle.section_work.specs.Held.{HasRoom};
@@ -17,10 +17,11 @@ ghost use Rattle.tree_set.specs.Places.{IsLeaf};
 ghost use Rattle.tree_set.specs.Calls.{IsAdd, IsDel, Gains, Loses};
 
 use crate::search::{find, find_leaf};
-use crate::writes::plant_writes;
+use crate::writes::tree_add_writes;
 use list_set::{Removed, SetStep};
 use mv_history::Section;
 use section_work::rewrite;
+use set_model::word;
 
 /// Adds the key, with this value, to the tree of this root, in a vacant node.
 ///
@@ -70,16 +71,16 @@ pub fn add_in<S: Section>(
         → (writes : Writes) × IsAdd (state_of (S.section section.old)) root key value leaf inner writes
         × Refuses S.may_refuse S.found_held (S.section section.old) (S.section section.new) (objects_of writes) refusal }
 {
-    let Some(fork) = find(section, root, key) else {
-        return match rewrite(section, &plant_writes(root, key, value, leaf)) {
+    let Some(descent) = find(section, root, key) else {
+        return match rewrite(section, &tree_add_writes(root, key, value, leaf)) {
             Ok(()) => SetStep::Yes,
             Err(refusal) => SetStep::Again(refusal),
         };
     };
-    if fork.has(key) {
+    if descent.has(key) {
         return SetStep::No;
     }
-    match rewrite(section, &fork.grow_writes(root, key, value, leaf, inner)) {
+    match rewrite(section, &descent.grow_writes(root, key, value, leaf, inner)) {
         Ok(()) => SetStep::Yes,
         Err(refusal) => SetStep::Again(refusal),
     }
@@ -110,11 +111,11 @@ pub fn put_in<S: Section>(section: &mut S, root: u32, key: u32, value: u64) -> S
     ensures again { (refusal : Refusal) → result ≡ Again refusal → (leaf : ℕ) × IsLeaf (state_of (S.section section.old)) root key leaf
         × Refuses S.may_refuse S.found_held (S.section section.old) (S.section section.new) (leaf ∷ []) refusal }
 {
-    let fork = find_leaf(section, root, key);
-    if fork.words[5] == value {
+    let descent = find_leaf(section, root, key);
+    if descent.words[word::VALUE] == value {
         return SetStep::No;
     }
-    match rewrite(section, &fork.put_writes(value)) {
+    match rewrite(section, &descent.put_writes(value)) {
         Ok(()) => SetStep::Yes,
         Err(refusal) => SetStep::Again(refusal),
     }
@@ -153,25 +154,25 @@ pub fn del_in<S: Section>(section: &mut S, root: u32, key: u32) -> Removed
         → (leaf inner : ℕ) × (writes : Writes) × IsDel (state_of (S.section section.old)) root key leaf inner writes
         × Refuses S.may_refuse S.found_held (S.section section.old) (S.section section.new) (objects_of writes) refusal }
 {
-    let Some(fork) = find(section, root, key) else {
+    let Some(descent) = find(section, root, key) else {
         return Removed::Absent;
     };
-    if !fork.has(key) {
+    if !descent.has(key) {
         return Removed::Absent;
     }
-    if fork.parent == root {
-        return match rewrite(section, &fork.bare_writes(root)) {
+    if descent.parent == root {
+        return match rewrite(section, &descent.bare_writes(root)) {
             Ok(()) => Removed::Took {
-                node: fork.leaf,
+                node: descent.leaf,
                 inner: 0,
             },
             Err(refusal) => Removed::Again(refusal),
         };
     }
-    match rewrite(section, &fork.cut_writes()) {
+    match rewrite(section, &descent.tree_del_writes()) {
         Ok(()) => Removed::Took {
-            node: fork.leaf,
-            inner: fork.parent,
+            node: descent.leaf,
+            inner: descent.parent,
         },
         Err(refusal) => Removed::Again(refusal),
     }

@@ -1,11 +1,12 @@
 // The walk over the leaves of a tree, in the order of their keys.
 ghost use Rattle.std.specs.Prelude.{◌≡◌, ℕ, ◌<◌, ◌≤◌, ◌↔◌, List, length, IsTrue};
-ghost use Rattle.set_script.specs.Catalogue.{Map, map_of};
-ghost use Rattle.set_script.specs.CatalogueOf.{name_of, catalogue_of};
-ghost use Rattle.set_script.specs.Lawful.{IsLawful};
+ghost use Rattle.set_model.specs.Catalogue.{Map, map_of};
+ghost use Rattle.set_model.specs.CatalogueOf.{name_of, catalogue_of};
+ghost use Rattle.set_model.specs.Lawful.{IsLawful};
 ghost use Rattle.tree_set.specs.Leaves.{Passes, AfterNext};
 
 use mv_history::View;
+use set_model::word;
 
 /// A leaf's key and value.
 #[derive(Clone, Copy, Debug, PartialEq, Eq)]
@@ -36,7 +37,7 @@ impl Leaves {
         ensures walk { (table : List ℕ) → Passes (V.state view.old) table result (map_of (name_of root) (catalogue_of (V.state view.old))) }
         ensures as_before { V.as_before view.old view.new }
     {
-        let node = view.read(root)[3] as u32;
+        let node = view.read(root)[word::NEXT] as u32;
         Leaves { node, held: 0 }
     }
 
@@ -64,13 +65,13 @@ impl Leaves {
             return None;
         }
         let mut words = view.read(self.node);
-        while words[1] == 2 {
+        while words[word::KIND] == word::INNER {
             if self.held == pending.len() {
                 return None;
             }
-            pending[self.held] = words[4] as u32;
+            pending[self.held] = words[word::RIGHT] as u32;
             self.held += 1;
-            self.node = words[3] as u32;
+            self.node = words[word::LEFT] as u32;
             words = view.read(self.node);
         }
         if self.held == 0 {
@@ -80,8 +81,8 @@ impl Leaves {
             self.node = pending[self.held];
         }
         Some(Leaf {
-            key: words[2] as u32,
-            value: words[5],
+            key: words[word::KEY] as u32,
+            value: words[word::VALUE],
         })
     }
 }

@@ -5,8 +5,8 @@
 //! The keys of a tree are in its leaves, and an inner node divides those of its two children: the
 //! keys to its left are below its dividing key, those to its right are not. A state is lawful where
 //! each root, 170 to 179, leads nowhere or to such a tree, and each node is vacant or in the list or
-//! the tree of the head that it names (`set_script::specs::Lawful`, `set_script::specs::Trees`). A
-//! lawful state stands for a catalogue (`set_script::specs::CatalogueOf`), in which the map of the
+//! the tree of the head that it names (`set_model::specs::Lawful`, `set_model::specs::Trees`). A
+//! lawful state stands for a catalogue (`set_model::specs::CatalogueOf`), in which the map of the
 //! tree's name, 20 to 29, has the keys of its leaves with their values. The definition folds over
 //! the nodes and follows no link, so a clause about it says nothing of how a tree is walked.
 //!
@@ -21,9 +21,9 @@
 //! state as it was.
 //!
 //! Each call of a key makes one walk: `find` reads the objects from the root down to one leaf, four
-//! words of each, since the other two are known of a tree's node, and answers a `Fork`, which says
+//! words of each, since the other two are known of a tree's node, and answers a `Descent`, which says
 //! whether the key is there and gives the writes of an add, a del or a put with no other read;
-//! `plant_writes` are those of an add to an empty tree. A changing call decides by that fork alone,
+//! `tree_add_writes` are those of an add to an empty tree. A changing call decides by that descent alone,
 //! and ends with `section_work::rewrite`.
 //!
 //! The calls never commit and never retry, and take no memory. They don't recurse, so that a tree of
@@ -42,9 +42,9 @@
 //! # Its place
 //!
 //! It stands on `list_set`, whose answers it gives, on `section_work`, whose `rewrite` it ends with, on
-//! `set_script`, which has the definitions, and on `mv_history`, whose traits `View` and `Section` it
+//! `set_model`, which has the definitions, and on `mv_history`, whose traits `View` and `Section` it
 //! is generic over. It knows no store. `proofs/TreeWays.antt` hands each change on to whoever commits it, as a
-//! way to change the map of a name (`set_script/proofs/Ways.antt`). RLU (Matveev, Shavit, Felber and
+//! way to change the map of a name (`set_model/proofs/Ways.antt`). RLU (Matveev, Shavit, Felber and
 //! Marlier, SOSP 2015) and MV-RLU (Kim, Mathew, Kashyap, Ramanathan and Min, ASPLOS 2019) are
 //! measured with search trees too.
 #![tactic(auto)]
@@ -60,6 +60,6 @@ mod writes;
 pub use changes::{add_in, del_in, put_in};
 pub use leaves::{Leaf, Leaves};
 pub use reads::{empty_in, get_in, has_in, next_in};
-pub use search::{Fork, find};
+pub use search::{Descent, find};
 pub use sizes::size_in;
-pub use writes::plant_writes;
+pub use writes::tree_add_writes;

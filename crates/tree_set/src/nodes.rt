@@ -1,6 +1,6 @@
 // The nodes of a tree, by the words that a search needs.
 ghost use Rattle.std.specs.Prelude.{◌≡◌, ◌<◌, length};
-ghost use Rattle.set_script.specs.Objects.{leaf_words};
+ghost use Rattle.set_model.specs.Objects.{leaf_words};
 ghost use Rattle.tree_set.specs.Nodes.{IsNodeAt, branch_words};
 
 use mv_history::{View, Words};

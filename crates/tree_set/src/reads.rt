@@ -1,11 +1,12 @@
 // The calls that read.
 ghost use Rattle.std.specs.Prelude.{true, ◌≡◌, ◌<◌, ◌≤◌, ◌↔◌, []};
-ghost use Rattle.set_script.specs.Catalogue.{map_of, has_key, value_of, next_key};
-ghost use Rattle.set_script.specs.CatalogueOf.{name_of, catalogue_of};
-ghost use Rattle.set_script.specs.Lawful.{IsLawful};
+ghost use Rattle.set_model.specs.Catalogue.{map_of, has_key, value_of, next_key};
+ghost use Rattle.set_model.specs.CatalogueOf.{name_of, catalogue_of};
+ghost use Rattle.set_model.specs.Lawful.{IsLawful};
 
 use crate::search::{find, least_key};
 use mv_history::View;
+use set_model::word;
 
 /// Whether the tree of this root has the key.
 ///
@@ -18,10 +19,10 @@ pub fn has_in<V: View>(view: &mut V, root: u32, key: u32) -> bool
     ensures has { result ≡ has_key key (map_of (name_of root) (catalogue_of (V.state view.old))) }
     ensures as_before { V.as_before view.old view.new }
 {
-    let Some(fork) = find(view, root, key) else {
+    let Some(descent) = find(view, root, key) else {
         return false;
     };
-    fork.words[2] == key as u64
+    descent.words[word::KEY] == key as u64
 }
 
 /// The value of the key in the tree of this root, or `None` exactly where the key is not there.
@@ -34,9 +35,9 @@ pub fn get_in<V: View>(view: &mut V, root: u32, key: u32) -> Option<u64>
     ensures value { result ≡ value_of key (map_of (name_of root) (catalogue_of (V.state view.old))) }
     ensures as_before { V.as_before view.old view.new }
 {
-    let fork = find(view, root, key)?;
-    if fork.words[2] == key as u64 {
-        Some(fork.words[5])
+    let descent = find(view, root, key)?;
+    if descent.words[word::KEY] == key as u64 {
+        Some(descent.words[word::VALUE])
     } else {
         None
     }
@@ -54,14 +55,14 @@ pub fn next_in<V: View>(view: &mut V, root: u32, key: u32) -> Option<u32>
     ensures next { result ≡ next_key key (map_of (name_of root) (catalogue_of (V.state view.old))) }
     ensures as_before { V.as_before view.old view.new }
 {
-    let fork = find(view, root, key)?;
-    if fork.words[2] >= key as u64 {
-        return Some(fork.words[2] as u32);
+    let descent = find(view, root, key)?;
+    if descent.words[word::KEY] >= key as u64 {
+        return Some(descent.words[word::KEY] as u32);
     }
-    if fork.right == 0 {
+    if descent.right == 0 {
         return None;
     }
-    Some(least_key(view, root, fork.right))
+    Some(least_key(view, root, descent.right))
 }
 
 /// Whether the tree of this root has no key.
@@ -74,5 +75,5 @@ pub fn empty_in<V: View>(view: &mut V, root: u32) -> bool
     ensures empty { (result ≡ true) ↔ (map_of (name_of root) (catalogue_of (V.state view.old)) ≡ []) }
     ensures as_before { V.as_before view.old view.new }
 {
-    view.read(root)[3] == 0
+    view.read(root)[word::NEXT] == 0
 }

@@ -1,20 +1,21 @@
 // The search for a key.
 ghost use Rattle.std.specs.Prelude.{◌≡◌, ◌≢◌, ◌<◌, ◌≤◌, IfNone, IfSome};
-ghost use Rattle.set_script.specs.Lawful.{IsLawful};
-ghost use Rattle.set_script.specs.Objects.{link};
-ghost use Rattle.set_script.specs.Trees.{Tree, top, Stands};
-ghost use Rattle.tree_set.specs.Forks.{HasWords};
-ghost use Rattle.tree_set.specs.Walks.{IsFork, IsSubtree, first_key};
+ghost use Rattle.set_model.specs.Lawful.{IsLawful};
+ghost use Rattle.set_model.specs.Objects.{link};
+ghost use Rattle.set_model.specs.Trees.{Tree, top, Stands};
+ghost use Rattle.tree_set.specs.Descents.{HasWords};
+ghost use Rattle.tree_set.specs.Walks.{IsDescent, IsSubtree, first_key};
 
 use crate::nodes::{KEY, Node, read_node};
 use mv_history::{View, Words};
+use set_model::word;
 
 /// Where a search for a key ended: at this leaf. `parent` leads to it, and `grand` to `parent`, where
 /// that is not the root. All three have their words here, so that a change is known without another
 /// read. `right` is the right child of the last inner node at which the search went left, or 0 where
 /// it never did.
 #[derive(Clone, Copy)]
-pub struct Fork {
+pub struct Descent {
     pub grand: u32,
     pub grand_words: Words,
     pub parent: u32,
@@ -29,13 +30,13 @@ pub struct Fork {
 /// It needs a lawful state and a root, 170 to 179. It reads the objects from the root down to one
 /// leaf, each once, four words of a node and two of the root. It never refuses, and takes no memory.
 #[inline(always)]
-pub fn find<V: View>(view: &mut V, root: u32, key: u32) -> Option<Fork>
+pub fn find<V: View>(view: &mut V, root: u32, key: u32) -> Option<Descent>
     requires root_from { 170 ≤ root }
     requires root_in { root < 180 }
     requires lawful { IsLawful (V.state view.old) }
     ensures empty { IfNone result (link (V.state view.old) root ≡ 0) }
-    ensures fork { IfSome result (λ fork. IsFork (V.state view.old) root key fork.grand fork.parent fork.leaf fork.right fork.words) }
-    ensures words { IfSome result (λ fork. HasWords (V.state view.old) fork) }
+    ensures descent { IfSome result (λ descent. IsDescent (V.state view.old) root key descent.grand descent.parent descent.leaf descent.right descent.words) }
+    ensures words { IfSome result (λ descent. HasWords (V.state view.old) descent) }
     ensures as_before { V.as_before view.old view.new }
 {
     let (_, first) = view.read_pair(root, KEY);
@@ -48,12 +49,12 @@ pub fn find<V: View>(view: &mut V, root: u32, key: u32) -> Option<Fork>
 /// The leaf where the search for the key ends, in a tree that is not empty.
 ///
 /// It needs and reads what `find` does.
-pub fn find_leaf<V: View>(view: &mut V, root: u32, key: u32) -> Fork
+pub fn find_leaf<V: View>(view: &mut V, root: u32, key: u32) -> Descent
     requires root_from { 170 ≤ root }
     requires root_in { root < 180 }
     requires lawful { IsLawful (V.state view.old) }
     requires some { link (V.state view.old) root ≢ 0 }
-    ensures fork { IsFork (V.state view.old) root key result.grand result.parent result.leaf result.right result.words }
+    ensures descent { IsDescent (V.state view.old) root key result.grand result.parent result.leaf result.right result.words }
     ensures words { HasWords (V.state view.old) result }
     ensures as_before { V.as_before view.old view.new }
 {
@@ -63,13 +64,13 @@ pub fn find_leaf<V: View>(view: &mut V, root: u32, key: u32) -> Fork
 
 // The leaf where the search for the key ends, down from the root, which leads to this node.
 #[inline(always)]
-fn descend<V: View>(view: &mut V, root: u32, first: u64, key: u32) -> Fork
+fn descend<V: View>(view: &mut V, root: u32, first: u64, key: u32) -> Descent
     requires root_from { 170 ≤ root }
     requires root_in { root < 180 }
     requires lawful { IsLawful (V.state view.old) }
     requires first { first ≡ link (V.state view.old) root }
     requires some { first ≢ 0 }
-    ensures fork { IsFork (V.state view.old) root key result.grand result.parent result.leaf result.right result.words }
+    ensures descent { IsDescent (V.state view.old) root key result.grand result.parent result.leaf result.right result.words }
     ensures words { HasWords (V.state view.old) result }
     ensures as_before { V.as_before view.old view.new }
 {
@@ -99,7 +100,7 @@ fn descend<V: View>(view: &mut V, root: u32, first: u64, key: u32) -> Fork
         }
         node = read_node(view, leaf);
     }
-    Fork {
+    Descent {
         grand,
         grand_words: grand_node.branch_words(root, grand),
         parent,
@@ -119,9 +120,9 @@ pub fn least_key<V: View>(view: &mut V, root: u32, node: u32) -> u32
 {
     let mut least = node;
     let mut words = view.read(least);
-    while words[1] == 2 {
-        least = words[3] as u32;
+    while words[word::KIND] == word::INNER {
+        least = words[word::LEFT] as u32;
         words = view.read(least);
     }
-    words[2] as u32
+    words[word::KEY] as u32
 }

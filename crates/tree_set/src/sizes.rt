@@ -1,12 +1,13 @@
 // How many keys a tree has.
 ghost use Rattle.std.specs.Prelude.{◌≡◌, ◌<◌, ◌≤◌, ◌++◌, drop, length, if◌then◌else◌, IfSome};
-ghost use Rattle.set_script.specs.Catalogue.{Map, map_of};
-ghost use Rattle.set_script.specs.CatalogueOf.{name_of, is_key_at, catalogue_of};
-ghost use Rattle.set_script.specs.Lawful.{IsLawful};
+ghost use Rattle.set_model.specs.Catalogue.{Map, map_of};
+ghost use Rattle.set_model.specs.CatalogueOf.{name_of, is_key_at, catalogue_of};
+ghost use Rattle.set_model.specs.Lawful.{IsLawful};
 ghost use Rattle.tree_set.specs.Leaves.{Passes, AfterCount};
 
 use crate::leaves::Leaves;
 use mv_history::{View, Words};
+use set_model::word;
 
 // The places of the table with which a count begins: a longer one takes more time to clear than a
 // small tree takes to walk over.
@@ -96,7 +97,7 @@ fn count_nodes<V: View>(view: &mut V, root: u32) -> u64
 fn one_if_leaf(words: Words, root: u32) -> u64
     ensures { result ≡ (if is_key_at root words then 1 else 0) }
 {
-    if words[0] == root as u64 + 1 && words[1] != 2 {
+    if words[word::OWNER] == root as u64 + 1 && words[word::KIND] != word::INNER {
         1
     } else {
         0

@@ -1,21 +1,22 @@
 // What a change writes where a search ended.
 ghost use Rattle.std.specs.Prelude.{◌≡◌, ◌<◌, ◌≤◌, ◌==◌, if◌then◌else◌, [], ◌∷◌, slice_index_or};
 ghost use Rattle.section_work.specs.OwnWrites.{objects_of};
-ghost use Rattle.tree_set.specs.Forks.{ArePlantWrites, AreGrowWrites, AreBareWrites, AreCutWrites, ArePutWrites};
+ghost use Rattle.tree_set.specs.Descents.{ArePlantWrites, AreGrowWrites, AreBareWrites, AreCutWrites, ArePutWrites};
 ghost use Rattle.tree_set.specs.Places.{redirect, inner_over};
 
-use crate::search::Fork;
+use crate::search::Descent;
 use mv_history::Words;
+use set_model::word;
 
 // The words with the link that led to one node leading to another one.
 fn redirected(words: Words, old: u32, new: u64) -> Words
     ensures { result ≡ redirect words old new }
 {
     let mut words = words;
-    if words[3] == old as u64 {
-        words[3] = new;
+    if words[word::LEFT] == old as u64 {
+        words[word::LEFT] = new;
     } else {
-        words[4] = new;
+        words[word::RIGHT] = new;
     }
     words
 }
@@ -24,10 +25,10 @@ fn redirected(words: Words, old: u32, new: u64) -> Words
 fn other_child(words: Words, child: u32) -> u64
     ensures { result ≡ (if slice_index_or words 3 0 == child then slice_index_or words 4 0 else slice_index_or words 3 0) }
 {
-    if words[3] == child as u64 {
-        words[4]
+    if words[word::LEFT] == child as u64 {
+        words[word::RIGHT]
     } else {
-        words[3]
+        words[word::LEFT]
     }
 }
 
@@ -46,7 +47,7 @@ fn over(root: u32, key: u32, new_leaf: u32, other: u64, leaf: u32) -> Words
 
 /// The writes of an add of the key, with this value, to the tree of this root, which is empty: the
 /// link of the root, and the words of the new leaf.
-pub fn plant_writes(root: u32, key: u32, value: u64, leaf: u32) -> [(u32, Words); 2]
+pub fn tree_add_writes(root: u32, key: u32, value: u64, leaf: u32) -> [(u32, Words); 2]
     requires root_from { 170 ≤ root }
     requires root_in { root < 180 }
     ensures writes { ArePlantWrites root key value leaf result }
@@ -58,12 +59,12 @@ pub fn plant_writes(root: u32, key: u32, value: u64, leaf: u32) -> [(u32, Words)
     ]
 }
 
-impl Fork {
+impl Descent {
     /// Whether the leaf has this key.
     pub fn has(&self, key: u32) -> bool
         ensures { result ≡ (slice_index_or self.now.words 2 0 == key) }
     {
-        self.words[2] == key as u64
+        self.words[word::KEY] == key as u64
     }
 
     /// The writes of an add of the key that was looked for, with this value, in these new nodes: the
@@ -81,7 +82,7 @@ impl Fork {
         ensures objects { objects_of result ≡ self.now.parent ∷ self.now.leaf ∷ leaf ∷ inner ∷ [] }
     {
         let parent_words = redirected(self.parent_words, self.leaf, inner as u64);
-        let inner_words = over(root, key, leaf, self.words[2], self.leaf);
+        let inner_words = over(root, key, leaf, self.words[word::KEY], self.leaf);
         [
             (self.parent, parent_words),
             (self.leaf, self.words),
@@ -100,7 +101,7 @@ impl Fork {
 
     /// The writes of a del of the leaf where the parent is not the root: the link of the
     /// grandparent, which leads to the leaf's sibling, and zeros for the parent and the leaf.
-    pub fn cut_writes(&self) -> [(u32, Words); 3]
+    pub fn tree_del_writes(&self) -> [(u32, Words); 3]
         ensures writes { AreCutWrites self.now result }
         ensures objects { objects_of result ≡ self.now.grand ∷ self.now.parent ∷ self.now.leaf ∷ [] }
     {
@@ -119,7 +120,7 @@ impl Fork {
         ensures objects { objects_of result ≡ self.now.leaf ∷ [] }
     {
         let mut words = self.words;
-        words[5] = value;
+        words[word::VALUE] = value;
         [(self.leaf, words)]
     }
 }

@@ -2,18 +2,18 @@
 ghost use Rattle.std.specs.Prelude.{◌≡◌, ◌<◌, ◌≤◌, All, IfOk, length, replicate};
 ghost use Rattle.mvrlu.specs.Meeting.{AreAll};
 ghost use Rattle.mvrlu.specs.Opened.{IsOpened};
-ghost use Rattle.set_script.specs.Objects.{no_words};
-ghost use Rattle.set_script.specs.declared.script.TheConstants.{MOST_COMMANDS};
+ghost use Rattle.set_model.specs.Objects.{no_words};
+ghost use Rattle.set_model.specs.declared.script.TheConstants.{MOST_COMMANDS};
 
 use crate::comparing::{assert_same, must};
+use host_io::OpenGate;
 use mv_history::LogTable;
 use mv_layout::Config;
 use mvrlu::{Closing, Domain, OpenFault, Seat, open_zeros};
-use run_outside::OpenGate;
 use run_report::Line;
 use script_domain::run_domain;
 use section_work::Place;
-use set_script::{Command, Name, Reply, SetRules};
+use set_model::{Command, Name, Reply, SetRules};
 use std::alloc::{AllocError, Global};
 use std::process::Abort;
 use std::sync::Wait;

@@ -6,7 +6,7 @@
 //!
 //! **The contract.** That each call here is allowed is proved; what it answers is compared at run time.
 //!
-//! **Its place.** It stands on `script_workers`, `command_pool`, `script_domain`, `run_outside` and
+//! **Its place.** It stands on `script_workers`, `command_pool`, `script_domain`, `host_io` and
 //! `run_report`, and no crate stands on it. The tests are in a crate of their own, since a check of a
 //! crate's tests proves all of that crate once more.
 #![tactic(auto)]

@@ -2,8 +2,8 @@
 ghost use Rattle.std.specs.Prelude.{IsSome};
 
 use crate::comparing::{assert_same, must};
-use memory_outside::{MemFiles, MemSink, MemText};
-use run_outside::{Files, RealErr, RealFiles, RealOut, Sink};
+use host_io::{Files, RealErr, RealFiles, RealOut, Sink};
+use memory_io::{MemFiles, MemSink, MemText};
 use std::alloc::{AllocError, Global};
 use std::fs;
 use std::process::Abort;
@@ -87,7 +87,7 @@ fn reads_from_memory_to_the_end(rt: HostRuntime) -> Result<(), Fail> {
 // Reads a file of three bytes.
 fn reads_abc<F: Files>(rt: &impl Abort, files: &mut F, path: &str) {
     let mut buffer = [0u8; 8];
-    opens(rt, files, "run_outside_test_absent.txt", path);
+    opens(rt, files, "host_io_test_absent.txt", path);
     reads(rt, files, &mut buffer, 0, Some(3));
     reads(rt, files, &mut buffer, 3, Some(0));
     assert_same(rt, &&buffer[..3], &b"abc".as_slice(), "the bytes");
@@ -95,7 +95,7 @@ fn reads_abc<F: Files>(rt: &impl Abort, files: &mut F, path: &str) {
 
 #[test]
 fn reads_a_file_of_the_system(rt: HostRuntime) -> Result<(), Fail> {
-    let path = "run_outside_test.txt";
+    let path = "host_io_test.txt";
     fs::write(&rt, path, b"abc".as_slice())?;
     reads_abc(&rt, &mut RealFiles::new(&rt), path);
     fs::remove_file(&rt, path)?;

@@ -2,7 +2,7 @@
 use crate::comparing::must;
 use run_report::{Line, order, render, render_in_order};
 use section_work::Place;
-use set_script::{Catalogue, Reply};
+use set_model::{Catalogue, Reply};
 use std::alloc::{AllocError, Global};
 use std::process::Abort;
 use std::test::Fail;

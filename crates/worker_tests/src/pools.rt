@@ -4,12 +4,12 @@ ghost use Rattle.plain_store.specs.Meaning.{seat_of};
 
 use crate::comparing::{assert_same, must};
 use command_pool::run_pool;
+use host_io::{Gate, OpenGate};
 use mv_history::WORDS;
 use plain_store::PlainStore;
-use run_outside::{Gate, OpenGate};
 use run_report::Line;
 use section_work::Place;
-use set_script::{Command, Name, Reply, SetRules};
+use set_model::{Command, Name, Reply, SetRules};
 use std::alloc::{AllocError, Global};
 use std::process::Abort;
 use std::sync::{Mutex, Wait};

@@ -3,7 +3,7 @@ use crate::comparing::{assert_same, must};
 use mv_history::LogTable;
 use run_report::{Line, order, render, summary};
 use section_work::Place;
-use set_script::{Catalogue, Reply};
+use set_model::{Catalogue, Reply};
 use std::alloc::{AllocError, Global};
 use std::process::Abort;
 use std::test::Fail;

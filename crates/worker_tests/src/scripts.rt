@@ -4,13 +4,13 @@ ghost use Rattle.plain_store.specs.Meaning.{seat_of};
 
 use crate::comparing::assert_same;
 use crate::reports::expect_lines;
+use host_io::OpenGate;
 use mv_history::WORDS;
 use plain_store::PlainStore;
-use run_outside::OpenGate;
 use run_report::Line;
 use script_workers::run_scripts;
 use section_work::Place;
-use set_script::{Command, Name, Reply, SetRules};
+use set_model::{Command, Name, Reply, SetRules};
 use std::alloc::{AllocError, Global};
 use std::sync::Wait;
 use std::test::Fail;

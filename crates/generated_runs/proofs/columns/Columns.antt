@@ -3,8 +3,8 @@ use Rattle.std.proofs.Common.{◌≡◌, ◌≢◌, ℕ, ◌<◌, ◌⊎◌, inl
 use Rattle.std.proofs.Common.{◌∙◌, arith, Option, Some, None, is_some, get_or-set_same, get_or-set_other, ext_get_or}
 use Rattle.std.proofs.lemmas.Bool.{cases_eq}
 use Rattle.std.proofs.lemmas.Bool.Decides.{nat_tests}
-use Rattle.set_script.specs.Catalogue.{Map, Maps, IsMap, has_key, value_of, put, take_out, map_of, with_key, without_key}
-use Rattle.set_script.proofs.MapLemmas.{value_of-put, value_of-above, has_key-none, has_key-some, same_maps}
+use Rattle.set_model.specs.Catalogue.{Map, Maps, IsMap, has_key, value_of, put, take_out, map_of, with_key, without_key}
+use Rattle.set_model.proofs.MapLemmas.{value_of-put, value_of-above, has_key-none, has_key-some, same_maps}
 
 -- the value that a key has in the map of each name
 abbrev pub Column : Type 0

@@ -1,9 +1,9 @@
 -- Two generated commands of different keys may be replayed in either order.
 use Rattle.std.proofs.Common.{◌≡◌, ◌≢◌, ℕ, ◌≤◌, ◌⊎◌, inl, inr, false, cond, eqb, eq-eqb, ne_eqb, refl, sym, ap, ◌∙◌, arith}
 use Rattle.std.proofs.lemmas.Bool.{cases_eq}
-use Rattle.set_script.specs.Catalogue.{Maps}
-use Rattle.set_script.specs.Replies.{reply, changes, next}
-use Rattle.set_script.specs.declared.commands.Command.{Command}
+use Rattle.set_model.specs.Catalogue.{Maps}
+use Rattle.set_model.specs.Replies.{reply, changes, next}
+use Rattle.set_model.specs.declared.commands.Command.{Command}
 use Rattle.run_report.specs.Summary.{says_yes, says_no}
 use Rattle.script_gen.specs.Script.{IsGenerated}
 use Rattle.generated_runs.specs.OneAfterAnother.{Tally, one_if, counted}

@@ -3,7 +3,7 @@ use Rattle.std.proofs.Common.{◌≡◌, ◌≢◌, ℕ, suc, ◌≤◌, Bool, t
 use Rattle.std.proofs.Common.{◌∙◌, arith}
 use Rattle.std.specs.List.{AllByRecursion}
 use Rattle.std.proofs.lemmas.Bool.{eqb-false}
-use Rattle.set_script.specs.declared.commands.Command.{Command}
+use Rattle.set_model.specs.declared.commands.Command.{Command}
 use Rattle.generated_runs.specs.OneAfterAnother.{Tally, replayed, all_replayed}
 use Rattle.generated_runs.proofs.small.Keeping.{IsSmall}
 use Rattle.generated_runs.proofs.sifted.Sifting.{seat_of, IsKnown, is_own, is_other, sift, replayed_small, replayed-append}

@@ -2,13 +2,13 @@
 use Rattle.std.proofs.Common.{◌≡◌, ℕ, zero, suc, ◌<◌, ◌≤◌, false, eqb, replicate, [], ◌∷◌, length, length-set, set, refl, sym, ◌∙◌, subst, arith}
 use Rattle.std.proofs.lemmas.Bool.{cond_both}
 use Rattle.std.proofs.lemmas.Bool.Decides.{nat_tests}
-use Rattle.set_script.specs.Catalogue.{Map, Maps, IsMap, put, take_out, map_of, with_key, without_key, cost, empty}
-use Rattle.set_script.specs.Replies.{changed, overflows}
-use Rattle.set_script.specs.declared.commands.Command.{Command}
-use Rattle.set_script.specs.declared.commands.Command.TheVariants.{Add, Put, Del, Has, Get, Move, Pair, Size, Next}
-use Rattle.set_script.proofs.MapLaws.{put_is_map, take_out_is_map}
-use Rattle.set_script.proofs.MapParts.{IsUnderKey}
-use Rattle.set_script.proofs.Replying.{overflows-fits}
+use Rattle.set_model.specs.Catalogue.{Map, Maps, IsMap, put, take_out, map_of, with_key, without_key, cost, empty}
+use Rattle.set_model.specs.Replies.{changed, overflows}
+use Rattle.set_model.specs.declared.commands.Command.{Command}
+use Rattle.set_model.specs.declared.commands.Command.TheVariants.{Add, Put, Del, Has, Get, Move, Pair, Size, Next}
+use Rattle.set_model.proofs.MapLaws.{put_is_map, take_out_is_map}
+use Rattle.set_model.proofs.MapParts.{IsUnderKey}
+use Rattle.set_model.proofs.Replying.{overflows-fits}
 use Rattle.script_gen.specs.Script.{IsGenerated}
 use Rattle.generated_runs.proofs.columns.Columns.{map_of-set}
 use Rattle.generated_runs.proofs.small.Sizes.{few_keys, cost_small}

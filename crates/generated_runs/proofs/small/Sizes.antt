@@ -1,7 +1,7 @@
 -- A catalogue whose keys are all below 256 takes at most 10,230 nodes.
 use Rattle.std.proofs.Common.{◌≡◌, ℕ, zero, suc, ◌+◌, ◌*◌, ◌-◌, ◌<◌, ◌≤◌, Bool, true, false, cond, ltb, [], ◌∷◌, length, refl, arith}
-use Rattle.set_script.specs.Catalogue.{Map, Maps, IsMap, IsAboveKey, map_of, cost_of, cost_from, cost}
-use Rattle.set_script.proofs.MapParts.{IsUnderKey}
+use Rattle.set_model.specs.Catalogue.{Map, Maps, IsMap, IsAboveKey, map_of, cost_of, cost_from, cost}
+use Rattle.set_model.proofs.MapParts.{IsUnderKey}
 
 -- what is above one key and below another has fewer keys than lie between them
 few_between : (low high : ℕ) (m : Map) → low < high → IsAboveKey low m → IsMap m → IsUnderKey high m → low + length m < high

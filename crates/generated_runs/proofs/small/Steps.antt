@@ -2,12 +2,12 @@
 use Rattle.std.proofs.Common.{◌≡◌, ◌≢◌, ℕ, ◌≤◌, ◌⊎◌, inl, inr, Bool, true, false, not, ◌&&◌, cond, eqb, eq-eqb, ne_eqb, refl, sym, ap}
 use Rattle.std.proofs.Common.{◌∙◌, arith, Option, Some, None, is_some, unwrap_or}
 use Rattle.std.proofs.lemmas.Bool.{cases_eq, cond_both}
-use Rattle.set_script.specs.Catalogue.{Maps, map_of, without_key}
-use Rattle.set_script.specs.Replies.{changed, applies, overflows, reply, changes, next, value_at}
-use Rattle.set_script.specs.declared.commands.Command.{Command}
-use Rattle.set_script.specs.declared.commands.Command.TheVariants.{Add, Put, Del, Has, Get, Move, Pair, Size, Next}
-use Rattle.set_script.specs.declared.commands.Reply.{Reply}
-use Rattle.set_script.specs.declared.commands.Reply.TheVariants.{Yes, No}
+use Rattle.set_model.specs.Catalogue.{Maps, map_of, without_key}
+use Rattle.set_model.specs.Replies.{changed, applies, overflows, reply, changes, next, value_at}
+use Rattle.set_model.specs.declared.commands.Command.{Command}
+use Rattle.set_model.specs.declared.commands.Command.TheVariants.{Add, Put, Del, Has, Get, Move, Pair, Size, Next}
+use Rattle.set_model.specs.declared.commands.Reply.{Reply}
+use Rattle.set_model.specs.declared.commands.Reply.TheVariants.{Yes, No}
 use Rattle.script_gen.specs.Script.{IsGenerated}
 use Rattle.generated_runs.proofs.columns.Columns.{Column, column, has_key-is, with_value, column-with_key, column-without_key}
 use Rattle.generated_runs.proofs.small.Keeping.{IsSmall, changed_small, without_key_small, never_full}

@@ -5,7 +5,7 @@ use Rattle.std.specs.Prelude.{count_by, slice_index_or}
 use Rattle.std.specs.List.{AllByRecursion}
 use Rattle.std.proofs.lemmas.Bool.{cases_order, and_left, and_right, and_from, eqb-false}
 use Rattle.std.proofs.lemmas.List.Sums.{sum_by-append}
-use Rattle.set_script.specs.declared.commands.Command.{Command}
+use Rattle.set_model.specs.declared.commands.Command.{Command}
 use Rattle.run_report.specs.Legal.{ids_from, ids_of}
 use Rattle.generated_runs.specs.OneAfterAnother.{one_if}
 use Rattle.generated_runs.proofs.told.Counted.{count_cons}

@@ -4,7 +4,7 @@ use Rattle.std.proofs.Common.{[], ◌∷◌, map, filter, Option, None, Some, re
 use Rattle.std.specs.Prelude.{slice_index_or}
 use Rattle.std.specs.List.{AllByRecursion, slice_get}
 use Rattle.std.specs.Option.{IsSomeAnd}
-use Rattle.set_script.specs.declared.commands.Command.{Command}
+use Rattle.set_model.specs.declared.commands.Command.{Command}
 use Rattle.run_report.specs.declared.line.Line.{Line}
 use Rattle.run_report.specs.Legal.{command_at, command_of, id_of, ids_from}
 use Rattle.script_gen.specs.Script.{IsGenerated}

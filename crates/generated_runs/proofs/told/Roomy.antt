@@ -4,13 +4,13 @@ use Rattle.std.specs.List.{All, AllByRecursion}
 use Rattle.std.specs.Option.{IsSomeAnd}
 use Rattle.std.proofs.lemmas.List.Elements.{All-from_recursion}
 use Rattle.std.proofs.lemmas.List.Sorted.{All-permutation, IsPermutation-sym}
-use Rattle.set_script.specs.Catalogue.{Maps, empty, map_of, has_key}
-use Rattle.set_script.specs.Replies.{applies, overflows, reply}
-use Rattle.set_script.specs.declared.commands.Command.{Command}
-use Rattle.set_script.specs.declared.commands.Command.TheVariants.{Add, Put, Del, Has, Get, Move, Pair, Size, Next}
+use Rattle.set_model.specs.Catalogue.{Maps, empty, map_of, has_key}
+use Rattle.set_model.specs.Replies.{applies, overflows, reply}
+use Rattle.set_model.specs.declared.commands.Command.{Command}
+use Rattle.set_model.specs.declared.commands.Command.TheVariants.{Add, Put, Del, Has, Get, Move, Pair, Size, Next}
 use Rattle.section_work.specs.declared.place.Place.{Place}
 use Rattle.section_work.specs.declared.place.Place.TheVariants.{Commit, Read}
-use Rattle.set_script.specs.declared.commands.Reply.TheVariants.{Yes, No, Full, Worn}
+use Rattle.set_model.specs.declared.commands.Reply.TheVariants.{Yes, No, Full, Worn}
 use Rattle.run_report.specs.declared.line.Line.{Line}
 use Rattle.run_report.specs.Legal.{LegalRun, Replays, MayStand, after, is_last, command_of}
 use Rattle.script_gen.specs.Script.{IsGenerated}

@@ -1,8 +1,8 @@
 -- What a command on a growing hash set comes to, from what its searches found.
-use Rattle.set_script.specs.declared.commands.Reply.{Reply}
-use Rattle.list_set.specs.Spots.{EndsHere, AreAddWrites, AreDelWrites}
-use Rattle.list_set.specs.declared.search.Spot.{Spot}
-use Rattle.list_set.proofs.Spots.{two_within, two_distinct, add_found, del_found}
+use Rattle.set_model.specs.declared.commands.Reply.{Reply}
+use Rattle.list_set.specs.Windows.{EndsHere, AreAddWrites, AreDelWrites}
+use Rattle.list_set.specs.declared.search.Window.{Window}
+use Rattle.list_set.proofs.Windows.{two_within, two_distinct, add_found, del_found}
 use Rattle.std.proofs.Common.{◌≡◌, ◌≢◌, ◌^◌, ◌<◌, ◌&&◌, ℕ, Bool, true, false, cond, not, eqb, length, set, refl, sym, ap, ◌∙◌, subst}
 use Rattle.grow_hash.proofs.Terms.{State, Writes, are_distinct, AreWithin, empty, has_key, applies, overflows, Command, Add, Del, Has}
 use Rattle.grow_hash.proofs.Terms.{Yes, No, Full, Worn, word, owned_in_range, add_writes, bucket, IsGrown, grown_map, grown_name, grown_catalogue}
@@ -38,8 +38,8 @@ applied : (a o : Bool) → a ≡ true → o ≡ false → (a && not o && not fal
 applied a o e f = ap (λ (t : Bool). t && not o && not false) e ∙ ap (λ (t : Bool). not t && not false) f
 
 -- whether a search of the bucket of the key found it is whether the set has it
-module _ (levels : ℕ) (s : State) (k : ℕ) (l : IsGrown levels s) (spot : Spot) (ends : EndsHere s (head_of levels s k) k spot) (has : Bool)
-    (is : has ≡ (not (eqb spot.node 0) && eqb (word 2 spot.node_words) k)) where
+module _ (levels : ℕ) (s : State) (k : ℕ) (l : IsGrown levels s) (window : Window) (ends : EndsHere s (head_of levels s k) k window) (has : Bool)
+    (is : has ≡ (not (eqb window.node 0) && eqb (word 2 window.node_words) k)) where
   found_has : has ≡ has_key k (grown_map levels s)
   found_has = is ∙ ends.has ∙ same_has levels s k l
 
@@ -67,45 +67,46 @@ module _ (levels : ℕ) (s : State) (k : ℕ) (l : IsGrown levels s) (spot : Spo
       (λ last. full_reply _ _ last (ap not out) over, overfull _ _ false over)
 
   pub add_open : has ≡ false → (node : ℕ) → IsFree levels s node → k < 2 ^ 32 → (h : ℕ) (ws : Writes) → h ≡ head_of levels s k
-      → AreAddWrites h k 0 node spot ws
+      → AreAddWrites h k 0 node window ws
       → IsGrowFound levels (Add grown_name k) s (Open ws)
   add_open e node free fit h ws at_head writes =
-      let are : AreAddWrites (head_of levels s k) k 0 node spot ws = subst (λ u. AreAddWrites u k 0 node spot ws) at_head writes in
-      let f = add_found s s (head_of levels s k) k spot.previous spot.words spot.node spot.node_words has refl ends is e 0 node ws (are s ends) in
-      let here : spot.previous ≢ node = add_apart levels s (bucket levels s k) k 0 spot.previous node l refl f.0 free.0 free.1 free.2 in
-      let ok = add_allowed levels s (bucket levels s k) k spot.previous node l refl f.0 free.0 free.1 free.2 fit in
+      let are : AreAddWrites (head_of levels s k) k 0 node window ws = subst (λ u. AreAddWrites u k 0 node window ws) at_head writes in
+      let f = add_found s s (head_of levels s k) k window.previous window.words window.node window.node_words has refl ends is e 0 node ws (are s ends) in
+      let here : window.previous ≢ node = add_apart levels s (bucket levels s k) k 0 window.previous node l refl f.0 free.0 free.1 free.2 in
+      let ok = add_allowed levels s (bucket levels s k) k window.previous node l refl f.0 free.0 free.1 free.2 fit in
       let fits : overflows (Add grown_name k) (grown_catalogue levels s) (grown_capacity levels s) ≡ false =
-      commit_room levels (Add grown_name k) s (add_writes s (head_of levels s k) k 0 spot.previous node) ok.keeps
-      (ap (set empty grown_name) (add_map levels s (bucket levels s k) k 0 spot.previous node l refl f.0 free.0 free.1 free.2)) in
+      commit_room levels (Add grown_name k) s (add_writes s (head_of levels s k) k 0 window.previous node) ok.keeps
+      (ap (set empty grown_name) (add_map levels s (bucket levels s k) k 0 window.previous node l refl f.0 free.0 free.1 free.2)) in
       let plan : GrowPlan levels (Add grown_name k) s ws =
-      record { previous = spot.previous; node = node; place = f.0; free = free; writes_are = f.1 } in (
+      record { previous = window.previous; node = node; place = f.0; free = free; writes_are = f.1 } in (
         applied _ _ (ap not (sym found_has ∙ e)) fits,
         record {
           plan = plan;
-          distinct = ap are_distinct f.1 ∙ two_distinct spot.previous node here;
+          distinct = ap are_distinct f.1 ∙ two_distinct window.previous node here;
           within = subst (λ (u : Writes). AreWithin u (length s)) (sym f.1)
-              (two_within spot.previous node (length s) (list_in_range levels s (bucket levels s k) spot.previous l (bucket_low levels s l k) f.0.within)
+              (two_within window.previous node (length s) (list_in_range levels s (bucket levels s k) window.previous l (bucket_low levels s l k) f.0.within)
               free.1);
           locks = ap length f.1;
           fit = plan_fit levels s (Add grown_name k) ws plan (refl, fit) l;
         },
       )
 
-  pub del_open : has ≡ true → k < 2 ^ 32 → (ws : Writes) → AreDelWrites spot ws → IsGrowFound levels (Del grown_name k) s (Open ws)
+  pub del_open : has ≡ true → k < 2 ^ 32 → (ws : Writes) → AreDelWrites window ws → IsGrowFound levels (Del grown_name k) s (Open ws)
   del_open e fit ws are =
-      let f = del_found s s (head_of levels s k) k spot.previous spot.words spot.node spot.node_words has refl ends is e ws
+      let f = del_found s s (head_of levels s k) k window.previous window.words window.node window.node_words has refl ends is e ws
       (are s (head_of levels s k) k ends) in
       let linked = l.lists (bucket levels s k) (bucket_low levels s l k) in
-      let here : spot.previous ≢ spot.node = del_apart s (head_of levels s k) k spot.previous spot.node linked f.0 in
-      let node = del_node s (head_of levels s k) k spot.previous spot.node linked f.0 in
-      let plan : GrowPlan levels (Del grown_name k) s ws = record { previous = spot.previous; node = spot.node; place = f.0; writes_are = f.1 } in (
+      let here : window.previous ≢ window.node = del_apart s (head_of levels s k) k window.previous window.node linked f.0 in
+      let node = del_node s (head_of levels s k) k window.previous window.node linked f.0 in
+      let plan : GrowPlan levels (Del grown_name k) s ws = record { previous = window.previous; node = window.node; place = f.0; writes_are = f.1 } in (
         applied _ _ (sym found_has ∙ e) refl,
         record {
           plan = plan;
-          distinct = ap are_distinct f.1 ∙ two_distinct spot.previous spot.node here;
+          distinct = ap are_distinct f.1 ∙ two_distinct window.previous window.node here;
           within = subst (λ (u : Writes). AreWithin u (length s)) (sym f.1)
-              (two_within spot.previous spot.node (length s) (list_in_range levels s (bucket levels s k) spot.previous l (bucket_low levels s l k) f.0.within)
-              (owned_in_range s spot.node (head_of levels s k) node.1));
+              (two_within window.previous window.node (length s)
+              (list_in_range levels s (bucket levels s k) window.previous l (bucket_low levels s l k) f.0.within)
+              (owned_in_range s window.node (head_of levels s k) node.1));
           locks = ap length f.1;
           fit = plan_fit levels s (Del grown_name k) ws plan (refl, fit) l;
         },

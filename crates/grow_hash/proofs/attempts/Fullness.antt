@@ -1,5 +1,5 @@
 -- A set that has as many keys as there are nodes has no room for another.
-use Rattle.set_script.specs.Catalogue.{cost}
+use Rattle.set_model.specs.Catalogue.{cost}
 use Rattle.std.proofs.Common.{◌≡◌, ◌≢◌, ◌+◌, ◌-◌, ◌<◌, ◌∷◌, ℕ, suc, Bool, true, false, cond, List, [], length, drop, refl, ap, ◌∙◌, arith, length-drop, lt-ltb}
 use Rattle.grow_hash.proofs.Terms.{get_or-drop, State, words_at, has_key, put, with_key, owner, overflows, Add, tally, length-put, IsGrown, is_used, grown_map}
 use Rattle.grow_hash.proofs.Terms.{grown_name, grown_catalogue, grown_capacity, IsFree, first_grown}

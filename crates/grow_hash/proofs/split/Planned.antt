@@ -1,7 +1,7 @@
 -- What is known of the writes of a split.
-use Rattle.set_script.specs.Trees.{IsDistinct}
-use Rattle.set_script.proofs.TreeShape.{is_in-none}
-use Rattle.set_script.proofs.Written.{distinct-objects_of}
+use Rattle.set_model.specs.Trees.{IsDistinct}
+use Rattle.set_model.proofs.TreeShape.{is_in-none}
+use Rattle.set_model.proofs.Written.{distinct-objects_of}
 use Rattle.std.proofs.Common.{◌≡◌, ◌+◌, ◌<◌, ◌≤◌, ◌⊎◌, ◌∷◌, ℕ, suc, inl, inr, true, List, [], length, refl, sym, ap, ◌∙◌, subst, arith}
 use Rattle.grow_hash.proofs.Terms.{State, Writes, touches, are_distinct, AreWithin, objects_of, owned_in_range, IsIn, in-touches, level, split_place}
 use Rattle.grow_hash.proofs.Terms.{buckets_at, IsGrown, head_at, SplitPlan, new_bucket, split_writes, most_buckets, first_grown}

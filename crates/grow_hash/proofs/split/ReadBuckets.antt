@@ -1,7 +1,7 @@
 -- What is read along the list of a bucket.
 use Rattle.std.proofs.Common.{◌≡◌, ◌≢◌, ◌+◌, ◌<◌, ◌≤◌, ◌∷◌, ◌++◌, ℕ, zero, suc, inl, inr, List, [], length, get_or, take, drop, set, length-drop, refl, sym, ap}
 use Rattle.grow_hash.proofs.Terms.{subst, arith, take_more_set, State, Writes, words_at, objects_of, word, IsIn, tally-bound, IsCount, IsRead, IsPath}
-use Rattle.set_script.specs.Objects.{most_objects}
+use Rattle.set_model.specs.Objects.{most_objects}
 
 pub read_first : (s : State) (o : ℕ) (w : List ℕ) → w ≡ words_at s o → IsRead s o [] (word 3 w)
 read_first s o w e = sym (ap (word 3) e)

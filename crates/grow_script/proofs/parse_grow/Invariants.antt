@@ -1,6 +1,6 @@
 use Rattle.std.proofs.Common.{◌≡◌, ◌≤◌, ◌+◌, true, drop, length, All}
 use Rattle.script_parser.specs.Grammar.{lines_of, parsed_after}
-use Rattle.set_script.specs.declared.script.TheConstants.{MOST_COMMANDS}
+use Rattle.set_model.specs.declared.script.TheConstants.{MOST_COMMANDS}
 use Rattle.grow_script.specs.GrowGrammar.{grow_readings, is_of_set, parsed_grow}
 use Rattle.grow_script.proofs.parse_grow.Given as goal
 

@@ -18,7 +18,7 @@ use Rattle.mv_core.specs.Moves as moves
 use Rattle.mv_core.specs.Moves.{Moment, MoveKind, act, memory_after, history_after, IsStorable, IsSeat, Move, steps, Moves, moved}
 use Rattle.mv_core.specs.Rule.{LoadsAs, StoresAs, SwapsAs, RaisesAs}
 use Rattle.mv_core.proofs.FactTerms.{KnowsPast, Known, KnownInDomain, Facts, IsSeated, Ruled, Loads, Stores, Swaps, Raises, IsKept}
-use Rattle.mv_core.proofs.moves.Grown.{stays}
+use Rattle.mv_core.proofs.moves.LaterHistory.{stays}
 use Rattle.mv_core.proofs.frames.FrameLaw.{set_at_here, set_at_all}
 use Rattle.mv_core.proofs.points.KnownBounds.{known_low, known_none, known_found, known_in_domain, known_back, known_next, known_named}
 use Rattle.mv_core.proofs.points.KnownLogs.{known_idle, known_still, known_commit, known_death}

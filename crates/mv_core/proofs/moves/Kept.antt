@@ -4,7 +4,7 @@ use Rattle.mv_core.proofs.Terms.{dite, ℕ_discrete, Entry, State, Writes, Confi
 use Rattle.mv_core.specs.EnterSteps.{IsWhole}
 use Rattle.mv_core.specs.Rule.{Facts, IsSeated, IsKept}
 use Rattle.mv_core.specs.Moves.{Act, loads, stores, swaps, raises, memory_after, history_after}
-use Rattle.mv_core.proofs.moves.Grown.{stays, whole_is}
+use Rattle.mv_core.proofs.moves.LaterHistory.{stays, whole_is}
 
 module _ (starts : State → Type 0) (allows : List ℕ → State → Writes → Type 0) (c : Config) (start : State) (v : Knowledge) where
   -- a step keeps all facts, whatever the words, the history and the other views are

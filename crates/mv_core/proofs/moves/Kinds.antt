@@ -36,7 +36,7 @@ use Rattle.mv_core.proofs.kinds.reclaiming.StoreMaster.{master_stores}
 use Rattle.mv_core.proofs.kinds.reclaiming.cut_head.CutHead.{cut_swaps}
 use Rattle.mv_core.proofs.kinds.reclaiming.store_free.StoreFree.{free_stores}
 use Rattle.mv_core.proofs.kinds.joining.LoadJoined.{joined_loads}
-use Rattle.mv_core.proofs.moves.Grown.{stays, was, longer_is, whole_is, sees_now, seen_to_is, seen_at_is}
+use Rattle.mv_core.proofs.moves.LaterHistory.{stays, was, longer_is, whole_is, sees_now, seen_to_is, seen_at_is}
 use Rattle.mv_core.proofs.moves.Kept.{Keeps, load_keeps, clock_keeps, store_keeps, raise_keeps, swap_keeps}
 
 module _ (starts : State → Type 0) (allows : List ℕ → State → Writes → Type 0) (c : Config) (start : State) (v : Knowledge) where

@@ -8,7 +8,7 @@ use Rattle.mv_core.specs.HistoryFacts.{BeginsWith}
 use Rattle.mv_core.specs.Rings.{index_of}
 use Rattle.mv_core.specs.WalkSteps.{MayLoadStamp, StampSays, IsOwnTime}
 use Rattle.mv_core.specs.Moves.{Moment, seen_at}
-use Rattle.mv_core.proofs.moves.Grown.{sees_now, seen_at_is}
+use Rattle.mv_core.proofs.moves.LaterHistory.{sees_now, seen_at_is}
 use Rattle.mv_core.proofs.kinds.walking.LoadStamp.{stamp_loads}
 use Rattle.replay_rules.specs.States.{any_commit, any_start, zeros, Made, state_of, AreMade}
 use Rattle.replay_rules.proofs.runs.Known.{facts, view_there, seated, starts, word_small}

@@ -7,13 +7,13 @@ use Rattle.mv_history.specs.declared.history.Entry.TheVariants.{Rest, Change}
 use Rattle.mv_history.specs.State.{State, written, writes_of, state_after, state_at}
 use Rattle.mv_history.specs.Legal.{IsAllowed}
 use Rattle.mv_history.proofs.Histories.{split_at}
-use Rattle.set_script.specs.CatalogueOf.{catalogue_of}
-use Rattle.set_script.specs.Replies.{applies, overflows, changes}
-use Rattle.set_script.specs.Rules.{capacity, Makes, MakesSome, IsSetCommit}
-use Rattle.set_script.specs.Tags.{tag_of, command_of}
-use Rattle.set_script.specs.declared.commands.Command.{Command}
-use Rattle.set_script.specs.declared.commands.Command.TheVariants.{Add, Put, Del, Has, Get, Move, Pair, Size, Next}
-use Rattle.set_script.specs.declared.commands.Reply.TheVariants.{Yes, No, Full, Worn}
+use Rattle.set_model.specs.CatalogueOf.{catalogue_of}
+use Rattle.set_model.specs.Replies.{applies, overflows, changes}
+use Rattle.set_model.specs.Rules.{capacity, Makes, MakesSome, IsSetCommit}
+use Rattle.set_model.specs.Tags.{tag_of, command_of}
+use Rattle.set_model.specs.declared.commands.Command.{Command}
+use Rattle.set_model.specs.declared.commands.Command.TheVariants.{Add, Put, Del, Has, Get, Move, Pair, Size, Next}
+use Rattle.set_model.specs.declared.commands.Reply.TheVariants.{Yes, No, Full, Worn}
 
 -- an entry makes the next state by its writes
 pub state_next : (start : State) (es : List Entry) (i : ℕ) (e : Entry) → slice_get es i ≡ Some e

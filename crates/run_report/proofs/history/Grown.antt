@@ -10,13 +10,13 @@ use Rattle.mv_history.specs.declared.history.Entry.TheVariants.{Change}
 use Rattle.mv_history.specs.State.{state_after, commits_of}
 use Rattle.mv_history.specs.Calls.{Continues}
 use Rattle.mv_history.specs.Meaning.{Seat}
-use Rattle.set_script.specs.CatalogueOf.{catalogue_of}
-use Rattle.set_script.specs.Replies.{reply, changes}
-use Rattle.set_script.specs.Rules.{capacity}
-use Rattle.set_script.specs.declared.commands.Command.{Command}
+use Rattle.set_model.specs.CatalogueOf.{catalogue_of}
+use Rattle.set_model.specs.Replies.{reply, changes}
+use Rattle.set_model.specs.Rules.{capacity}
+use Rattle.set_model.specs.declared.commands.Command.{Command}
 use Rattle.section_work.specs.declared.place.Place.{Place}
 use Rattle.section_work.specs.declared.place.Place.TheVariants.{Commit as AtCommit, Read}
-use Rattle.set_script.specs.declared.commands.Reply.{Reply}
+use Rattle.set_model.specs.declared.commands.Reply.{Reply}
 use Rattle.run_report.specs.declared.line.Line.{Line}
 use Rattle.run_report.specs.Order.{time_of}
 use Rattle.run_report.specs.Worked.{Past, past_of, state_of_time, PlaceOf, LinesOf, Ran, AllRan}

@@ -10,12 +10,12 @@ use Rattle.mv_history.specs.declared.history.Entry.TheVariants.{Change}
 use Rattle.mv_history.specs.declared.history.TheConstants.{LAST}
 use Rattle.mv_history.specs.State.{maker_of, state_after}
 use Rattle.mv_history.specs.Legal.{IsLegal, IsAllowed}
-use Rattle.set_script.specs.Catalogue.{Maps, empty}
-use Rattle.set_script.specs.CatalogueOf.{catalogue_of}
-use Rattle.set_script.specs.Lawful.{IsOpening}
-use Rattle.set_script.specs.Rules.{capacity, IsSetCommit}
-use Rattle.set_script.specs.declared.commands.Command.{Command}
-use Rattle.set_script.proofs.Opening.{opening_empty}
+use Rattle.set_model.specs.Catalogue.{Maps, empty}
+use Rattle.set_model.specs.CatalogueOf.{catalogue_of}
+use Rattle.set_model.specs.Lawful.{IsOpening}
+use Rattle.set_model.specs.Rules.{capacity, IsSetCommit}
+use Rattle.set_model.specs.declared.commands.Command.{Command}
+use Rattle.set_model.proofs.Opening.{opening_empty}
 use Rattle.run_report.specs.declared.line.Line.{Line}
 use Rattle.run_report.specs.Order.{IsOrdered}
 use Rattle.run_report.specs.Legal.{LegalRun, Follows, Replays, ids_of}

@@ -35,11 +35,11 @@ use Rattle.mv_history.specs.declared.history.TheConstants.{LAST}
 use Rattle.mv_history.specs.State.{State, state_after, state_at}
 use Rattle.mv_history.specs.Legal.{IsAllowed}
 use Rattle.mv_history.proofs.Writing.{length-state_after}
-use Rattle.set_script.specs.Catalogue.{Maps}
-use Rattle.set_script.specs.CatalogueOf.{catalogue_of}
-use Rattle.set_script.specs.Replies.{reply, changes, next}
-use Rattle.set_script.specs.Rules.{capacity, IsSetCommit}
-use Rattle.set_script.specs.declared.commands.Command.{Command}
+use Rattle.set_model.specs.Catalogue.{Maps}
+use Rattle.set_model.specs.CatalogueOf.{catalogue_of}
+use Rattle.set_model.specs.Replies.{reply, changes, next}
+use Rattle.set_model.specs.Rules.{capacity, IsSetCommit}
+use Rattle.set_model.specs.declared.commands.Command.{Command}
 use Rattle.section_work.specs.declared.place.Place.{Place}
 use Rattle.section_work.specs.declared.place.Place.TheVariants.{Commit as AtCommit, Read}
 use Rattle.run_report.specs.declared.line.Line.{Line}

@@ -10,7 +10,7 @@ use Rattle.mv_history.specs.declared.history.Commit.{Commit}
 use Rattle.mv_history.specs.declared.history.Entry.TheVariants.{Change}
 use Rattle.mv_history.specs.State.{commits_of}
 use Rattle.mv_history.specs.Legal.{IsLegal}
-use Rattle.set_script.specs.declared.commands.Command.{Command}
+use Rattle.set_model.specs.declared.commands.Command.{Command}
 use Rattle.run_report.specs.declared.line.Line.{Line}
 use Rattle.run_report.specs.Legal.{EachPair, Follows, IsInTime, IsAlone, id_of, ids_from, ids_of}
 use Rattle.run_report.specs.Worked.{Past, LinesOf}

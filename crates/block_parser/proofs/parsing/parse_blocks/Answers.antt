@@ -5,7 +5,7 @@ use Rattle.std.proofs.lemmas.Result.{err_from_is_err_and}
 use Rattle.std.specs.Slice.Iter.{split_rest, split_done, split_callee}
 use Rattle.script_parser.specs.Grammar.{is_line_end}
 use Rattle.script_parser.proofs.Lines.{item, no_item}
-use Rattle.set_script.specs.declared.commands.Command.{Command}
+use Rattle.set_model.specs.declared.commands.Command.{Command}
 use Rattle.block_parser.specs.declared.faults.BlockKind.{BlockKind}
 use Rattle.block_parser.specs.BlockGrammar.{closed, Refuses}
 use Rattle.block_parser.proofs.Lines.{taken, refused, done}

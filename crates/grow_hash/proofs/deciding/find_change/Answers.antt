@@ -16,6 +16,6 @@ returns-in-Size-clause-found g c =
 
 pub returns-in-Has-clause-found : goal.returns-in-Has-clause-found
 returns-in-Has-clause-found g c =
-    has_found g.row.LEVELS _ c.in-Has.key c.requires.lawful c.find.result.spot c.find.ensures.spot _ c.has.ensures c.args.command.now c.in-Has.name _
+    has_found g.row.LEVELS _ c.in-Has.key c.requires.lawful c.find.result.window c.find.ensures.window _ c.has.ensures c.args.command.now c.in-Has.name _
     c.in-Has.is
     c.requires.command c.yes_or_no.ensures

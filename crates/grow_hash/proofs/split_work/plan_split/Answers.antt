@@ -2,7 +2,7 @@ use Rattle.std.proofs.Common.{◌+◌, ◌≤◌}
 use Rattle.grow_hash.proofs.Terms.{refl, sym, ◌∙◌, subst, take, length, ℕ, State, IsPlannedSplit}
 use Rattle.grow_hash.proofs.split.Reads.{bucket_linked, planned_by}
 use Rattle.grow_hash.proofs.split_work.plan_split.Goals as goal
-use Rattle.set_script.specs.Objects.{most_objects}
+use Rattle.set_model.specs.Objects.{most_objects}
 
 pub read_bucket-bucket-requires-clause-linked : goal.read_bucket-bucket-requires-clause-linked
 read_bucket-bucket-requires-clause-linked g c =

@@ -3,7 +3,7 @@ use Rattle.mv_history.specs.Calls.{Continues}
 use Rattle.mv_history.specs.Meaning.{Seat}
 use Rattle.mvrlu.specs.Meant.{handled}
 use Rattle.section_work.specs.Sections.{TriesOne}
-use Rattle.set_script.specs.declared.commands.Command.{Command}
+use Rattle.set_model.specs.declared.commands.Command.{Command}
 use Rattle.grow_hash.specs.GrowAttempts.{GrowAttempted}
 use Rattle.grow_seats.proofs.Staying.{between, still_of, still_room}
 use Rattle.grow_seats.specs.Calls.{Attempted, domain_causes}

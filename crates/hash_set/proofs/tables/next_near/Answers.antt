@@ -1,6 +1,6 @@
 use Rattle.std.proofs.Common.{◌≡◌, ◌+◌, ◌%◌, refl, subst, sym, ap, ◌∙◌, arith}
 use Rattle.mv_history.specs.State.{State}
-use Rattle.set_script.specs.Lawful.{IsLawful}
+use Rattle.set_model.specs.Lawful.{IsLawful}
 use Rattle.hash_set.specs.Buckets.{bucket_at}
 use Rattle.hash_set.proofs.Least.{least_step, least_within, least_end}
 use Rattle.hash_set.proofs.tables.next_near.Goals as goal

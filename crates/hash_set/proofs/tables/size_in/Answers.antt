@@ -1,6 +1,6 @@
 use Rattle.std.proofs.Common.{refl, subst, sym, arith}
 use Rattle.mv_history.specs.State.{State}
-use Rattle.set_script.specs.Lawful.{IsLawful}
+use Rattle.set_model.specs.Lawful.{IsLawful}
 use Rattle.hash_set.proofs.Counting.{count_step, count_fits, count_end}
 use Rattle.hash_set.proofs.tables.size_in.Goals as goal
 

@@ -15,23 +15,23 @@ pub walk_from-requires-clause-behind : goal.walk_from-requires-clause-behind
 walk_from-requires-clause-behind g c =
     behind_head _ _ _ _ _ (sym (g.met.V.View.same_state _ _ c.read_pair-link.ensures.as_before)) c.read_pair-link.ensures.second
 
-pub spot_at-requires-clause-linked : goal.spot_at-requires-clause-linked
-spot_at-requires-clause-linked g c =
+pub window_at-requires-clause-linked : goal.window_at-requires-clause-linked
+window_at-requires-clause-linked g c =
     rw (g.met.V.View.same_state _ _ (g.met.V.View.as_long_before _ _ _ c.read_pair-link.ensures.as_before c.walk_from.ensures.as_before)) c.requires.linked
 
-pub spot_at-requires-clause-few : goal.spot_at-requires-clause-few
-spot_at-requires-clause-few g c =
+pub window_at-requires-clause-few : goal.window_at-requires-clause-few
+window_at-requires-clause-few g c =
     rw (g.met.V.View.same_state _ _ (g.met.V.View.as_long_before _ _ _ c.read_pair-link.ensures.as_before c.walk_from.ensures.as_before)) c.requires.few
 
-pub spot_at-requires-clause-stops : goal.spot_at-requires-clause-stops
-spot_at-requires-clause-stops g c = rw (g.met.V.View.same_state _ _ c.walk_from.ensures.as_before) c.walk_from.ensures.stops
+pub window_at-requires-clause-stops : goal.window_at-requires-clause-stops
+window_at-requires-clause-stops g c = rw (g.met.V.View.same_state _ _ c.walk_from.ensures.as_before) c.walk_from.ensures.stops
 
-pub returns-clause-spot : goal.returns-clause-spot
-returns-clause-spot g c =
+pub returns-clause-window : goal.returns-clause-window
+returns-clause-window g c =
     rw (g.met.V.View.same_state _ _ (g.met.V.View.as_long_before _ _ _ c.read_pair-link.ensures.as_before c.walk_from.ensures.as_before)) at
-    c.spot_at.ensures.spot
+    c.window_at.ensures.window
 
 pub returns-clause-as_before : goal.returns-clause-as_before
 returns-clause-as_before g c =
     g.met.V.View.as_long_before _ _ _ (g.met.V.View.as_long_before _ _ _ c.read_pair-link.ensures.as_before c.walk_from.ensures.as_before)
-    c.spot_at.ensures.as_before
+    c.window_at.ensures.as_before

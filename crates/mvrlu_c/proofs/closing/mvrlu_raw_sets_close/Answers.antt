@@ -1,6 +1,6 @@
 use Rattle.std.proofs.Common.{ap, ◌∙◌, w32, to_z, of_z}
 use Rattle.crossbeam_utils.specs.Padded.{padded_value}
-use Rattle.set_script.specs.Lawful.{IsOpening}
+use Rattle.set_model.specs.Lawful.{IsOpening}
 use Rattle.set_blocks.specs.BlockRules.{IsBlockCommit}
 use Rattle.shared_domain.specs.Met.{gathering_of}
 use Rattle.c_answers.specs.Closings.{status_of_close, last_told}

@@ -1,4 +1,4 @@
-use Rattle.set_script.specs.declared.commands.Command.TheVariants as command
+use Rattle.set_model.specs.declared.commands.Command.TheVariants as command
 use Rattle.c_answers.specs.declared.status.Status.TheVariants.{BadSet}
 use Rattle.mvrlu_c.proofs.SetsTelling.{issued_back, refused_back}
 use Rattle.mvrlu_c.proofs.sets_calls.mvrlu_raw_sets_pair.Goals as goal

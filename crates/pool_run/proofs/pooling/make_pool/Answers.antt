@@ -7,7 +7,7 @@ use Rattle.run_kinds.proofs.InOrder.{text_in_order}
 use Rattle.script_files.specs.Scripts.{AllScripts}
 use Rattle.script_files.proofs.Many.{only_one}
 use Rattle.script_workers.specs.Workers.{items_of}
-use Rattle.set_script.specs.Rules.{IsSetCommit}
+use Rattle.set_model.specs.Rules.{IsSetCommit}
 use Rattle.pool_run.specs.PoolRuns.{pool_chain_of}
 use Rattle.pool_run.proofs.pooling.make_pool.Goals as goal
 

@@ -5,8 +5,8 @@ use Rattle.run_kinds.specs.Kinds.{config_of}
 use Rattle.run_kinds.proofs.Along.{left_along}
 use Rattle.run_kinds.proofs.Opened.{back_meets}
 use Rattle.run_kinds.proofs.domain_loan_lemmas.Opened.{opened_new}
-use Rattle.set_script.proofs.Times.{lawful_after}
-use Rattle.set_script.specs.Rules.{IsSetCommit}
+use Rattle.set_model.proofs.Times.{lawful_after}
+use Rattle.set_model.specs.Rules.{IsSetCommit}
 use Rattle.pool_run.specs.PoolRuns.{pool_chain_of}
 use Rattle.pool_run.proofs.pooling.pool_sets.Goals as goal
 

@@ -11,7 +11,7 @@ use Rattle.mv_core.specs.ReclaimSteps.{MayLoadSuper, SeesSuper, FoundEmpty}
 use Rattle.mv_core.specs.Times.{latest_at}
 use Rattle.mv_core.specs.Moves.{Moment, MoveKind, load_super, seen_to}
 use Rattle.mv_core.proofs.kinds.reclaiming.LoadSuper.{super_loads}
-use Rattle.mv_core.proofs.moves.Grown.{sees_now, seen_to_is}
+use Rattle.mv_core.proofs.moves.LaterHistory.{sees_now, seen_to_is}
 use Rattle.mv_core.proofs.logs.Links.{live_once}
 use Rattle.seat_log.specs.declared.version.Note.{Note}
 use Rattle.seat_log.specs.Notes.{Noted, IsNoteAt}

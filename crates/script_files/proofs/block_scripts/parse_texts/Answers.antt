@@ -2,7 +2,7 @@ use Rattle.std.proofs.Common.{◌≡◌, ◌≤◌, List, length, map, subst, su
 use Rattle.std.specs.declared.alloc.Global.{Global}
 use Rattle.block_parser.specs.BlockGrammar.{Refuses, parsed_blocks}
 use Rattle.block_parser.specs.declared.faults.BlockFault.{BlockFault}
-use Rattle.set_script.specs.declared.commands.Command.{Command}
+use Rattle.set_model.specs.declared.commands.Command.{Command}
 use Rattle.script_files.specs.Reading.{list_of}
 use Rattle.script_files.proofs.FileTexts.{all_ok, all_parse, answers_from_each, first_refused}
 use Rattle.script_files.proofs.block_scripts.parse_texts.Goals as goal

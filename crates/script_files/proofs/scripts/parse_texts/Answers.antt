@@ -1,7 +1,7 @@
 use Rattle.std.proofs.Common.{◌≡◌, ◌≤◌, length, map, subst, Vec, Result, All, IfOk, arith}
 use Rattle.std.specs.declared.alloc.Global.{Global}
 use Rattle.script_parser.specs.Grammar.{Refuses}
-use Rattle.set_script.specs.declared.commands.Command.{Command}
+use Rattle.set_model.specs.declared.commands.Command.{Command}
 use Rattle.script_parser.specs.declared.faults.ScriptFault.{ScriptFault}
 use Rattle.script_files.specs.Reading.{list_of}
 use Rattle.script_files.specs.Scripts.{AreOf, parsed_by}

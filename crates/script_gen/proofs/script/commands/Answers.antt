@@ -1,6 +1,6 @@
 use Rattle.std.proofs.Common.{rules, List, All, sym, subst}
 use Rattle.rand_pcg.specs.Pcg.{pcg32}
-use Rattle.set_script.specs.declared.commands.Command.{Command}
+use Rattle.set_model.specs.declared.commands.Command.{Command}
 use Rattle.script_gen.specs.Script.{IsGenerated}
 use Rattle.script_gen.proofs.Drawing.{none_drawn, all_drawn}
 use Rattle.script_gen.proofs.Generated.{script_generated}

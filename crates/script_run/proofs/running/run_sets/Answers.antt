@@ -1,8 +1,8 @@
 use Rattle.std.proofs.Common.{ap, length, map, sym}
 use Rattle.std.proofs.lemmas.List.{length-map}
 use Rattle.std.proofs.lemmas.List.Sorted.{IsPermutation-refl}
-use Rattle.set_script.proofs.Times.{lawful_after}
-use Rattle.set_script.specs.Rules.{IsSetCommit}
+use Rattle.set_model.proofs.Times.{lawful_after}
+use Rattle.set_model.specs.Rules.{IsSetCommit}
 use Rattle.script_workers.specs.Workers.{items_of}
 use Rattle.run_report.specs.Whole.{RunOf}
 use Rattle.run_kinds.specs.Kinds.{config_of}

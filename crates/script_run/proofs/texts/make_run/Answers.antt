@@ -4,7 +4,7 @@ use Rattle.run_kinds.proofs.InOrder.{text_in_order}
 use Rattle.run_report.specs.Whole.{RunOf}
 use Rattle.run_report.proofs.history.OneRun.{run_permuted}
 use Rattle.script_workers.specs.Workers.{items_of}
-use Rattle.set_script.specs.Rules.{IsSetCommit}
+use Rattle.set_model.specs.Rules.{IsSetCommit}
 use Rattle.script_run.specs.ScriptRuns.{chain_of}
 use Rattle.script_run.proofs.texts.make_run.Goals as goal
 

@@ -6,8 +6,8 @@ use Rattle.set_blocks.proofs.holds.hold_key.Goals as goal
 
 pub returns-then-head-lt-FIRST_ROOT-clause-told : goal.returns-then-head-lt-FIRST_ROOT-clause-told
 returns-then-head-lt-FIRST_ROOT-clause-told g c =
-    list_held _ _ _ _ c.args.name c.args.key _ c.head_of-head.ensures.head c.find-spot.ensures.as_before.1 c.if-head-lt-FIRST_ROOT.true _ _ _ _
-    c.find-spot.ensures.spot _ c.has.ensures c.write.ensures.writes
+    list_held _ _ _ _ c.args.name c.args.key _ c.head_of-head.ensures.head c.find-window.ensures.as_before.1 c.if-head-lt-FIRST_ROOT.true _ _ _ _
+    c.find-window.ensures.window _ c.has.ensures c.write.ensures.writes
 
 pub returns-in-None-clause-told : goal.returns-in-None-clause-told
 returns-in-None-clause-told g c =
@@ -20,20 +20,20 @@ returns-in-None-clause-told g c =
 pub returns-in-Some-clause-told : goal.returns-in-Some-clause-told
 returns-in-Some-clause-told g c =
     leaf_held _ _ _ _ c.args.name c.args.key _ c.head_of-head.ensures.head c.find.ensures.as_before.1 c.if-head-lt-FIRST_ROOT.false _ _ _ _ _
-    c.in-Some.ensures.fork _ c.has-in-Some.ensures c.write-in-Some.ensures.writes
+    c.in-Some.ensures.descent _ c.has-in-Some.ensures c.write-in-Some.ensures.writes
 
 pub write-requires : goal.write-requires
 write-requires g c =
-    record { room = room_after c.args.overlay.now c.find-spot.new.view c.find-spot.ensures.as_before.1 1 1 c.requires.room (omega arith) }
+    record { room = room_after c.args.overlay.now c.find-window.new.view c.find-window.ensures.as_before.1 1 1 c.requires.room (omega arith) }
 
 pub returns-then-head-lt-FIRST_ROOT-clause-view : goal.returns-then-head-lt-FIRST_ROOT-clause-view
 returns-then-head-lt-FIRST_ROOT-clause-view g c =
     subst (λ v. g.V.View.as_before c.args.overlay.now.view v) (sym c.write.ensures.view)
-    c.find-spot.ensures.as_before.0
+    c.find-window.ensures.as_before.0
 
 pub returns-then-head-lt-FIRST_ROOT-clause-count : goal.returns-then-head-lt-FIRST_ROOT-clause-count
 returns-then-head-lt-FIRST_ROOT-clause-count g c =
-    more_after c.args.overlay.now c.find-spot.new.view c.find-spot.ensures.as_before.1 1 1 _ c.write.ensures.count (omega arith)
+    more_after c.args.overlay.now c.find-window.new.view c.find-window.ensures.as_before.1 1 1 _ c.write.ensures.count (omega arith)
 
 pub write-requires-in-None : goal.write-requires-in-None
 write-requires-in-None g c =

@@ -7,14 +7,14 @@ use Rattle.set_blocks.proofs.holds.hold_value.Goals as goal
 pub returns-then-not-has-clause-told : goal.returns-then-not-has-clause-told
 returns-then-not-has-clause-told g c =
     let missed : c.has.result ≡ false = search (rules, c.if-not-has.true) in
-    list_held _ _ _ _ c.args.name c.args.key _ c.head_of-head.ensures.head c.find-spot.ensures.as_before.1 c.if-head-lt-FIRST_ROOT.true _ _ _ _
-    c.find-spot.ensures.spot false (sym missed ∙ c.has.ensures) c.write.ensures.writes
+    list_held _ _ _ _ c.args.name c.args.key _ c.head_of-head.ensures.head c.find-window.ensures.as_before.1 c.if-head-lt-FIRST_ROOT.true _ _ _ _
+    c.find-window.ensures.window false (sym missed ∙ c.has.ensures) c.write.ensures.writes
 
 pub returns-then-head-lt-FIRST_ROOT-clause-told : goal.returns-then-head-lt-FIRST_ROOT-clause-told
 returns-then-head-lt-FIRST_ROOT-clause-told g c =
     let found : c.has.result ≡ true = search (rules, c.if-not-has.false) in
-    node_held _ _ _ _ c.args.name c.args.key _ c.head_of-head.ensures.head c.find-spot.ensures.as_before.1 c.if-head-lt-FIRST_ROOT.true _ _ _ _
-    c.find-spot.ensures.spot (sym found ∙ c.has.ensures) c.write-then-head-lt-FIRST_ROOT.ensures.writes
+    node_held _ _ _ _ c.args.name c.args.key _ c.head_of-head.ensures.head c.find-window.ensures.as_before.1 c.if-head-lt-FIRST_ROOT.true _ _ _ _
+    c.find-window.ensures.window (sym found ∙ c.has.ensures) c.write-then-head-lt-FIRST_ROOT.ensures.writes
 
 pub returns-in_default-clause-told : goal.returns-in_default-clause-told
 returns-in_default-clause-told g c =
@@ -28,38 +28,38 @@ returns-in_default-clause-told g c =
 pub returns-then-has-clause-told : goal.returns-then-has-clause-told
 returns-then-has-clause-told g c =
     entry_held _ _ _ _ c.args.name c.args.key _ c.head_of-head.ensures.head c.find.ensures.as_before.1 c.if-head-lt-FIRST_ROOT.false _ _ _ _ _
-    c.in-Some.ensures.fork (sym c.if-has.true ∙ c.has-2.ensures) c.write-2.ensures.writes
+    c.in-Some.ensures.descent (sym c.if-has.true ∙ c.has-2.ensures) c.write-2.ensures.writes
 
 pub returns-clause-told : goal.returns-clause-told
 returns-clause-told g c =
     leaf_held _ _ _ _ c.args.name c.args.key _ c.head_of-head.ensures.head c.find.ensures.as_before.1 c.if-head-lt-FIRST_ROOT.false _ _ _ _ _
-    c.in-Some.ensures.fork false (sym c.if-has.false ∙ c.has-2.ensures) c.write-2.ensures.writes
+    c.in-Some.ensures.descent false (sym c.if-has.false ∙ c.has-2.ensures) c.write-2.ensures.writes
 
 pub write-requires : goal.write-requires
 write-requires g c =
-    record { room = room_after c.args.overlay.now c.find-spot.new.view c.find-spot.ensures.as_before.1 1 2 c.requires.room (omega arith) }
+    record { room = room_after c.args.overlay.now c.find-window.new.view c.find-window.ensures.as_before.1 1 2 c.requires.room (omega arith) }
 
 pub returns-then-not-has-clause-view : goal.returns-then-not-has-clause-view
 returns-then-not-has-clause-view g c =
     subst (λ v. g.V.View.as_before c.args.overlay.now.view v) (sym c.write.ensures.view)
-    c.find-spot.ensures.as_before.0
+    c.find-window.ensures.as_before.0
 
 pub returns-then-not-has-clause-count : goal.returns-then-not-has-clause-count
 returns-then-not-has-clause-count g c =
-    more_after c.args.overlay.now c.find-spot.new.view c.find-spot.ensures.as_before.1 1 2 _ c.write.ensures.count (omega arith)
+    more_after c.args.overlay.now c.find-window.new.view c.find-window.ensures.as_before.1 1 2 _ c.write.ensures.count (omega arith)
 
 pub write-requires-then-head-lt-FIRST_ROOT : goal.write-requires-then-head-lt-FIRST_ROOT
 write-requires-then-head-lt-FIRST_ROOT g c =
-    record { room = room_after c.args.overlay.now c.find-spot.new.view c.find-spot.ensures.as_before.1 2 2 c.requires.room (omega arith) }
+    record { room = room_after c.args.overlay.now c.find-window.new.view c.find-window.ensures.as_before.1 2 2 c.requires.room (omega arith) }
 
 pub returns-then-head-lt-FIRST_ROOT-clause-view : goal.returns-then-head-lt-FIRST_ROOT-clause-view
 returns-then-head-lt-FIRST_ROOT-clause-view g c =
     subst (λ v. g.V.View.as_before c.args.overlay.now.view v) (sym c.write-then-head-lt-FIRST_ROOT.ensures.view)
-    c.find-spot.ensures.as_before.0
+    c.find-window.ensures.as_before.0
 
 pub returns-then-head-lt-FIRST_ROOT-clause-count : goal.returns-then-head-lt-FIRST_ROOT-clause-count
 returns-then-head-lt-FIRST_ROOT-clause-count g c =
-    more_after c.args.overlay.now c.find-spot.new.view c.find-spot.ensures.as_before.1 2 2 _ c.write-then-head-lt-FIRST_ROOT.ensures.count (omega arith)
+    more_after c.args.overlay.now c.find-window.new.view c.find-window.ensures.as_before.1 2 2 _ c.write-then-head-lt-FIRST_ROOT.ensures.count (omega arith)
 
 pub write-requires-in_default : goal.write-requires-in_default
 write-requires-in_default g c =

@@ -1,5 +1,5 @@
 use Rattle.std.proofs.Common.{sym, refl, inl, ◌∙◌, arith}
-use Rattle.set_script.specs.declared.commands.Command.TheVariants.{Add}
+use Rattle.set_model.specs.declared.commands.Command.TheVariants.{Add}
 use Rattle.set_catalog.proofs.Decided.{add_no, new_found, absent_same, takes_some}
 use Rattle.set_catalog.proofs.finding.find_add.Goals as goal
 

@@ -1,6 +1,6 @@
 use Rattle.std.proofs.Common.{sym, subst}
-use Rattle.set_script.specs.declared.commands.Command.{Command}
-use Rattle.set_script.specs.declared.commands.Command.TheVariants.{Del}
+use Rattle.set_model.specs.declared.commands.Command.{Command}
+use Rattle.set_model.specs.declared.commands.Command.TheVariants.{Del}
 use Rattle.set_catalog.specs.Findings.{IsFoundWithin, with_plan}
 use Rattle.set_catalog.proofs.Planned.{found_within}
 use Rattle.set_catalog.proofs.finding.find_change.Goals as goal

@@ -1,7 +1,7 @@
 use Rattle.std.proofs.Common.{sym, ◌∙◌, arith}
-use Rattle.set_script.specs.Catalogue.{map_of}
-use Rattle.set_script.specs.CatalogueOf.{catalogue_of}
-use Rattle.set_script.proofs.MapLemmas.{has_key-some}
+use Rattle.set_model.specs.Catalogue.{map_of}
+use Rattle.set_model.specs.CatalogueOf.{catalogue_of}
+use Rattle.set_model.proofs.MapLemmas.{has_key-some}
 use Rattle.set_catalog.proofs.Decided.{move_none, move_no, move_wants, move_short, move_has_room, move_open, ends_same, short_same, there_same, enough_same}
 use Rattle.set_catalog.proofs.finding.find_move.Goals as goal
 

@@ -1,8 +1,8 @@
 use Rattle.std.proofs.Common.{sym, refl, inr, arith}
-use Rattle.set_script.specs.Catalogue.{map_of}
-use Rattle.set_script.specs.CatalogueOf.{catalogue_of}
-use Rattle.set_script.specs.declared.commands.Command.TheVariants.{Put}
-use Rattle.set_script.proofs.MapLemmas.{has_key-none, has_key-some}
+use Rattle.set_model.specs.Catalogue.{map_of}
+use Rattle.set_model.specs.CatalogueOf.{catalogue_of}
+use Rattle.set_model.specs.declared.commands.Command.TheVariants.{Put}
+use Rattle.set_model.proofs.MapLemmas.{has_key-none, has_key-some}
 use Rattle.set_catalog.proofs.Decided.{put_no, put_open, new_found, absent_same, wants_some}
 use Rattle.set_catalog.proofs.finding.find_put.Goals as goal
 

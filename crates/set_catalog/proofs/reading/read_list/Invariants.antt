@@ -1,4 +1,4 @@
-use Rattle.set_script.specs.Catalogue.{Map}
+use Rattle.set_model.specs.Catalogue.{Map}
 use Rattle.list_set.specs.Walks.{walk_left}
 use Rattle.set_catalog.proofs.HeadReads.{AtNode, HasPart}
 use Rattle.set_catalog.proofs.reading.read_list.Given as goal

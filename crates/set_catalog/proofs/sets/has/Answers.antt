@@ -1,5 +1,5 @@
 use Rattle.std.proofs.Common.{sym, ap, ◌∙◌}
-use Rattle.set_script.specs.Catalogue.{Map, has_key}
+use Rattle.set_model.specs.Catalogue.{Map, has_key}
 use Rattle.set_catalog.proofs.SetCalls.{at_list}
 use Rattle.set_catalog.proofs.sets.has.Goals as goal
 

@@ -1,5 +1,5 @@
 use Rattle.std.proofs.Common.{sym, ap, ◌∙◌}
-use Rattle.set_script.specs.Catalogue.{Map, next_key}
+use Rattle.set_model.specs.Catalogue.{Map, next_key}
 use Rattle.set_catalog.proofs.SetCalls.{at_list}
 use Rattle.set_catalog.proofs.sets.next.Goals as goal
 

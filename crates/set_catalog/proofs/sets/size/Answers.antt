@@ -1,5 +1,5 @@
 use Rattle.std.proofs.Common.{sym, ap, ◌∙◌, length}
-use Rattle.set_script.specs.Catalogue.{Map}
+use Rattle.set_model.specs.Catalogue.{Map}
 use Rattle.set_catalog.proofs.SetCalls.{at_list}
 use Rattle.set_catalog.proofs.sets.size.Goals as goal
 

@@ -1,6 +1,6 @@
 use Rattle.std.proofs.Common.{ℕ, ◌+◌, ◌<◌, sym, subst}
 use Rattle.set_catalog.specs.Picks.{vacant_nodes}
-use Rattle.set_script.specs.Objects.{most_objects}
+use Rattle.set_model.specs.Objects.{most_objects}
 use Rattle.set_catalog.proofs.Costs.{vacant_bound}
 use Rattle.set_seats.proofs.walk.ask.Goals as goal
 

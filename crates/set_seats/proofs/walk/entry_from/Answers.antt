@@ -1,6 +1,6 @@
 use Rattle.std.proofs.Common.{sym, ◌∙◌}
-use Rattle.set_script.specs.Catalogue.{map_of}
-use Rattle.set_script.specs.CatalogueOf.{catalogue_of}
+use Rattle.set_model.specs.Catalogue.{map_of}
+use Rattle.set_model.specs.CatalogueOf.{catalogue_of}
 use Rattle.set_seats.proofs.SetEntries.{none_next, has_value, entry_next}
 use Rattle.set_seats.proofs.walk.entry_from.Goals as goal
 

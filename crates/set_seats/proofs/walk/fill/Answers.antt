@@ -1,7 +1,7 @@
 use Rattle.std.proofs.Common.{sym, ap, ◌∙◌, subst}
 use Rattle.mv_history.specs.State.{State}
-use Rattle.set_script.specs.Catalogue.{map_of}
-use Rattle.set_script.specs.CatalogueOf.{catalogue_of}
+use Rattle.set_model.specs.Catalogue.{map_of}
+use Rattle.set_model.specs.CatalogueOf.{catalogue_of}
 use Rattle.set_seats.proofs.Filling.{IsFilled, filled_more, filled_all}
 use Rattle.set_seats.specs.Walks.{entries_in}
 use Rattle.set_seats.proofs.SetEntries.{rising}

@@ -1,5 +1,5 @@
 use Rattle.std.proofs.Common.{sym, subst}
-use Rattle.set_script.specs.Lawful.{IsLawful}
+use Rattle.set_model.specs.Lawful.{IsLawful}
 use Rattle.set_catalog.proofs.LawfulTimes.{lawful_read}
 use Rattle.set_tests.proofs.commands.read_end.Goals as goal
 

@@ -1,5 +1,5 @@
 use Rattle.std.proofs.Common.{sym, subst}
-use Rattle.set_script.specs.Lawful.{IsLawful}
+use Rattle.set_model.specs.Lawful.{IsLawful}
 use Rattle.set_tests.proofs.lists.ask_all.Goals as goal
 
 pub loop-row-preserved : goal.loop-row-preserved

@@ -1,4 +1,4 @@
-use Rattle.set_script.specs.Lawful.{IsLawful}
+use Rattle.set_model.specs.Lawful.{IsLawful}
 use Rattle.set_tests.proofs.lists.ask_all.Given as goal
 
 abbrev pub invariant-loop-row : goal.invariant-loop-row

@@ -2,9 +2,9 @@ use Rattle.std.proofs.Common.{◌≡◌, ◌∙◌, ◌≤◌, sym, subst, ap, l
 use Rattle.std.proofs.lemmas.List.{length-replicate}
 use Rattle.mv_history.specs.State.{State}
 use Rattle.mv_history.specs.Meaning.{Seat}
-use Rattle.set_script.specs.Lawful.{IsOpening}
-use Rattle.set_script.specs.Objects.{no_words}
-use Rattle.set_script.proofs.Opening.{opening_zeros}
+use Rattle.set_model.specs.Lawful.{IsOpening}
+use Rattle.set_model.specs.Objects.{no_words}
+use Rattle.set_model.proofs.Opening.{opening_zeros}
 use Rattle.list_set.proofs.Filling.{filled_none}
 use Rattle.set_tests.proofs.opening.open_lists.Goals as goal
 

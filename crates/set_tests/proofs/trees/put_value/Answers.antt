@@ -1,8 +1,8 @@
 use Rattle.std.proofs.Common.{◌≡◌, true, refl, arith, sym, subst}
 use Rattle.mv_history.specs.State.{State}
-use Rattle.set_script.specs.Lawful.{IsLawful}
-use Rattle.set_script.specs.Catalogue.{has_key, map_of}
-use Rattle.set_script.specs.CatalogueOf.{name_of, catalogue_of}
+use Rattle.set_model.specs.Lawful.{IsLawful}
+use Rattle.set_model.specs.Catalogue.{has_key, map_of}
+use Rattle.set_model.specs.CatalogueOf.{name_of, catalogue_of}
 use Rattle.tree_set.proofs.Filling.{put_room, filled_put, filled_same}
 use Rattle.set_tests.proofs.Reading.{still}
 use Rattle.set_tests.proofs.trees.put_value.Goals as goal

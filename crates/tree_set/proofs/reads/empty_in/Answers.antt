@@ -1,4 +1,4 @@
-use Rattle.tree_set.proofs.Forks.{link_empty}
+use Rattle.tree_set.proofs.Descents.{link_empty}
 use Rattle.tree_set.proofs.reads.empty_in.Goals as goal
 
 pub returns-clause-empty : goal.returns-clause-empty

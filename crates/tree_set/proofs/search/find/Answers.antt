@@ -17,8 +17,8 @@ descend-requires-clause-first g c = rw (g.met.V.View.same_state _ _ c.read_pair-
 pub descend-requires-clause-some : goal.descend-requires-clause-some
 descend-requires-clause-some g c = c.if-first-eq0.false
 
-pub returns-clause-fork : goal.returns-clause-fork
-returns-clause-fork g c = rw (g.met.V.View.same_state _ _ c.read_pair-first.ensures.as_before) at c.descend.ensures.fork
+pub returns-clause-descent : goal.returns-clause-descent
+returns-clause-descent g c = rw (g.met.V.View.same_state _ _ c.read_pair-first.ensures.as_before) at c.descend.ensures.descent
 
 pub returns-clause-words : goal.returns-clause-words
 returns-clause-words g c = rw (g.met.V.View.same_state _ _ c.read_pair-first.ensures.as_before) at c.descend.ensures.words

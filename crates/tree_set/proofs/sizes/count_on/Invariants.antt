@@ -1,9 +1,9 @@
 use Rattle.std.proofs.Common.{suc, ◌-◌}
-use Rattle.set_script.specs.Catalogue.{Map}
+use Rattle.set_model.specs.Catalogue.{Map}
 use Rattle.tree_set.specs.Leaves.{IsWalk}
 use Rattle.tree_set.proofs.LeafWalks.{IsUnderWay}
 use Rattle.tree_set.proofs.sizes.count_on.Given as goal
-use Rattle.set_script.specs.Objects.{most_objects}
+use Rattle.set_model.specs.Objects.{most_objects}
 
 -- the walk passed so many of the entries that it had to pass
 abbrev pub invariant-loop-count : goal.invariant-loop-count

@@ -2,7 +2,7 @@ use Rattle.std.proofs.Common.{◌≢◌, ℕ, sym, refl, ◌≡◌, ap, subst, �
 use Rattle.mv_core.proofs.Terms.{Head, Knowledge, link_of, view, config_of}
 use Rattle.mv_core.specs.EnterSteps.{stored_if}
 use Rattle.mv_core.specs.Moves.{history_after}
-use Rattle.mv_core.proofs.moves.Grown.{stays}
+use Rattle.mv_core.proofs.moves.LaterHistory.{stays}
 use Rattle.mv_core.proofs.moves.Calls.{won_is, lost_is, no_made}
 use Rattle.std.proofs.Math.Logic.{∥∥₁_elim}
 use Rattle.std.proofs.Math.Bridge.{le_prop}

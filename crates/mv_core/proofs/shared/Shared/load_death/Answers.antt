@@ -2,7 +2,7 @@ use Rattle.std.proofs.Common.{refl, ap, ◌∙◌}
 use Rattle.mv_core.proofs.Terms.{Clock, Knowledge}
 use Rattle.mv_core.specs.Passes.{config_of}
 use Rattle.mv_core.specs.LockSteps.{death_loaded}
-use Rattle.mv_core.proofs.moves.Grown.{whole_is}
+use Rattle.mv_core.proofs.moves.LaterHistory.{whole_is}
 use Rattle.mv_core.specs.Passes.{view}
 use Rattle.mv_core.proofs.kinds.building.LoadDeath.{death_loads}
 use Rattle.mv_core.proofs.shared.Shared.load_death.Goals as goal

@@ -2,7 +2,7 @@ use Rattle.std.proofs.Common.{refl, ap, ◌∙◌}
 use Rattle.mv_core.proofs.Terms.{Stamp, link_seat_of, index_of}
 use Rattle.mv_core.specs.Passes.{view, config_of}
 use Rattle.mv_core.specs.WalkSteps.{stamp_loaded}
-use Rattle.mv_core.proofs.moves.Grown.{sees_now, seen_at_is}
+use Rattle.mv_core.proofs.moves.LaterHistory.{sees_now, seen_at_is}
 use Rattle.mv_core.proofs.kinds.walking.LoadStamp.{stamp_loads}
 use Rattle.mv_core.proofs.shared.Shared.load_stamp_at.Goals as goal
 

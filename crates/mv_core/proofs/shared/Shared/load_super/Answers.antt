@@ -2,7 +2,7 @@ use Rattle.std.proofs.Common.{refl, ap, ◌∙◌}
 use Rattle.mv_core.proofs.Terms.{Super, index_of}
 use Rattle.mv_core.specs.Passes.{config_of}
 use Rattle.mv_core.specs.ReclaimSteps.{super_loaded}
-use Rattle.mv_core.proofs.moves.Grown.{sees_now, seen_to_is}
+use Rattle.mv_core.proofs.moves.LaterHistory.{sees_now, seen_to_is}
 use Rattle.mv_core.specs.Passes.{view}
 use Rattle.mv_core.proofs.kinds.reclaiming.LoadSuper.{super_loads}
 use Rattle.mv_core.proofs.shared.Shared.load_super.Goals as goal

@@ -2,7 +2,7 @@ use Rattle.std.proofs.Common.{refl, ap, sym, ◌∙◌, subst}
 use Rattle.mv_core.proofs.Terms.{Config, Clock, Knowledge}
 use Rattle.mv_core.specs.Known.{KnownInDomain}
 use Rattle.mv_core.specs.EnterSteps.{time_loaded}
-use Rattle.mv_core.proofs.moves.Grown.{whole_is}
+use Rattle.mv_core.proofs.moves.LaterHistory.{whole_is}
 use Rattle.mv_core.specs.Passes.{view, config_of}
 use Rattle.mv_core.proofs.kinds.entering.LoadTime.{time_loads, time_runs}
 use Rattle.mv_core.proofs.shared.Shared.load_time.Goals as goal

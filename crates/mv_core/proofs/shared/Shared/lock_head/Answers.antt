@@ -4,7 +4,7 @@ use Rattle.std.proofs.Math.Bridge.{le_prop}
 use Rattle.mv_core.proofs.Terms.{Head, Knowledge, link_of, view}
 use Rattle.mv_core.specs.EnterSteps.{stored_if}
 use Rattle.mv_core.specs.Moves.{history_after}
-use Rattle.mv_core.proofs.moves.Grown.{stays}
+use Rattle.mv_core.proofs.moves.LaterHistory.{stays}
 use Rattle.mv_core.proofs.moves.Calls.{won_is, lost_is, no_made}
 use Rattle.mv_core.proofs.kinds.locking.lock_head.LockHead.{lock_swaps}
 use Rattle.mv_core.proofs.shared.Shared.lock_head.Goals as goal

@@ -3,7 +3,7 @@ use Rattle.mv_core.proofs.Terms.{Change, Clock, Knowledge, Config, clock_of, vie
 use Rattle.mv_core.specs.EnterSteps.{IsWhole, stored_if}
 use Rattle.mv_core.specs.NameSteps.{commit_of, commit_named, commit_lost}
 use Rattle.mv_core.specs.Moves.{history_after}
-use Rattle.mv_core.proofs.moves.Grown.{was, longer_is, whole_is}
+use Rattle.mv_core.proofs.moves.LaterHistory.{was, longer_is, whole_is}
 use Rattle.mv_core.proofs.moves.Calls.{won_is, lost_is}
 use Rattle.mv_core.proofs.kinds.naming.name_commit.NameCommit.{commit_swaps, named_word}
 use Rattle.mv_core.proofs.shared.Shared.name_commit.Goals as goal

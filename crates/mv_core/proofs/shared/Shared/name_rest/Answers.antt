@@ -4,7 +4,7 @@ use Rattle.mv_core.specs.Passes.{config_of}
 use Rattle.mv_core.specs.EnterSteps.{IsWhole, stored_if}
 use Rattle.mv_core.specs.NameSteps.{rest_named, rest_lost}
 use Rattle.mv_core.specs.Moves.{history_after}
-use Rattle.mv_core.proofs.moves.Grown.{was, longer_is, whole_is}
+use Rattle.mv_core.proofs.moves.LaterHistory.{was, longer_is, whole_is}
 use Rattle.mv_core.proofs.moves.Calls.{won_is, lost_is}
 use Rattle.mv_core.proofs.kinds.naming.NameRest.{rest_swaps}
 use Rattle.mv_core.proofs.shared.Shared.name_rest.Goals as goal

@@ -4,7 +4,7 @@ use Rattle.mv_core.proofs.Terms.{Checked, Config, Knowledge, config_of}
 use Rattle.mv_core.specs.SectionFacts.{IsWord}
 use Rattle.mv_core.specs.EnterSteps.{stamp_place, stored_if}
 use Rattle.mv_core.specs.Moves.{history_after}
-use Rattle.mv_core.proofs.moves.Grown.{stays}
+use Rattle.mv_core.proofs.moves.LaterHistory.{stays}
 use Rattle.mv_core.proofs.moves.Calls.{won_is, lost_is, no_made}
 use Rattle.mv_core.specs.Passes.{view}
 use Rattle.mv_core.proofs.kinds.helping.stamp.SwapStamp.{names_commit, is_packed, stamp_swaps}

@@ -7,7 +7,7 @@ use Rattle.mv_core.specs.Moves.{history_after}
 use Rattle.mv_core.specs.Passes.{view}
 use Rattle.mv_core.specs.Rule.{Swaps, IsKept}
 use Rattle.mv_core.specs.Known.{RunsOn}
-use Rattle.mv_core.proofs.moves.Grown.{stays}
+use Rattle.mv_core.proofs.moves.LaterHistory.{stays}
 use Rattle.mv_core.proofs.moves.Calls.{won_is, lost_is, no_made}
 use Rattle.mv_core.proofs.kinds.helping.stamp.OwnPlace.{own_place, own_time}
 use Rattle.mv_core.proofs.kinds.helping.stamp.SwapStamp.{stamp_swaps}

@@ -1,6 +1,6 @@
 use Rattle.std.proofs.Common.{◌≡◌, ◌≢◌}
 use Rattle.mv_history.specs.Meaning.{words_at}
-use Rattle.set_script.specs.Catalogue.{Map}
+use Rattle.set_model.specs.Catalogue.{Map}
 use Rattle.tree_set.specs.Leaves.{IsWalk}
 use Rattle.tree_set.specs.Walks.{walk_left}
 use Rattle.tree_set.proofs.leaves.Leaves.next.Given as goal

@@ -1,6 +1,0 @@
-use Rattle.tree_set.proofs.Found.{plant_made}
-use Rattle.tree_set.proofs.writes.plant_writes.Goals as goal
-
-pub returns-clause-writes : goal.returns-clause-writes
-returns-clause-writes c s l e =
-    plant_made s _ _ _ _ l c.requires.root_from c.requires.root_in e

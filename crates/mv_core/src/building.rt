@@ -16,8 +16,8 @@ use std::marker::Brand;
 use std::sync::ledger::Ledger;
 
 impl<P: Protocol> Shared<P> {
-    /// The cell at which the slot of a position of the own log begins, by which `store_built_at` and
-    /// `store_data_at` store the words of the version there. No step is made.
+    /// The cell at which the slot of a position of the own log begins, by which `store_built` and
+    /// `store_data` store the words of the version there. No step is made.
     pub fn own_slot(&self, pass: &Pass<P>, position: u64) -> u32
         requires of { IsOf self.now pass.now }
         ensures { IsOwnSlot (config_of self.now) pass.now position result }
@@ -27,35 +27,14 @@ impl<P: Protocol> Shared<P> {
     }
 
     /// Stores a word into a slot of the own log, which is free or being built, for the pass's next
-    /// position, in an open section. `field` is the word's offset in its slot: one of `FIRST_OFFSET`,
-    /// `STAMP_OFFSET`, `PREV_OFFSET` and `SUPER_OFFSET`, or `DATA_OFFSET + w` for the data word `w`.
+    /// position, in an open section. `slot` is the cell at which the slot begins, as `own_slot` gives it,
+    /// and `field` the word's offset in it: one of `FIRST_OFFSET`, `STAMP_OFFSET`, `PREV_OFFSET` and
+    /// `SUPER_OFFSET`, or `DATA_OFFSET + w` for the data word `w`.
     /// FIRST takes the first position of the write set, STAMP the unset stamp of that position where
     /// this slot is its first, and SUPER takes 0.
     /// The slot is then being built, and the view has what was stored. A position that may be built
     /// fits a link.
     pub fn store_built<L: Ledger>(
-        &self,
-        pass: &mut Pass<P>,
-        position: u64,
-        field: u32,
-        value: u64,
-        steps: &mut Steps<L>,
-    )
-        ghost build: { Build }
-        requires of { IsOf self.now pass.old }
-        requires may { MayStoreBuilt (config_of self.now) (view pass.old) position field value build }
-        ensures same { IsSame pass.old pass.new }
-        ensures view { view pass.new ≡ built_stored (config_of self.now) (view pass.old) position field value build }
-        ensures range { position < 2 ^ 57 }
-        ensures step { steps.new ≡ steps.old + 1 }
-    {
-        let slot = self.own_slot(pass, position);
-        self.store_built_at(pass, position, slot, field, value, steps)
-    }
-
-    /// The step `store_built`, where `slot` is the cell at which the slot of the position begins, as
-    /// `own_slot` gives it.
-    pub fn store_built_at<L: Ledger>(
         &self,
         pass: &mut Pass<P>,
         position: u64,
@@ -77,30 +56,10 @@ impl<P: Protocol> Shared<P> {
         store_as::<P, Brand, L, _>(self, pass, cell, value, &(position, field), steps)
     }
 
-    /// Stores a data word into the own slot of a version that is held, in an open section. No other
-    /// seat reads that word before the commit that the version is of.
+    /// Stores a data word into the own slot of a version that is held, in an open section. `slot` is the
+    /// cell at which that slot begins, as `own_slot` gives it. No other seat reads the word before the
+    /// commit that the version is of.
     pub fn store_data<L: Ledger>(
-        &self,
-        pass: &mut Pass<P>,
-        position: u64,
-        word: u32,
-        value: u64,
-        steps: &mut Steps<L>,
-    )
-        ghost version: { Version }
-        requires of { IsOf self.now pass.old }
-        requires may { MayStoreData (config_of self.now) (view pass.old) position word version }
-        ensures same { IsSame pass.old pass.new }
-        ensures view { view pass.new ≡ data_stored (config_of self.now) (view pass.old) position word value version }
-        ensures step { steps.new ≡ steps.old + 1 }
-    {
-        let slot = self.own_slot(pass, position);
-        self.store_data_at(pass, position, slot, word, value, steps)
-    }
-
-    /// The step `store_data`, where `slot` is the cell at which the slot of the position begins, as
-    /// `own_slot` gives it.
-    pub fn store_data_at<L: Ledger>(
         &self,
         pass: &mut Pass<P>,
         position: u64,

@@ -4,20 +4,19 @@ ghost use Rattle.mv_core.specs.declared.view.OwnSection.{OwnSection};
 ghost use Rattle.mv_core.specs.declared.view.Stand.{Stand};
 ghost use Rattle.mv_core.specs.Passes.{view, IsOf, IsSame, config_of};
 ghost use Rattle.mv_core.specs.Tops.{IsNewer};
-ghost use Rattle.mv_core.specs.WalkSteps.{IsPackedOf, IsLinkOf, IsOwnTop, IsOwnLink, IsLastOwn, IsLastSeen, IsOwnTime, slot_named, MayLoadHead};
+ghost use Rattle.mv_core.specs.WalkSteps.{IsPackedOf, IsLinkOf, IsOwnTop, IsOwnLink, IsLastOwn, IsLastSeen, IsOwnTime, MayLoadHead};
 ghost use Rattle.mv_core.specs.WalkSteps.{head_loaded, MayLoadFirst, first_loaded, MayLoadStamp, StampSays, stamp_loaded, MayLoadPrev, prev_loaded};
 ghost use Rattle.mv_core.specs.WalkSteps.{MayLoadData, data_loaded, MayLoadMaster, master_loaded, words_read, word_read};
 ghost use Rattle.mv_core.specs.Slots.{IsSlotIn, IsSlotLinked};
 ghost use Rattle.mv_layout.specs.Cells.{cell_of};
-ghost use Rattle.mv_layout.specs.Words.{link_seat_of};
-ghost use Rattle.mv_layout.specs.declared.SharedWord.TheVariants.{First, Head};
+ghost use Rattle.mv_layout.specs.declared.SharedWord.TheVariants.{Head};
 
 use crate::shared::{Pass, Shared, load_as};
 use crate::steps::Steps;
 use mv_history::Protocol;
 use mv_layout::{
     DATA_OFFSET, FIRST_OFFSET, PREV_OFFSET, STAMP_OFFSET, head_cell_from, link_position, link_seat,
-    slot_cell, slot_cell_from, slot_of_position,
+    slot_cell_from, slot_of_position,
 };
 use std::marker::Brand;
 use std::sync::ledger::Ledger;
@@ -31,18 +30,18 @@ impl<P: Protocol> Shared<P> {
         head_cell_from(&self.config, self.first_head, object)
     }
 
-    /// The cell at which the slot that a link names begins, by which `load_first_at`, `load_prev_at` and
+    /// The cell at which the slot that a link names begins, by which `load_first`, `load_prev` and
     /// `load_data` load the words of the version there, so that it is found once. No step is made.
     pub fn slot_linked(&self, link: u64) -> u32
         requires { IsPackedOf (config_of self.now) link }
-        ensures { result ≡ cell_of (config_of self.now) (First (link_seat_of link) (slot_named (config_of self.now) link)) }
+        ensures { IsSlotLinked (config_of self.now) link result }
     {
         let slot = slot_of_position(&self.config, link_position(link));
         slot_cell_from(&self.config, self.first_slot, link_seat(link), slot)
     }
 
     /// The cell at which the slot begins of the position `first` in the log that a link names, by which
-    /// `load_stamp_at` loads the STAMP of the write set of the version there. `slot` is the cell of the
+    /// `load_stamp` loads the STAMP of the write set of the version there. `slot` is the cell of the
     /// link's own slot, as `slot_linked` gives it, and is the answer where `first` is the link's own
     /// position. No step is made.
     pub fn slot_of_first(&self, link: u64, slot: u32, first: u64) -> u32
@@ -84,23 +83,9 @@ impl<P: Protocol> Shared<P> {
         load_as::<P, Brand, L, _>(self, pass, cell as usize, &object, steps)
     }
 
-    /// Loads FIRST of the version that the walk stands at: the first position of its write set.
-    pub fn load_first<L: Ledger>(&self, pass: &mut Pass<P>, link: u64, steps: &mut Steps<L>) -> u64
-        ghost stand: { Stand }
-        requires of { IsOf self.now pass.old }
-        requires range { IsPackedOf (config_of self.now) link }
-        requires may { MayLoadFirst (view pass.old) link stand }
-        ensures same { IsSame pass.old pass.new }
-        ensures view { view pass.new ≡ first_loaded (config_of self.now) (view pass.old) stand result }
-        ensures step { steps.new ≡ steps.old + 1 }
-    {
-        let slot = self.slot_linked(link);
-        self.load_first_at(pass, link, slot, steps)
-    }
-
-    /// The step `load_first`, where `slot` is the cell at which the slot of the link begins, as
-    /// `slot_linked` gives it.
-    pub fn load_first_at<L: Ledger>(
+    /// Loads FIRST of the version that the walk stands at: the first position of its write set. `slot` is
+    /// the cell at which the version's slot begins, as `slot_linked` gives it.
+    pub fn load_first<L: Ledger>(
         &self,
         pass: &mut Pass<P>,
         link: u64,
@@ -121,35 +106,12 @@ impl<P: Protocol> Shared<P> {
     }
 
     /// Loads STAMP of the write set of the version that the walk stands at, whose first position
-    /// `first` it found. A word from `2^63` on is unset; else it is the time of the commit, a write of
-    /// the object, and the pass has then seen the history at least up to that time. Below a version
-    /// that the walk has passed it is a time, and a lesser one than that version's. Of a version that
-    /// the own log has as committed it is a time.
+    /// `first` it found. `slot` is the cell at which the slot of `first` begins, as `slot_of_first` gives
+    /// it. A word from `2^63` on is unset; else it is the time of the commit, a write of the object, and
+    /// the pass has then seen the history at least up to that time. Below a version that the walk has
+    /// passed it is a time, and a lesser one than that version's. Of a version that the own log has as
+    /// committed it is a time.
     pub fn load_stamp<L: Ledger>(
-        &self,
-        pass: &mut Pass<P>,
-        link: u64,
-        first: u64,
-        steps: &mut Steps<L>,
-    ) -> u64
-        ghost stand: { Stand }
-        requires of { IsOf self.now pass.old }
-        requires range { IsPackedOf (config_of self.now) link }
-        requires may { MayLoadStamp (view pass.old) link first stand }
-        ensures same { IsSame pass.old pass.new }
-        ensures view { view pass.new ≡ stamp_loaded (config_of self.now) (view pass.old) stand first result (view pass.new).past.seen }
-        ensures says { StampSays (config_of self.now) (view pass.old) stand result (view pass.new).past.seen }
-        ensures own { IsOwnTime (config_of self.now) (view pass.old) link result }
-        ensures step { steps.new ≡ steps.old + 1 }
-    {
-        let index = slot_of_position(&self.config, first);
-        let slot = slot_cell(&self.config, link_seat(link), index);
-        self.load_stamp_at(pass, link, first, slot, steps)
-    }
-
-    /// The step `load_stamp`, where `slot` is the cell at which the slot of `first` begins, as
-    /// `slot_of_first` gives it.
-    pub fn load_stamp_at<L: Ledger>(
         &self,
         pass: &mut Pass<P>,
         link: u64,
@@ -173,25 +135,10 @@ impl<P: Protocol> Shared<P> {
     }
 
     /// Loads PREV of the version that the walk stands at, whose stamp it found to be unset or a time
-    /// above the section's. The word is 0, where the walk then stands at the master, or the link of
-    /// the next older version, where it then stands.
-    pub fn load_prev<L: Ledger>(&self, pass: &mut Pass<P>, link: u64, steps: &mut Steps<L>) -> u64
-        ghost stand: { Stand }
-        requires of { IsOf self.now pass.old }
-        requires range { IsPackedOf (config_of self.now) link }
-        requires may { MayLoadPrev (view pass.old) link stand }
-        ensures same { IsSame pass.old pass.new }
-        ensures view { view pass.new ≡ prev_loaded (config_of self.now) (view pass.old) stand result }
-        ensures link { IsLinkOf (config_of self.now) result }
-        ensures step { steps.new ≡ steps.old + 1 }
-    {
-        let slot = self.slot_linked(link);
-        self.load_prev_at(pass, link, slot, steps)
-    }
-
-    /// The step `load_prev`, where `slot` is the cell at which the slot of the link begins, as
-    /// `slot_linked` gives it.
-    pub fn load_prev_at<L: Ledger>(
+    /// above the section's. `slot` is the cell at which the version's slot begins, as `slot_linked` gives
+    /// it. The word is 0, where the walk then stands at the master, or the link of the next older version,
+    /// where it then stands.
+    pub fn load_prev<L: Ledger>(
         &self,
         pass: &mut Pass<P>,
         link: u64,
@@ -226,7 +173,7 @@ impl<P: Protocol> Shared<P> {
         ghost at: { Stand × OwnSection }
         requires of { IsOf self.now pass.old }
         requires range { IsPackedOf (config_of self.now) link }
-        requires slot { slot ≡ cell_of (config_of self.now) (First (link_seat_of link) (slot_named (config_of self.now) link)) }
+        requires slot { IsSlotLinked (config_of self.now) link slot }
         requires may { MayLoadData (view pass.old) link word at.0 at.1 }
         ensures same { IsSame pass.old pass.new }
         ensures view { view pass.new ≡ data_loaded (config_of self.now) (view pass.old) at.0 word result }

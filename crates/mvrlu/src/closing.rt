@@ -6,7 +6,7 @@ ghost use Rattle.mvrlu.specs.WholeLaws.{IsSound-prop};
 
 use mv_history::{LogTable, Protocol, View, Words};
 use object_lock::mv_core::{Pass, Shared, Steps};
-use object_lock::version_chain::{Found, find, read_master, read_version};
+use object_lock::version_chain::{find, read_master, read_version};
 use std::marker::{Brand, Model};
 use std::sync::ledger::{Blank, Ledger};
 
@@ -40,10 +40,8 @@ fn read_last<P: Protocol, L: Ledger>(last: &mut Last<P>, object: u32, blank: Bla
 {
     let mut steps = Steps::<L>::open(blank);
     match find(&last.shared, &mut last.pass, object, &mut steps) {
-        Found::Master => read_master(&last.shared, &mut last.pass, object, &mut steps),
-        Found::Version { seat, position } => {
-            read_version(&last.shared, &mut last.pass, seat, position, &mut steps)
-        }
+        None => read_master(&last.shared, &mut last.pass, object, &mut steps),
+        Some(at) => read_version(&last.shared, &mut last.pass, at, &mut steps),
     }
 }
 

@@ -12,8 +12,8 @@ use crate::places::Busy;
 use mv_history::{Protocol, Words};
 use object_lock::mv_core::{Shared, Steps};
 use object_lock::version_chain::{
-    find_at, read_master, read_master_four, read_master_pair, read_version_at,
-    read_version_four_at, read_version_pair_at,
+    find, read_master, read_master_four, read_master_pair, read_version, read_version_four,
+    read_version_pair,
 };
 use std::sync::ledger::{Blank, Ledger};
 
@@ -38,9 +38,9 @@ fn read_below<P: Protocol, L: Ledger>(
 {
     let mut steps = Steps::<L>::open(blank);
     let pass = &mut busy.place.pass;
-    match find_at(shared, pass, object, &mut steps) {
+    match find(shared, pass, object, &mut steps) {
         None => read_master(shared, pass, object, &mut steps),
-        Some(at) => read_version_at(shared, pass, at, &mut steps),
+        Some(at) => read_version(shared, pass, at, &mut steps),
     }
 }
 
@@ -93,9 +93,9 @@ fn read_pair_below<P: Protocol, L: Ledger>(
 {
     let mut steps = Steps::<L>::open(blank);
     let pass = &mut busy.place.pass;
-    match find_at(shared, pass, object, &mut steps) {
+    match find(shared, pass, object, &mut steps) {
         None => read_master_pair(shared, pass, object, place, &mut steps),
-        Some(at) => read_version_pair_at(shared, pass, at, place, &mut steps),
+        Some(at) => read_version_pair(shared, pass, at, place, &mut steps),
     }
 }
 
@@ -151,9 +151,9 @@ fn read_four_below<P: Protocol, L: Ledger>(
 {
     let mut steps = Steps::<L>::open(blank);
     let pass = &mut busy.place.pass;
-    match find_at(shared, pass, object, &mut steps) {
+    match find(shared, pass, object, &mut steps) {
         None => read_master_four(shared, pass, object, place, &mut steps),
-        Some(at) => read_version_four_at(shared, pass, at, place, &mut steps),
+        Some(at) => read_version_four(shared, pass, at, place, &mut steps),
     }
 }
 

@@ -9,7 +9,7 @@ use Rattle.mv_history.specs.declared.answers.LockAnswer.TheVariants.{Stale}
 use Rattle.mv_layout.specs.declared.Config.{Config}
 use Rattle.mv_layout.specs.declared.SharedWord.TheVariants.{Head, First, Stamp}
 use Rattle.mv_layout.specs.Places.{place_of}
-use Rattle.mv_layout.specs.Words.{IsUnset, link_of, link_seat_of}
+use Rattle.mv_layout.specs.Words.{IsUnset, link_seat_of}
 use Rattle.seat_log.specs.mv_core.declared.ring.Slot.TheVariants.{Live}
 use Rattle.seat_log.specs.mv_core.declared.ring.WriteSetStatus.{WriteSetStatus}
 use Rattle.seat_log.specs.mv_core.declared.ring.WriteSetStatus.TheVariants.{Committed}
@@ -24,6 +24,7 @@ use Rattle.seat_log.specs.mv_core.Rings.{slot_at, index_of}
 use Rattle.seat_log.specs.mv_core.WalkSteps.{IsLinkOf, IsPackedOf, IsOwnTop, IsOwnTime, IsWriteOf, StampSays}
 use Rattle.seat_log.specs.mv_core.WalkSteps.{slot_named, head_loaded, first_loaded, stamp_loaded}
 use Rattle.seat_log.specs.mv_core.LockSteps.{StandsToLock}
+use Rattle.seat_log.specs.mv_core.Slots.{IsSlotLinked}
 use Rattle.version_chain.specs.Walks.{MayWalk, section_in, stand_of, stand_in, time_at, with_first, StandsAtVersion}
 use Rattle.version_chain.specs.Reads.{words_in, Reads}
 use Rattle.version_chain.proofs.Standing.{stands_here}
@@ -215,17 +216,16 @@ module _ (c : Config) (v w x : Knowledge) (object link found : ℕ) (inside : Ow
   words_there y reads = ap (λ (k : core.WalkStage). words_in c x (stand_of k).object) at_top ∙ sym (ap (λ (u : Knowledge). words_in c u object) reads.rest)
 
   -- a stamp that is a time not above the section's: the words of the version may be read
-  pub version_there : IsPackedOf c link → (seat position : ℕ) → link ≡ link_of seat position → seat < 64 → position < 2 ^ 57 → found ≤ time_at x
-      → StandsAtVersion c x seat position
-  version_there packed seat position is seat_small position_small le =
+  pub version_there : IsPackedOf c link → (slot : ℕ) → IsSlotLinked c link slot → found ≤ time_at x
+      → StandsAtVersion c x (record { link = link; slot = slot })
+  version_there packed slot slot_is le =
       let stand : Stand = record { object = object; link = link; first = Some looked.first; stamp = Some found; passed = Nothing; late = false } in
       let here : stand_in x ≡ stand = ap stand_of at_top in
       record {
         stands = at_top ∙ ap place.At (sym here);
-        link_is = ap (λ (s : Stand). s.link) here ∙ is;
-        packed = subst (λ (s : Stand). IsPackedOf c s.link) (sym here) packed;
-        seat_small = seat_small;
-        position_small = position_small;
+        link_is = ap (λ (s : Stand). s.link) here;
+        packed = packed;
+        slot = slot_is;
         time = found;
         stamp_is = ap (λ (s : Stand). s.stamp) here;
         not_above = le;

@@ -83,7 +83,8 @@ fn lost<P: Protocol, L: Ledger>(
     ensures step { steps.new ≡ steps.old + 2 }
 {
     drop_built(log, position);
-    let stamp = stamp_at(shared, pass, link, steps);
+    let slot = shared.slot_linked(link);
+    let stamp = stamp_at(shared, pass, link, slot, steps);
     if is_unset(stamp) {
         return LockAnswer::Busy {
             seat: link_seat(link),

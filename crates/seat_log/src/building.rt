@@ -38,7 +38,7 @@ fn store_next<P: Protocol, L: Ledger>(
     ensures range { position < 2 ^ 57 }
     ensures step { steps.new ≡ steps.old + 1 }
 {
-    shared.store_built_at(pass, position, slot, field, value, steps);
+    shared.store_built(pass, position, slot, field, value, steps);
 }
 
 // Stores FIRST, and STAMP in the first slot of the write set.
@@ -231,8 +231,8 @@ pub fn put_word<P: Protocol, L: Ledger>(
     ensures rest { ChangesLog (view pass.old) (view pass.new) }
     ensures step { steps.new ≡ steps.old + 1 }
 {
+    let slot = shared.own_slot(pass, position);
     if position == log.freed + log.live.len() as u64 {
-        let slot = shared.own_slot(pass, position);
         store_next(
             shared,
             pass,
@@ -247,7 +247,7 @@ pub fn put_word<P: Protocol, L: Ledger>(
         }
         return;
     }
-    shared.store_data(pass, position, word, value, steps);
+    shared.store_data(pass, position, slot, word, value, steps);
     let at = (position - log.freed) as usize;
     log.live[at].words[word as usize] = value;
 }

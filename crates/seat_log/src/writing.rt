@@ -33,7 +33,7 @@ fn store_held<P: Protocol, L: Ledger>(
     let _ = log;
     let slot = shared.own_slot(pass, position);
     for word in 0..WIDTH {
-        shared.store_data_at(pass, position, slot, word, words[word as usize], steps);
+        shared.store_data(pass, position, slot, word, words[word as usize], steps);
     }
 }
 

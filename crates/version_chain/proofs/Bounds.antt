@@ -15,7 +15,6 @@ use Rattle.mv_core.specs.declared.view.OwnSection.{OwnSection}
 use Rattle.mv_core.specs.WalkSteps.{head_loaded}
 use Rattle.version_chain.specs.declared.walking.Walk.{Walk}
 use Rattle.version_chain.specs.declared.walking.FoundVersion.{FoundVersion}
-use Rattle.version_chain.specs.Slots.{found_of}
 use Rattle.version_chain.specs.Walks.{time_at, stand_in, StandsAt, GoesOn, Walks, Answers, snapshot_length}
 use Rattle.version_chain.proofs.Standing.{stands_here, stand_is}
 
@@ -142,7 +141,7 @@ started_within c v w inside object link at before after is one =
 
 -- and where it ends it has made at most two more
 pub ends_within : (c : Config) (v w : Knowledge) (walk : Walk) (at before here after : ℕ) (found : Option FoundVersion)
-    → WalkedWithin c.base at (length v.past.seen) v.walk before here → Walks v w here after → Answers c v w walk here after (Ok (found_of found))
+    → WalkedWithin c.base at (length v.past.seen) v.walk before here → Walks v w here after → Answers c v w walk here after (Ok found)
     → after ≤ before + (6 + 3 * (length w.past.seen - at))
 ends_within c v w walk at before here after None few walks answers =
     let least = few_steps c.base at (length v.past.seen) v.walk before here few in

@@ -12,8 +12,7 @@ use Rattle.mv_history.specs.declared.StepKind.TheVariants.{LoadHead, LoadFirst, 
 use Rattle.mv_layout.specs.declared.Config.{Config}
 use Rattle.mv_layout.specs.declared.SharedWord.TheVariants.{Head, First, Stamp, Prev}
 use Rattle.mv_layout.specs.Places.{place_of}
-use Rattle.mv_layout.specs.Words.{IsUnset, link_seat_of, link_position_of}
-use Rattle.mv_layout.proofs.Unpacking as unpacking
+use Rattle.mv_layout.specs.Words.{IsUnset, link_seat_of}
 use Rattle.mv_core.specs.declared.view.Knowledge.{Knowledge}
 use Rattle.mv_core.specs.declared.view.OwnSection.{OwnSection}
 use Rattle.mv_core.specs.declared.view.WalkStage as core
@@ -24,6 +23,7 @@ use Rattle.mv_core.specs.Rings.{index_of}
 use Rattle.mv_core.specs.WalkSteps.{IsLinkOf, stand_at, head_loaded, first_loaded, stamp_loaded, prev_loaded, StampSays, slot_named, passed_too}
 use Rattle.mv_core.specs.WalkSteps.{MayLoadFirst, MayLoadStamp, MayLoadPrev}
 use Rattle.version_chain.specs.declared.walking.Walk.{Walk}
+use Rattle.version_chain.specs.declared.walking.FoundVersion.{FoundVersion}
 use Rattle.version_chain.specs.Walks.{section_in, time_at, stand_of, stand_in, StandsAt, IsWalkStep, Walks, EndsAt, GoesOn}
 use Rattle.version_chain.specs.Walks.{with_first, with_stamp, version_looked_at, version_passed, LookSays, MayWalk}
 use Rattle.version_chain.proofs.Going.{walks_on}
@@ -150,14 +150,14 @@ module _ (c : Config) (v w : Knowledge) (link first : ℕ) (may : MayLoadFirst v
         }
 
     -- the walk ends there
-    pub ends_at : (walk : Walk) → walk.link ≡ link → IsLinkOf c link → link ≢ 0 → (time : ℕ) → time ≡ time_at x → found ≤ time
-        → found < 2 ^ 63 → (before here after : ℕ) → here ≡ before + 1 → after ≡ here + 1
-        → EndsAt c v x walk (link_seat_of link) (link_position_of link) × (after ≡ before + 2)
-    ends_at walk is packed ne time time_is le low before here after one two =
+    pub ends_at : (walk : Walk) (at : FoundVersion) → walk.link ≡ link → at.link ≡ link → link ≢ 0 → (time : ℕ) → time ≡ time_at x
+        → found ≤ time → found < 2 ^ 63 → (before here after : ℕ) → here ≡ before + 1 → after ≡ here + 1
+        → EndsAt c v x walk at × (after ≡ before + 2)
+    ends_at walk at is at_is ne time time_is le low before here after one two =
         let same = same_time in (
           record {
             linked = subst (λ (k : ℕ). k ≢ 0) (sym is) ne;
-            link_is = is ∙ unpacking.link_is link (packed ne).0;
+            link_is = is ∙ sym at_is;
             first = first;
             found = found;
             says = told;

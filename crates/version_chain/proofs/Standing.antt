@@ -2,18 +2,16 @@
 use Rattle.std.proofs.Common.{◌≡◌, ◌≢◌, ℕ, ◌<◌, ◌≤◌, Bool, false, if◌then◌else◌, List, sym, ap, ◌∙◌, subst, ne_eqb, Option, Some, None}
 use Rattle.mv_history.specs.declared.Entry.{Entry}
 use Rattle.mv_layout.specs.declared.Config.{Config}
-use Rattle.mv_layout.specs.Words.{link_of}
 use Rattle.mv_core.specs.declared.view.Knowledge.{Knowledge}
 use Rattle.mv_core.specs.declared.view.WalkStage.TheVariants as place
 use Rattle.mv_core.specs.declared.view.Stand.{Stand}
 use Rattle.mv_core.specs.declared.view.Passed.{Passed}
 use Rattle.mv_core.specs.declared.view.Phase.TheVariants.{Inside}
-use Rattle.mv_core.specs.WalkSteps.{IsPackedOf, IsLinkOf, stand_at, first_loaded, stamp_loaded, MayLoadData}
+use Rattle.mv_core.specs.WalkSteps.{IsLinkOf, stand_at, first_loaded, stamp_loaded, MayLoadData}
 use Rattle.mv_history.specs.declared.Step.{Step}
 use Rattle.version_chain.specs.declared.walking.FoundVersion.{FoundVersion}
-use Rattle.version_chain.specs.Slots.{IsLinked, StandsAtSlot, HasFoundSlot}
 use Rattle.mv_core.specs.Slots.{IsSlotLinked}
-use Rattle.version_chain.specs.Walks.{time_at, stand_of, stand_in, section_in, with_first, with_stamp, MayWalk, StandsAtVersion}
+use Rattle.version_chain.specs.Walks.{time_at, stand_of, stand_in, section_in, with_first, with_stamp, MayWalk, StandsAtVersion, HasFound}
 
 -- a walk at a link that isn't 0 stands at the version of that link
 pub stands_here : (v : Knowledge) (object link : ℕ) (passed : Passed) → link ≢ 0 → v.walk ≡ stand_at object link passed false
@@ -42,7 +40,7 @@ module _ (c : Config) (v w x : Knowledge) (object link first found slot : ℕ) (
 
   -- a walk that ends at a version stands at it
   pub found_here : w ≡ first_loaded c v (stand_in v) first → x ≡ stamp_loaded c w (stand_in w) first found seen → (time : ℕ) → time ≡ time_at x → found ≤ time
-      → IsSlotLinked c link slot → HasFoundSlot c x object (Some (record { link = link; slot = slot }))
+      → IsSlotLinked c link slot → HasFound c x object (Some (record { link = link; slot = slot }))
   found_here firsts stamps time time_is not_above slot_is =
       let is = looked_is firsts stamps in
       let stand : stand_in x ≡ looked = ap stand_of is in (
@@ -58,26 +56,8 @@ module _ (c : Config) (v w x : Knowledge) (object link first found slot : ℕ) (
         ap (λ (s : Stand). s.object) stand,
       )
 
--- and one of a seat and a position is at the cell of its slot
-pub slot_here : (c : Config) (v : Knowledge) (seat position link slot : ℕ) → StandsAtVersion c v seat position → link ≡ link_of seat position
-    → IsSlotLinked c link slot → StandsAtSlot c v (record { link = link; slot = slot })
-slot_here c v seat position link slot here is slot_is = record {
-  stands = here.stands;
-  link_is = here.link_is ∙ sym is;
-  packed = subst (IsPackedOf c) (here.link_is ∙ sym is) here.packed;
-  slot = slot_is;
-  time = here.time;
-  stamp_is = here.stamp_is;
-  not_above = here.not_above;
-}
-
--- and its link is a packed one
-pub linked_here : (c : Config) (v : Knowledge) (object : ℕ) (found : Option FoundVersion) → HasFoundSlot c v object found → IsLinked found
-linked_here c v object None here = tt
-linked_here c v object (Some at) here = here.0.packed.0
-
 -- after a load that only joins the trail a further word of the version may be loaded
-pub may_data : (c : Config) (v x : Knowledge) (at : FoundVersion) (word : ℕ) (steps : List Step) → MayWalk v → StandsAtSlot c v at
+pub may_data : (c : Config) (v x : Knowledge) (at : FoundVersion) (word : ℕ) (steps : List Step) → MayWalk v → StandsAtVersion c v at
     → x ≡ record v { trail = steps } → word < 6 → MayLoadData x at.link word (stand_in x) (section_in x)
 may_data c v x at word steps may here so lt = record {
   phase = ap (λ (u : Knowledge). u.phase) so ∙ may.phase ∙ ap Inside (sym (ap section_in so));

@@ -1,12 +1,12 @@
 -- Walks down a version chain: what the calls need of a view, where they put the walk, and what they leave.
 use Rattle.std.specs.Prelude.{◌≡◌, ◌≢◌, ◌⊎◌, ℕ, ◌+◌, ◌-◌, ◌<◌, ◌≤◌, ◌^◌, false, List, ◌++◌, length, All}
-use Rattle.std.specs.Prelude.{Some, None, Result, Ok, Err}
+use Rattle.std.specs.Prelude.{Option, Some, None, Result, Ok, Err}
 use Rattle.mv_history.specs.declared.Entry.{Entry}
 use Rattle.mv_history.specs.declared.Step.{Step}
 use Rattle.mv_history.specs.declared.StepKind.{StepKind}
 use Rattle.mv_history.specs.declared.StepKind.TheVariants.{LoadHead, LoadFirst, LoadStamp, LoadPrev}
 use Rattle.mv_layout.specs.declared.Config.{Config}
-use Rattle.mv_layout.specs.Words.{IsUnset, link_of}
+use Rattle.mv_layout.specs.Words.{IsUnset}
 use Rattle.mv_core.specs.declared.view.Knowledge.{Knowledge}
 use Rattle.mv_core.specs.declared.view.Phase.{Phase}
 use Rattle.mv_core.specs.declared.view.Phase.TheVariants.{Inside}
@@ -18,10 +18,10 @@ use Rattle.mv_core.specs.declared.view.Stand.{Stand}
 use Rattle.mv_core.specs.declared.view.Passed.TheVariants.{Nothing}
 use Rattle.mv_core.specs.Views.{time_in}
 use Rattle.mv_core.specs.HistoryFacts.{BeginsWith}
+use Rattle.mv_core.specs.Slots.{IsSlotLinked}
 use Rattle.mv_core.specs.WalkSteps.{IsPackedOf, IsLinkOf, IsWalking, stand_at, first_loaded, StampSays, stamp_loaded, prev_loaded}
 use Rattle.version_chain.specs.declared.walking.Walk.{Walk}
-use Rattle.version_chain.specs.declared.walking.Found.{Found}
-use Rattle.version_chain.specs.declared.walking.Found.TheVariants.{Master, Version}
+use Rattle.version_chain.specs.declared.walking.FoundVersion.{FoundVersion}
 
 -- the section of a phase; it tells nothing of a phase outside one
 abbrev pub inside_of : Phase → OwnSection
@@ -54,21 +54,20 @@ pub record StandsAt (c : Config) (v : Knowledge) (walk : Walk) : Type 0 where
   pub link : IsLinkOf c walk.link
   pub stands : v.walk ≡ stand_at walk.object walk.link (stand_in v).passed false
 
--- the walk stands at the version of this seat at this position, whose stamp it found to be a time not above the section's
-pub record StandsAtVersion (c : Config) (v : Knowledge) (seat position : ℕ) : Type 0 where
+-- the walk stands at this version, whose stamp it found to be a time not above the section's, and the cell is that of its slot
+pub record StandsAtVersion (c : Config) (v : Knowledge) (at : FoundVersion) : Type 0 where
   pub stands : v.walk ≡ place.At (stand_in v)
-  pub link_is : (stand_in v).link ≡ link_of seat position
-  pub packed : IsPackedOf c (stand_in v).link
-  pub seat_small : seat < 64
-  pub position_small : position < 2 ^ 57
+  pub link_is : (stand_in v).link ≡ at.link
+  pub packed : IsPackedOf c at.link
+  pub slot : IsSlotLinked c at.link at.slot
   pub time : ℕ
   pub stamp_is : (stand_in v).stamp ≡ Some time
   pub not_above : time ≤ time_at v
 
 -- the walk stands at what was found for the object
-abbrev pub HasFound : Config → Knowledge → ℕ → Found → Type 0
-HasFound c v object Master = v.walk ≡ place.Master object
-HasFound c v object (Version seat position) = StandsAtVersion c v seat position × ((stand_in v).object ≡ object)
+abbrev pub HasFound : Config → Knowledge → ℕ → Option FoundVersion → Type 0
+HasFound c v object None = v.walk ≡ place.Master object
+HasFound c v object (Some at) = StandsAtVersion c v at × ((stand_in v).object ≡ object)
 
 -- a kind of step of a walk
 abbrev pub IsWalkStep : StepKind → Type 0
@@ -108,9 +107,9 @@ version_passed c v first found seen link =
     prev_loaded c (version_looked_at c v first found seen) (with_stamp (stand_in v) first found) link
 
 -- the walk ends at this version: its stamp is a time not above the section's
-pub record EndsAt (c : Config) (v w : Knowledge) (walk : Walk) (seat position : ℕ) : Type 0 where
+pub record EndsAt (c : Config) (v w : Knowledge) (walk : Walk) (at : FoundVersion) : Type 0 where
   pub linked : walk.link ≢ 0
-  pub link_is : walk.link ≡ link_of seat position
+  pub link_is : walk.link ≡ at.link
   pub first : ℕ
   pub found : ℕ
   pub says : LookSays c v first found w.past.seen
@@ -129,13 +128,13 @@ pub record GoesOn (c : Config) (v w : Knowledge) (walk on : Walk) : Type 0 where
   pub later : IsUnset found ⊎ (time_at v < found)
 
 -- what a look at one link answers, and how many steps it makes: none at link 0, and else two or three
-abbrev pub Answers : Config → Knowledge → Knowledge → Walk → ℕ → ℕ → Result Found Walk → Type 0
-Answers c v w walk before after (Ok Master) = (walk.link ≡ 0) × (w ≡ v) × (after ≡ before)
-Answers c v w walk before after (Ok (Version seat position)) = EndsAt c v w walk seat position × (after ≡ before + 2)
+abbrev pub Answers : Config → Knowledge → Knowledge → Walk → ℕ → ℕ → Result (Option FoundVersion) Walk → Type 0
+Answers c v w walk before after (Ok None) = (walk.link ≡ 0) × (w ≡ v) × (after ≡ before)
+Answers c v w walk before after (Ok (Some at)) = EndsAt c v w walk at × (after ≡ before + 2)
 Answers c v w walk before after (Err on) = GoesOn c v w walk on × (after ≡ before + 3)
 
 -- where that puts the walk
-abbrev pub IsPutAt : Config → Knowledge → Walk → Result Found Walk → Type 0
+abbrev pub IsPutAt : Config → Knowledge → Walk → Result (Option FoundVersion) Walk → Type 0
 IsPutAt c w walk (Ok found) = HasFound c w walk.object found
 IsPutAt c w walk (Err on) = StandsAt c w on
 

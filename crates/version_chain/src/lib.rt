@@ -22,9 +22,6 @@
 //! length of the section's snapshot. A reader makes six, one of two words two, and one of four words four. The trail
 //! grows by as many records.
 //!
-//! `walk_step_at`, `find_at` and the readers that end in `_at` make the same steps, and carry the cell
-//! at which the version's slot begins, so that the slot is found once.
-//!
 //! All calls need a pass inside a section, in its open phase, past its help, with no write-back
 //! under way. They change where the walk stands, and what the seat has seen is only longer; all
 //! else that the view says stays.
@@ -36,7 +33,7 @@ mod reading;
 mod walking;
 
 pub use reading::{
-    read_master, read_master_four, read_master_pair, read_version, read_version_at,
-    read_version_four_at, read_version_pair, read_version_pair_at,
+    read_master, read_master_four, read_master_pair, read_version, read_version_four,
+    read_version_pair,
 };
-pub use walking::{Found, FoundVersion, Walk, find, find_at, walk_start, walk_step, walk_step_at};
+pub use walking::{FoundVersion, Walk, find, walk_start, walk_step};

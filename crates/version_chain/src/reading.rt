@@ -8,42 +8,18 @@ ghost use Rattle.mv_core.specs.declared.view.WalkStage.TheVariants as walk;
 ghost use Rattle.mv_core.specs.Passes.{view, IsOf, IsSame, config_of};
 ghost use Rattle.version_chain.specs.Walks.{MayWalk, StandsAtVersion, stand_in};
 ghost use Rattle.version_chain.specs.Reads.{Reads, ReadsSome, words_in};
-ghost use Rattle.version_chain.specs.Slots.{StandsAtSlot};
 
 use crate::walking::FoundVersion;
 use mv_core::{Pass, Shared, Steps};
 use mv_history::{Protocol, WORDS, Words};
-use mv_layout::{WIDTH, link_word};
+use mv_layout::WIDTH;
 use std::sync::ledger::Ledger;
 
-/// Reads the six words of the version at this position of this seat's log, where the pass stands and
-/// found a stamp that is a time not above the section's. They are the object's words in the state of
-/// the section's time. It makes six steps; the pass stands there still.
+/// Reads the six words of the version that `find` has found, where the pass stands and found a stamp that
+/// is a time not above the section's. They are the object's words in the state of the section's time. It
+/// makes six steps; the pass stands there still.
 #[inline(always)]
 pub fn read_version<P: Protocol, L: Ledger>(
-    shared: &Shared<P>,
-    pass: &mut Pass<P>,
-    seat: u32,
-    position: u64,
-    steps: &mut Steps<L>,
-) -> Words
-    requires of { IsOf shared.now pass.old }
-    requires may { MayWalk (view pass.old) }
-    requires stands { StandsAtVersion (config_of shared.now) (view pass.old) seat position }
-    ensures same { IsSame pass.old pass.new }
-    ensures may { MayWalk (view pass.new) }
-    ensures words { result ≡ words_in (config_of shared.now) (view pass.old) (stand_in (view pass.old)).object }
-    ensures reads { Reads LoadData (view pass.old) (view pass.new) }
-    ensures cost { steps.new ≡ steps.old + 6 }
-{
-    let link = link_word(seat, position);
-    let slot = shared.slot_linked(link);
-    read_version_at(shared, pass, FoundVersion { link, slot }, steps)
-}
-
-/// Reads the six words of the version that `find_at` has found, as `read_version` does.
-#[inline(always)]
-pub fn read_version_at<P: Protocol, L: Ledger>(
     shared: &Shared<P>,
     pass: &mut Pass<P>,
     at: FoundVersion,
@@ -51,7 +27,7 @@ pub fn read_version_at<P: Protocol, L: Ledger>(
 ) -> Words
     requires of { IsOf shared.now pass.old }
     requires may { MayWalk (view pass.old) }
-    requires stands { StandsAtSlot (config_of shared.now) (view pass.old) at }
+    requires stands { StandsAtVersion (config_of shared.now) (view pass.old) at }
     ensures same { IsSame pass.old pass.new }
     ensures may { MayWalk (view pass.new) }
     ensures words { result ≡ words_in (config_of shared.now) (view pass.old) (stand_in (view pass.old)).object }
@@ -98,39 +74,13 @@ pub fn read_master<P: Protocol, L: Ledger>(
 pub fn read_version_pair<P: Protocol, L: Ledger>(
     shared: &Shared<P>,
     pass: &mut Pass<P>,
-    seat: u32,
-    position: u64,
-    place: u32,
-    steps: &mut Steps<L>,
-) -> (u64, u64)
-    requires of { IsOf shared.now pass.old }
-    requires may { MayWalk (view pass.old) }
-    requires stands { StandsAtVersion (config_of shared.now) (view pass.old) seat position }
-    requires place { place < 5 }
-    ensures same { IsSame pass.old pass.new }
-    ensures may { MayWalk (view pass.new) }
-    ensures first { result.0 ≡ slice_index (words_in (config_of shared.now) (view pass.old) (stand_in (view pass.old)).object) place }
-    ensures second { result.1 ≡ slice_index (words_in (config_of shared.now) (view pass.old) (stand_in (view pass.old)).object) (place + 1) }
-    ensures reads { ReadsSome LoadData 2 (view pass.old) (view pass.new) }
-    ensures cost { steps.new ≡ steps.old + 2 }
-{
-    let link = link_word(seat, position);
-    let slot = shared.slot_linked(link);
-    read_version_pair_at(shared, pass, FoundVersion { link, slot }, place, steps)
-}
-
-/// Reads two words of the version that `find_at` has found, as `read_version_pair` does.
-#[inline(always)]
-pub fn read_version_pair_at<P: Protocol, L: Ledger>(
-    shared: &Shared<P>,
-    pass: &mut Pass<P>,
     at: FoundVersion,
     place: u32,
     steps: &mut Steps<L>,
 ) -> (u64, u64)
     requires of { IsOf shared.now pass.old }
     requires may { MayWalk (view pass.old) }
-    requires stands { StandsAtSlot (config_of shared.now) (view pass.old) at }
+    requires stands { StandsAtVersion (config_of shared.now) (view pass.old) at }
     requires place { place < 5 }
     ensures same { IsSame pass.old pass.new }
     ensures may { MayWalk (view pass.new) }
@@ -170,10 +120,9 @@ pub fn read_master_pair<P: Protocol, L: Ledger>(
     (first, shared.load_master(pass, object, place + 1, steps))
 }
 
-/// Reads four words of the version that `find_at` has found, from this place on, of the six that
-/// `read_version` reads, on the same condition. It makes four steps; the pass stands there still.
+/// Reads four words of the version, from this place on, of the six that `read_version` reads, on the same condition. It makes four steps; the pass stands there still.
 #[inline(always)]
-pub fn read_version_four_at<P: Protocol, L: Ledger>(
+pub fn read_version_four<P: Protocol, L: Ledger>(
     shared: &Shared<P>,
     pass: &mut Pass<P>,
     at: FoundVersion,
@@ -182,7 +131,7 @@ pub fn read_version_four_at<P: Protocol, L: Ledger>(
 ) -> [u64; 4]
     requires of { IsOf shared.now pass.old }
     requires may { MayWalk (view pass.old) }
-    requires stands { StandsAtSlot (config_of shared.now) (view pass.old) at }
+    requires stands { StandsAtVersion (config_of shared.now) (view pass.old) at }
     requires place { place < 3 }
     ensures same { IsSame pass.old pass.new }
     ensures may { MayWalk (view pass.new) }
@@ -190,8 +139,8 @@ pub fn read_version_four_at<P: Protocol, L: Ledger>(
     ensures reads { ReadsSome LoadData 4 (view pass.old) (view pass.new) }
     ensures cost { steps.new ≡ steps.old + 4 }
 {
-    let (first, second) = read_version_pair_at(shared, pass, at, place, steps);
-    let (third, fourth) = read_version_pair_at(shared, pass, at, place + 2, steps);
+    let (first, second) = read_version_pair(shared, pass, at, place, steps);
+    let (third, fourth) = read_version_pair(shared, pass, at, place + 2, steps);
     [first, second, third, fourth]
 }
 

@@ -8,8 +8,8 @@ use Rattle.object_lock.specs.version_chain.Reads.{words_in}
 use Rattle.object_lock.proofs.seat_log_lemmas.OwnSlots.{same_on, of_still}
 use Rattle.mvrlu.proofs.closing.read_last.Goals as goal
 
-pub returns-in-Master-clause-still : goal.returns-in-Master-clause-still
-returns-in-Master-clause-still g c =
+pub returns-in-None-clause-still : goal.returns-in-None-clause-still
+returns-in-None-clause-still g c =
     let d = config_of c.last.inside.shared in
     let ts = c.last.inside.tables.items in
     let v = view c.last.inside.pass in
@@ -51,7 +51,7 @@ read_master-requires-clause-range g c =
     (subst (λ (x : Whole). c.args.object < length x.start) (sym c.last.view_is) c.requires.range)
 
 pub read_master-requires-clause-stands : goal.read_master-requires-clause-stands
-read_master-requires-clause-stands g c = c.in-Master.ensures.found
+read_master-requires-clause-stands g c = c.in-None.ensures.found
 
 pub invariant_of-last : goal.invariant_of-last
 invariant_of-last g c =
@@ -62,8 +62,8 @@ invariant_of-last g c =
     (same_on c.last.inside.pass c.find.new.pass c.read_master.new.pass c.find.ensures.same c.read_master.ensures.same) c.last.invariant k
     c.read_master.ensures.may
 
-pub returns-in-Master-clause-words : goal.returns-in-Master-clause-words
-returns-in-Master-clause-words g c =
+pub returns-in-None-clause-words : goal.returns-in-None-clause-words
+returns-in-None-clause-words g c =
     let d = config_of c.last.inside.shared in
     let ts = c.last.inside.tables.items in
     let v = view c.last.inside.pass in
@@ -80,10 +80,10 @@ pub read_version-requires-clause-may : goal.read_version-requires-clause-may
 read_version-requires-clause-may g c = c.find.ensures.may
 
 pub read_version-requires-clause-stands : goal.read_version-requires-clause-stands
-read_version-requires-clause-stands g c = c.in-Version.ensures.found.0
+read_version-requires-clause-stands g c = c.in-Some.ensures.found.0
 
-pub invariant_of-last-in-Version : goal.invariant_of-last-in-Version
-invariant_of-last-in-Version g c =
+pub invariant_of-last-in-Some : goal.invariant_of-last-in-Some
+invariant_of-last-in-Some g c =
     let k : Looks (view c.last.inside.pass) (view c.read_version.new.pass) = looked LoadData (view c.last.inside.pass) (view c.find.new.pass)
     (view c.read_version.new.pass) tt
     (walked (view c.last.inside.pass) (view c.find.new.pass) _ _ c.find.ensures.walks) c.read_version.ensures.reads in
@@ -98,6 +98,6 @@ returns-clause-words g c =
     let v = view c.last.inside.pass in
     let w = view c.find.new.pass in
     let k : Looks v w = walked v w _ _ c.find.ensures.walks in
-    c.read_version.ensures.words ∙ ap (words_in (config_of c.last.inside.shared) (view c.find.new.pass)) c.in-Version.ensures.found.1
+    c.read_version.ensures.words ∙ ap (words_in (config_of c.last.inside.shared) (view c.find.new.pass)) c.in-Some.ensures.found.1
     ∙ reads_last d ts v w c.args.object c.last.invariant.of.2 (looks_still v w k c.last.invariant.seen d ts)
     ∙ ap (λ (x : Whole). words_at (last_state x) c.args.object) c.last.view_is

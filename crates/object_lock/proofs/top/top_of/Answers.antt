@@ -1,7 +1,6 @@
 use Rattle.std.proofs.Common.{◌≡◌, ℕ, ◌+◌, ◌<◌, ◌^◌, [], refl, sym, ◌∙◌, subst, arith, ap, inl}
 use Rattle.mv_history.specs.declared.StepKind.TheVariants.{LoadData, LoadMaster}
 use Rattle.std.specs.Prelude.{unwrap_or}
-use Rattle.mv_layout.specs.Words.{link_of}
 use Rattle.seat_log.specs.mv_core.Passes.{view, config_of}
 use Rattle.version_chain.specs.Walks.{section_in}
 use Rattle.object_lock.proofs.Looks.{held_elsewhere, version_there, stands_to_lock, stands_at_lock, words_there}
@@ -31,19 +30,10 @@ returns-then-is_unset-clause-answers g c =
 
 pub read_version-requires-clause-stands : goal.read_version-requires-clause-stands
 read_version-requires-clause-stands g c =
-    let config = config_of c.args.shared.now in
     let x = view c.stamp_at-stamp.new.pass in
-    let link = c.load_head-link.result in
-    let packed = c.load_head-link.ensures.link c.if-link-eq0.false in
-    let high = packed.0.0 in
-    let low = packed.0.1 in
-    let seat = c.link_seat-seat.ensures in
-    let position = c.link_position-position.ensures in
-    let link_is : link ≡ link_of c.link_seat-seat.result c.link_position-position.result = omega arith in
-    let seat_small : c.link_seat-seat.result < 64 = omega arith in
-    let position_small : c.link_position-position.result < 2 ^ 57 = omega arith in
-    version_there config (view c.args.pass.now) (view c.load_head-link.new.pass) x c.args.object link _ (section_in (view c.args.pass.now))
-    c.if-link-eq0.false c.load_head-link.ensures.view c.stamp_at-stamp.ensures.looked packed _ _ link_is seat_small position_small
+    version_there (config_of c.args.shared.now) (view c.args.pass.now) (view c.load_head-link.new.pass) x c.args.object c.load_head-link.result _
+    (section_in (view c.args.pass.now)) c.if-link-eq0.false c.load_head-link.ensures.view c.stamp_at-stamp.ensures.looked
+    (c.load_head-link.ensures.link c.if-link-eq0.false) c.slot_linked-slot.result c.slot_linked-slot.ensures
     (let t = c.if-stamp-time.false in let at = c.time.ensures (section_in x) c.stamp_at-stamp.ensures.may.phase in omega arith)
 
 pub returns-clause-answers : goal.returns-clause-answers

@@ -45,8 +45,11 @@ store_data-requires g c =
         in_lives.1,
         (
           c.requires.of,
-          may_word (config_of c.args.shared.now) (view c.args.pass.now) c.args.log.now c.args.position c.args.word c.args.value c.requires.stands held
-              c.requires.open c.requires.range,
+          (
+            c.own_slot-slot.ensures,
+            may_word (config_of c.args.shared.now) (view c.args.pass.now) c.args.log.now c.args.position c.args.word c.args.value c.requires.stands held
+                c.requires.open c.requires.range,
+          ),
         ),
       ),
     )

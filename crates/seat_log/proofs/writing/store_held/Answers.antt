@@ -16,8 +16,8 @@ loop-word-init g c = (
   omega arith,
 )
 
-pub store_data_at-requires : goal.store_data_at-requires
-store_data_at-requires g c =
+pub store_data-requires : goal.store_data-requires
+store_data-requires g c =
     let config = config_of c.args.shared.now in
     let v = view c.args.pass.now in
     let w = view c.loop-word.pass in
@@ -46,14 +46,14 @@ loop-word-preserved g c =
     let w = view c.loop-word.pass in
     let i = c.loop-word.invariant in
     let a = i.0 in
-    let b = c.store_data_at.ensures.same in
+    let b = c.store_data.ensures.same in
     let was = i.4 in
-    let step = c.store_data_at.ensures.step in (
+    let step = c.store_data.ensures.step in (
       (b.0 ∙ a.0, b.1 ∙ a.1, b.2 ∙ a.2, b.3 ∙ a.3, b.4 ∙ a.4, b.5 ∙ a.5),
-      one_put config v w (view c.store_data_at.new.pass) c.args.position c.loop-word.word c.args.words.now i.1 c.store_data_at.ensures.view,
-      one_noted config v w c.args.log.now c.args.position c.loop-word.word c.args.words.now c.requires.held i.2 (view c.store_data_at.new.pass)
-          c.store_data_at.ensures.view,
-      own_still config c.args.position c.own_slot-slot.result c.loop-word.pass c.store_data_at.new.pass b i.3,
+      one_put config v w (view c.store_data.new.pass) c.args.position c.loop-word.word c.args.words.now i.1 c.store_data.ensures.view,
+      one_noted config v w c.args.log.now c.args.position c.loop-word.word c.args.words.now c.requires.held i.2 (view c.store_data.new.pass)
+          c.store_data.ensures.view,
+      own_still config c.args.position c.own_slot-slot.result c.loop-word.pass c.store_data.new.pass b i.3,
       omega arith,
     )
 

@@ -11,5 +11,5 @@ invariant-loop-word g l =
     × Stands (config_of l.shared) (view l.pass) (some_noted l.log l.position l.words l.word)
     × IsOwnSlot (config_of l.shared) l.pass l.position l.slot × (l.steps ≡ l.initial.steps + l.word)
 
-abbrev pub ghost-store_data_at : goal.ghost-store_data_at
-ghost-store_data_at g a = version_at (config_of a.self.now) (view a.pass.now) a.position
+abbrev pub ghost-store_data : goal.ghost-store_data
+ghost-store_data g a = version_at (config_of a.self.now) (view a.pass.now) a.position

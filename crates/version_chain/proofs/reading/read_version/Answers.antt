@@ -7,7 +7,7 @@ use Rattle.version_chain.specs.Reads.{words_in}
 use Rattle.version_chain.proofs.Going.{of_still, may_read_on}
 use Rattle.version_chain.proofs.Standing.{may_data}
 use Rattle.version_chain.proofs.SoFar.{read_one, read_all}
-use Rattle.version_chain.proofs.reading.read_version_at.Goals as goal
+use Rattle.version_chain.proofs.reading.read_version.Goals as goal
 
 pub loop-word-preserved : goal.loop-word-preserved
 loop-word-preserved g c =

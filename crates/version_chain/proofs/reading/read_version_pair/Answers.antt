@@ -6,7 +6,7 @@ use Rattle.version_chain.specs.Reads.{words_in}
 use Rattle.version_chain.specs.Walks.{stand_in}
 use Rattle.version_chain.proofs.Going.{same_on, of_still, may_loaded, reads_two, read_still}
 use Rattle.version_chain.proofs.Standing.{may_data}
-use Rattle.version_chain.proofs.reading.read_version_pair_at.Goals as goal
+use Rattle.version_chain.proofs.reading.read_version_pair.Goals as goal
 
 pub load_data-requires : goal.load_data-requires
 load_data-requires g c lives within =

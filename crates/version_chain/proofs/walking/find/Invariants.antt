@@ -2,7 +2,7 @@ use Rattle.std.proofs.Common.{◌≡◌, length}
 use Rattle.mv_core.specs.Passes.{view, IsSame, config_of}
 use Rattle.version_chain.specs.Walks.{StandsAt, Walks, snapshot_length}
 use Rattle.version_chain.proofs.Bounds.{WalkedWithin, walk_left}
-use Rattle.version_chain.proofs.walking.find_at.Given as goal
+use Rattle.version_chain.proofs.walking.find.Given as goal
 
 abbrev pub invariant-versions : goal.invariant-versions
 invariant-versions g l =

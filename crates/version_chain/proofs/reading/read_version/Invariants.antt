@@ -3,7 +3,7 @@ use Rattle.mv_core.specs.Passes.{view, IsSame, config_of}
 use Rattle.version_chain.specs.Walks.{section_in, stand_in}
 use Rattle.version_chain.specs.Reads.{words_in}
 use Rattle.version_chain.proofs.SoFar.{HasRead}
-use Rattle.version_chain.proofs.reading.read_version_at.Given as goal
+use Rattle.version_chain.proofs.reading.read_version.Given as goal
 
 abbrev pub ghost-load_data : goal.ghost-load_data
 ghost-load_data g a = (stand_in (view a.pass.now), section_in (view a.pass.now))

@@ -1,6 +1,6 @@
 use Rattle.std.proofs.Common.{refl}
 use Rattle.mv_core.proofs.kinds.walking.LoadPrev.{prev_loads}
-use Rattle.mv_core.proofs.shared.Shared.load_prev_at.Goals as goal
+use Rattle.mv_core.proofs.shared.Shared.load_prev.Goals as goal
 
 pub load_as-requires-clause-rule : goal.load_as-requires-clause-rule
 load_as-requires-clause-rule g c = prev_loads _ _ _ _ _ c.args.link g.stand c.requires.1.1.1.1.1

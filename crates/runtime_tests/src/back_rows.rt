@@ -7,6 +7,7 @@ use crate::moves::Move::{
     Abort, BackFinish, BackStart, BackWord, Commit, Enter, Leave, Lock, LockEnd, LockStart, Read,
     ReadFound, Round, Table, Tidy, WalkStart, WalkStep, Write,
 };
+use crate::moves::Found;
 use crate::{SMALL, Schedule, play_schedules};
 use log_reclaim::BackEnd::Cut;
 use log_reclaim::NoBack::{Above, Gone, Young};
@@ -14,7 +15,6 @@ use mv_history::Holder::{Fresh, Mark};
 use mv_history::LogTable;
 use mv_layout::Config;
 use std::test::Fail;
-use version_chain::Found;
 
 const DOMAIN: Config = Config { seats: 2, ..SMALL };
 

@@ -4,7 +4,7 @@ use mv_core::Pass;
 use mv_history::AnyRules;
 use object_lock::StartedLock;
 use seat_log::Log;
-use version_chain::{Found, Walk};
+use version_chain::{FoundVersion, Walk};
 
 /// How far a client has come, as it knows it at run time.
 #[derive(Clone, Copy)]
@@ -38,7 +38,7 @@ pub(crate) enum UnderWay {
     /// A walk over this object.
     Walking(u32, Walk),
     /// What a walk over this object ended at, and the client hasn't read.
-    Ended(u32, Found),
+    Ended(u32, Option<FoundVersion>),
     /// A write-back, of which so many words were stored.
     WriteBack(StartedWriteBack, u32),
 }

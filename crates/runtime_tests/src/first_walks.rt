@@ -15,8 +15,8 @@ use std::marker::Brand;
 use std::sync::ledger::{Blank, Ledger};
 use std::test::Fail;
 use version_chain::{
-    Found, find, find_at, read_master, read_master_four, read_master_pair, read_version,
-    read_version_four_at, read_version_pair, walk_start, walk_step,
+    find, read_master, read_master_four, read_master_pair, read_version, read_version_four,
+    read_version_pair, walk_start, walk_step,
 };
 
 // Enters where the clock names no commit, in three steps.
@@ -55,7 +55,7 @@ fn read_empty<L: Ledger>(
 {
     let walk = walk_start(shared, pass, object, steps);
     match walk_step(shared, pass, walk, steps) {
-        Ok(Found::Master) => Some(read_master(shared, pass, object, steps)),
+        Ok(None) => Some(read_master(shared, pass, object, steps)),
         _ => None,
     }
 }
@@ -75,8 +75,8 @@ fn read<L: Ledger>(
     ensures words { result ≡ words_in (config_of shared.now) (view pass.new) object }
 {
     match find(shared, pass, object, steps) {
-        Found::Master => read_master(shared, pass, object, steps),
-        Found::Version { seat, position } => read_version(shared, pass, seat, position, steps),
+        None => read_master(shared, pass, object, steps),
+        Some(at) => read_version(shared, pass, at, steps),
     }
 }
 
@@ -96,10 +96,8 @@ fn read_pair<L: Ledger>(
     ensures may { MayWalk (view pass.new) }
 {
     match find(shared, pass, object, steps) {
-        Found::Master => read_master_pair(shared, pass, object, place, steps),
-        Found::Version { seat, position } => {
-            read_version_pair(shared, pass, seat, position, place, steps)
-        }
+        None => read_master_pair(shared, pass, object, place, steps),
+        Some(at) => read_version_pair(shared, pass, at, place, steps),
     }
 }
 
@@ -116,9 +114,9 @@ fn read_four<L: Ledger>(
     requires range { object < (config_of shared.now).objects }
     requires place { place < 3 }
 {
-    match find_at(shared, pass, object, steps) {
+    match find(shared, pass, object, steps) {
         None => read_master_four(shared, pass, object, place, steps),
-        Some(at) => read_version_four_at(shared, pass, at, place, steps),
+        Some(at) => read_version_four(shared, pass, at, place, steps),
     }
 }
 

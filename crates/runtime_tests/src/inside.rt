@@ -16,14 +16,14 @@ use object_lock::{holds, lock, lock_start, lock_with, write};
 use reader_marks::leave;
 use seat_log::held;
 use std::sync::ledger::Ledger;
-use version_chain::{Found, find, read_master, read_version};
+use version_chain::{FoundVersion, find, read_master, read_version};
 
 // Reads an object where a walk has found it.
 pub(crate) fn read_found<L: Ledger>(
     shared: &Shared<AnyRules>,
     client: &mut Client,
     object: u32,
-    found: Found,
+    found: Option<FoundVersion>,
     steps: &mut Steps<L>,
 ) -> Answer
     requires ready { IsReady shared.now client.old }
@@ -37,8 +37,8 @@ pub(crate) fn read_found<L: Ledger>(
     };
     let pass = &mut client.pass;
     Answer::Words(match found {
-        Found::Master => read_master(shared, pass, object, steps),
-        Found::Version { seat, position } => read_version(shared, pass, seat, position, steps),
+        None => read_master(shared, pass, object, steps),
+        Some(at) => read_version(shared, pass, at, steps),
     })
 }
 

@@ -1,4 +1,6 @@
 // What a client may do next, and what it is answered.
+ghost use Rattle.std.specs.Prelude.{IfSome};
+ghost use Rattle.mv_layout.specs.Words.{IsLink};
 ghost use Rattle.runtime_tests.specs.Clients.{IsReady};
 
 use crate::clients::Client;
@@ -6,11 +8,11 @@ use crate::outside::outside;
 use log_reclaim::{BackEnd, NoBack};
 use mv_core::{Shared, Steps};
 use mv_history::{AnyRules, Holder, LockAnswer, LogTable, Words};
-use mv_layout::{NO_SLOT, clock_seat, clock_slot, clock_time};
+use mv_layout::{NO_SLOT, clock_seat, clock_slot, clock_time, link_position, link_seat};
 use reader_marks::Watermark;
 use seat_log::table;
 use std::sync::ledger::Ledger;
-use version_chain::Found;
+use version_chain::FoundVersion;
 
 /// A call of a client.
 #[derive(Clone, Copy)]
@@ -69,6 +71,15 @@ pub enum Move {
     Join,
 }
 
+/// What a look of a walk ended at.
+#[derive(Clone, Copy, PartialEq, Eq)]
+pub enum Found {
+    /// The object's master.
+    Master,
+    /// The version at this position of this seat's log.
+    Version { seat: u32, position: u64 },
+}
+
 /// What a move is answered.
 #[derive(Clone, Copy, PartialEq, Eq)]
 pub enum Answer {
@@ -112,6 +123,20 @@ pub enum Answer {
     Tidied(u32, u32, Option<Holder>),
     NoBack(NoBack),
     BackEnded(BackEnd),
+}
+
+// What a walk has found, by its seat and position.
+pub(crate) fn by_position(found: Option<FoundVersion>) -> Found
+    requires { IfSome found (λ at. IsLink at.link) }
+{
+    match found {
+        None => Found::Master,
+        Some(at) => {
+            let seat = link_seat(at.link);
+            let position = link_position(at.link);
+            Found::Version { seat, position }
+        }
+    }
 }
 
 pub(crate) fn tried(answer: LockAnswer) -> Answer {

@@ -7,10 +7,10 @@ use crate::moves::Move::{
     Abort, Commit, Enter, Finish, Leave, Lock, Name, Now, Read, ReadFound, WalkStart, WalkStep,
     Write,
 };
+use crate::moves::Found;
 use crate::{SMALL, Schedule, play_schedules};
 use mv_layout::Config;
 use std::test::Fail;
-use version_chain::Found;
 
 const THREE_OBJECTS: Config = Config {
     seats: 3,

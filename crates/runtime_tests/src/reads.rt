@@ -15,7 +15,7 @@ use std::alloc::{AllocError, Global};
 use std::marker::Brand;
 use std::sync::ledger::{Blank, Ledger};
 use std::test::Fail;
-use version_chain::{Found, find, read_master, walk_start, walk_step};
+use version_chain::{find, read_master, walk_start, walk_step};
 
 // The time of a section, and the words of object 0 that it read in the master, if it found it there.
 type Reading = (u64, Option<Words>);
@@ -33,8 +33,8 @@ fn read_by_find<L: Ledger>(
     ensures keeps { Keeps (view pass.old) (view pass.new) }
 {
     match find(shared, pass, 0, steps) {
-        Found::Master => Some(read_master(shared, pass, 0, steps)),
-        Found::Version { .. } => None,
+        None => Some(read_master(shared, pass, 0, steps)),
+        Some(_) => None,
     }
 }
 
@@ -54,7 +54,7 @@ fn read_at_once<L: Ledger>(
 {
     let walk = walk_start(shared, pass, 0, steps);
     match walk_step(shared, pass, walk, steps) {
-        Ok(Found::Master) => Some(read_master(shared, pass, 0, steps)),
+        Ok(None) => Some(read_master(shared, pass, 0, steps)),
         _ => None,
     }
 }

@@ -8,13 +8,13 @@ use crate::moves::Move::{
     Abort, BackFinish, BackStart, BackWord, Commit, Enter, Finish, Leave, Lock, Name, Now, Read,
     ReadFound, Round, Table, Tidy, WalkStart, WalkStep, Write,
 };
+use crate::moves::Found;
 use crate::{SMALL, Schedule, play_schedules};
 use log_reclaim::BackEnd;
 use mv_history::Holder::{self, Above, Fresh, Mark};
 use mv_history::LogTable;
 use mv_layout::{Config, LAST};
 use std::test::Fail;
-use version_chain::Found;
 
 const TWO_SEATS: Config = Config { seats: 2, ..SMALL };
 

@@ -3,7 +3,7 @@ ghost use Rattle.runtime_tests.specs.Clients.{IsPlayable};
 
 use crate::clients::{Client, Stage, UnderWay};
 use crate::inside::read_found;
-use crate::moves::{Answer, Move};
+use crate::moves::{Answer, Move, by_position};
 use mv_core::{Shared, Steps};
 use mv_history::AnyRules;
 use std::mem::replace;
@@ -34,7 +34,7 @@ pub(crate) fn walking<L: Ledger>(
             match walk_step(shared, &mut client.pass, walk, steps) {
                 Ok(found) => {
                     client.under_way = UnderWay::Ended(object, found);
-                    Answer::Walked(Some(found))
+                    Answer::Walked(Some(by_position(found)))
                 }
                 Err(on) => {
                     client.under_way = UnderWay::Walking(object, on);

@@ -1,4 +1,4 @@
-use Rattle.std.proofs.Common.{◌≡◌, ℕ, ◌+◌, ◌<◌, ◌^◌, [], refl, sym, ◌∙◌, subst, arith, ap, inl}
+use Rattle.std.proofs.Common.{ℕ, ◌+◌, ◌<◌, ◌^◌, [], refl, sym, ◌∙◌, subst, arith, ap, inl}
 use Rattle.mv_history.specs.declared.StepKind.TheVariants.{LoadData, LoadMaster}
 use Rattle.std.specs.Prelude.{unwrap_or}
 use Rattle.seat_log.specs.mv_core.Passes.{view, config_of}

@@ -5,16 +5,16 @@ use Rattle.runtime_tests.proofs.Moved.{has_read}
 use Rattle.runtime_tests.proofs.Stages.{at_inside, in_stage}
 use Rattle.runtime_tests.proofs.inside.read_found.Goals as goal
 
-pub returns-in-Master-clause-ready : goal.returns-in-Master-clause-ready
-returns-in-Master-clause-ready g c =
+pub returns-in-None-clause-ready : goal.returns-in-None-clause-ready
+returns-in-None-clause-ready g c =
     let i = at_inside c.args.shared.now c.args.client.now c.requires.ready _ c.in-Inside.is in
     let e = c.read_master.ensures in (
       of_still c.args.shared.now c.args.client.now.pass c.read_master.new.pass e.same c.requires.ready.0,
       in_stage _ _ _ _ _ c.in-Inside.is (has_read _ LoadMaster (refl, refl) _ _ _ _ i e.reads e.may),
     )
 
-pub returns-in-Version-clause-ready : goal.returns-in-Version-clause-ready
-returns-in-Version-clause-ready g c =
+pub returns-in-Some-clause-ready : goal.returns-in-Some-clause-ready
+returns-in-Some-clause-ready g c =
     let i = at_inside c.args.shared.now c.args.client.now c.requires.ready _ c.in-Inside.is in
     let e = c.read_version.ensures in (
       of_still c.args.shared.now c.args.client.now.pass c.read_version.new.pass e.same c.requires.ready.0,

@@ -1,7 +1,11 @@
-use Rattle.std.proofs.Common.{◌<◌, sym, ◌∙◌, subst}
+use Rattle.std.proofs.Common.{ℕ, ◌<◌, sym, ◌∙◌, subst, Option, Some, None}
+use Rattle.std.specs.Prelude.{IfSome}
 use Rattle.mv_layout.specs.declared.Config.{Config}
+use Rattle.mv_layout.specs.Words.{IsLink}
+use Rattle.mv_core.specs.declared.view.Knowledge.{Knowledge}
 use Rattle.mv_core.specs.Passes.{view, config_of}
 use Rattle.seat_log.proofs.OwnSlots.{of_still}
+use Rattle.version_chain.specs.declared.walking.FoundVersion.{FoundVersion}
 use Rattle.version_chain.specs.Walks.{HasFound}
 use Rattle.runtime_tests.specs.Clients.{IsUnderWay}
 use Rattle.runtime_tests.proofs.Moved.{walked}
@@ -21,6 +25,15 @@ returns-in-WalkStart-default g c =
         (e.stands, e.object, subst (λ (k : Config). c.in-WalkStart-default.object < k.objects) c.config.ensures c.if-object-config.true),
       );
     }
+
+-- the link of what was found is a packed one
+packed_link : (c : Config) (v : Knowledge) (object : ℕ) (found : Option FoundVersion) → HasFound c v object found → IfSome found (λ at. IsLink at.link)
+packed_link c v object None here = tt
+packed_link c v object (Some at) here = here.0.packed.0
+
+pub by_position-requires : goal.by_position-requires
+by_position-requires g c =
+    packed_link (config_of c.args.shared.now) (view c.walk_step.new.pass) c.in-WalkStep-Walking.walk.object c.in-Ok.found c.in-Ok.ensures.put
 
 pub returns-in-Ok : goal.returns-in-Ok
 returns-in-Ok g c =

@@ -3,11 +3,11 @@ use crate::moves::Answer::{
     Aborted, BackEnded, Busy, Counts, Done, Entered, Held, Left, LockStarted, NoBack, Started,
     Stored, Tidied, Walked, Words, Written,
 };
+use crate::moves::Found;
 use crate::moves::Move::{
     Abort, BackFinish, BackStart, BackWord, Commit, Enter, Leave, Lock, LockEnd, LockStart, Read,
     ReadFound, Round, Table, Tidy, WalkStart, WalkStep, Write,
 };
-use crate::moves::Found;
 use crate::{SMALL, Schedule, play_schedules};
 use log_reclaim::BackEnd::Cut;
 use log_reclaim::NoBack::{Above, Gone, Young};

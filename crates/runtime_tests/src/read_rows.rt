@@ -3,11 +3,11 @@ use crate::moves::Answer::{
     Aborted, Clock, Done, Entered, Finished, Held, Left, Named, Skipped, Stale, Started, Walked,
     Words, Written,
 };
+use crate::moves::Found;
 use crate::moves::Move::{
     Abort, Commit, Enter, Finish, Leave, Lock, Name, Now, Read, ReadFound, WalkStart, WalkStep,
     Write,
 };
-use crate::moves::Found;
 use crate::{SMALL, Schedule, play_schedules};
 use mv_layout::Config;
 use std::test::Fail;

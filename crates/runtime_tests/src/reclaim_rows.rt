@@ -4,11 +4,11 @@ use crate::moves::Answer::{
     Aborted, BackEnded, Clock, Counts, Done, End, Entered, Finished, Held, Left, LogFull, Named,
     Started, Stored, Tidied, Walked, Words, Written,
 };
+use crate::moves::Found;
 use crate::moves::Move::{
     Abort, BackFinish, BackStart, BackWord, Commit, Enter, Finish, Leave, Lock, Name, Now, Read,
     ReadFound, Round, Table, Tidy, WalkStart, WalkStep, Write,
 };
-use crate::moves::Found;
 use crate::{SMALL, Schedule, play_schedules};
 use log_reclaim::BackEnd;
 use mv_history::Holder::{self, Above, Fresh, Mark};

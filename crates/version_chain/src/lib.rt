@@ -26,7 +26,7 @@
 //! under way. They change where the walk stands, and what the seat has seen is only longer; all
 //! else that the view says stays.
 //!
-//! The crate stands on `mv_core` for its steps and on `mv_layout` for the packing of links.
+//! The crate stands on `mv_core` for its steps and on `mv_layout` for what a stamp says.
 #![tactic(auto)]
 
 mod reading;

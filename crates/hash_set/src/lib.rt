@@ -29,12 +29,14 @@
 //!
 //! It stands on `list_set`, whose calls it makes and whose answers it gives. MV-RLU (Kim, Mathew,
 //! Kashyap, Ramanathan and Min, ASPLOS 2019), as RLU (Matveev, Shavit, Felber and Marlier, SOSP
-//! 2015) before it, is measured with a hash table of such lists.
+//! 2015) before it, is measured with a hash table of such lists. Crates above name
+//! `list_set` through this crate.
 #![tactic(auto)]
 
 mod buckets;
 mod tables;
 
+pub use list_set;
 pub use buckets::bucket_of;
 pub use tables::{
     add_in, del_in, get_in, get_near, has_in, has_near, next_in, next_near, put_in, size_in,

@@ -14,10 +14,10 @@ use Rattle.set_model.proofs.ObjectWords.{word, owned_in_range}
 use Rattle.set_model.proofs.TreeMaps.{map_of-tree}
 use Rattle.section_work.proofs.Objects.{IsIn, touches-out, touches-in}
 use Rattle.set_model.proofs.Ways.{IsAt}
-use Rattle.list_set.specs.Places.{IsDelPlace, del_writes}
-use Rattle.list_set.proofs.Removing.{Removal, removal}
-use Rattle.tree_set.specs.Places.{IsParent, IsBarePlace, IsCutPlace, bare_writes, tree_del_writes, redirect, sibling}
-use Rattle.tree_set.proofs.Ends.{bare_tree}
+use Rattle.hash_set.specs.list_set.Places.{IsDelPlace, del_writes}
+use Rattle.hash_set.proofs.list_set_lemmas.Removing.{Removal, removal}
+use Rattle.tree_balance.specs.tree_set.Places.{IsParent, IsBarePlace, IsCutPlace, bare_writes, tree_del_writes, redirect, sibling}
+use Rattle.tree_balance.proofs.tree_set_lemmas.Ends.{bare_tree}
 use Rattle.set_catalog.specs.Needs.{first_tree, freed}
 use Rattle.set_catalog.specs.Picks.{IsVacant}
 use Rattle.set_catalog.specs.Plans.{head_of, DelPlan}

@@ -34,14 +34,14 @@ use Rattle.set_model.specs.Lawful.{IsLawful}
 use Rattle.set_model.specs.Objects.{link}
 use Rattle.set_model.proofs.ObjectWords.{word}
 use Rattle.set_model.proofs.NameMaps.{map_of-has, map_of-value}
-use Rattle.list_set.specs.Windows.{EndsHere}
-use Rattle.list_set.specs.declared.search.Window.{Window}
-use Rattle.list_set.proofs.Windows.{found_some as found_some_node}
-use Rattle.tree_set.specs.Descents as trees
-use Rattle.tree_set.specs.declared.search.Descent.{Descent}
-use Rattle.tree_set.proofs.Descents.{descent_has, descent_value, no_keys}
-use Rattle.tree_set.proofs.Found.{found_some}
-use Rattle.tree_set.specs.Places.{bare_writes, tree_del_writes}
+use Rattle.hash_set.specs.list_set.Windows.{EndsHere}
+use Rattle.hash_set.specs.list_set.declared.search.Window.{Window}
+use Rattle.hash_set.proofs.list_set_lemmas.Windows.{found_some as found_some_node}
+use Rattle.tree_balance.specs.tree_set.Descents as trees
+use Rattle.tree_balance.specs.tree_set.declared.search.Descent.{Descent}
+use Rattle.tree_balance.proofs.tree_set_lemmas.Descents.{descent_has, descent_value, no_keys}
+use Rattle.tree_balance.proofs.tree_set_lemmas.Found.{found_some}
+use Rattle.tree_balance.specs.tree_set.Places.{bare_writes, tree_del_writes}
 use Rattle.set_catalog.specs.Ends.{dels_at}
 use Rattle.set_catalog.specs.Merges.{merged}
 use Rattle.set_catalog.specs.Needs.{first_tree, taken}

@@ -35,16 +35,16 @@ use Rattle.set_model.proofs.ObjectWords.{word}
 use Rattle.set_model.proofs.TreeMaps.{map_of-tree}
 use Rattle.section_work.proofs.Objects.{IsIn}
 use Rattle.set_model.proofs.TreeShape.{only_in}
-use Rattle.list_set.specs.Places.{IsAddPlace, add_writes, IsDelPlace, del_writes, IsPutPlace, put_writes}
-use Rattle.list_set.specs.Windows.{EndsHere}
-use Rattle.list_set.specs.declared.search.Window.{Window}
-use Rattle.list_set.proofs.Windows.{add_found, del_found, put_window}
-use Rattle.tree_set.specs.Descents as trees
-use Rattle.tree_set.specs.Places.{IsLeaf, IsGrowPlace, IsBarePlace, IsCutPlace, tree_add_writes, grow_writes, bare_writes, tree_del_writes}
-use Rattle.tree_set.specs.declared.search.Descent.{Descent}
-use Rattle.tree_set.proofs.CutFit.{tree_with}
-use Rattle.tree_set.proofs.Found.{found_leaf, found_grow, found_bare, found_cut}
-use Rattle.tree_set.proofs.Planning.{key_is, key_not}
+use Rattle.hash_set.specs.list_set.Places.{IsAddPlace, add_writes, IsDelPlace, del_writes, IsPutPlace, put_writes}
+use Rattle.hash_set.specs.list_set.Windows.{EndsHere}
+use Rattle.hash_set.specs.list_set.declared.search.Window.{Window}
+use Rattle.hash_set.proofs.list_set_lemmas.Windows.{add_found, del_found, put_window}
+use Rattle.tree_balance.specs.tree_set.Descents as trees
+use Rattle.tree_balance.specs.tree_set.Places.{IsLeaf, IsGrowPlace, IsBarePlace, IsCutPlace, tree_add_writes, grow_writes, bare_writes, tree_del_writes}
+use Rattle.tree_balance.specs.tree_set.declared.search.Descent.{Descent}
+use Rattle.tree_balance.proofs.tree_set_lemmas.CutFit.{tree_with}
+use Rattle.tree_balance.proofs.tree_set_lemmas.Found.{found_leaf, found_grow, found_bare, found_cut}
+use Rattle.tree_balance.proofs.tree_set_lemmas.Planning.{key_is, key_not}
 use Rattle.set_catalog.specs.Ends.{EndsAt, adds_at, dels_at, puts_at, node_gone, inner_gone}
 use Rattle.set_catalog.specs.Needs.{first_tree, taken, freed, AreEnough}
 use Rattle.set_catalog.specs.Plans.{head_of, DelPlan, AddPlan, PutPlan}

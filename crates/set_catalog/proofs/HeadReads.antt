@@ -20,7 +20,7 @@ use Rattle.set_model.proofs.Heads.{name_of-list, name_of-bucket, name_bound, own
 use Rattle.set_model.proofs.ListMaps.{map_at-value, map_at-list}
 use Rattle.set_model.proofs.NameMaps.{map_of-value}
 use Rattle.set_model.proofs.TreeMaps.{map_of-root}
-use Rattle.list_set.specs.Walks.{walk_left}
+use Rattle.hash_set.specs.list_set.Walks.{walk_left}
 use Rattle.set_catalog.specs.Needs.{first_tree}
 use Rattle.set_catalog.specs.Plans.{head_of}
 use Rattle.set_catalog.specs.Readings.{value_under, HasHeads}

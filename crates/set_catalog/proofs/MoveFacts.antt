@@ -19,12 +19,12 @@ use Rattle.set_model.proofs.ObjectWords.{word}
 use Rattle.set_model.proofs.TwoWays.{place_after, writes_after, joined}
 use Rattle.set_model.proofs.Ways.{Way, AreVacant}
 use Rattle.section_work.specs.Held.{count_unheld}
-use Rattle.list_set.specs.Places.{add_writes}
-use Rattle.list_set.proofs.ListHalves.{node_has}
-use Rattle.list_set.proofs.ListWays.{list_add_way}
-use Rattle.list_set.proofs.Removing.{Removal, removal}
-use Rattle.tree_set.specs.Places.{tree_add_writes, grow_writes}
-use Rattle.tree_set.proofs.TreeWays.{grow_way, tree_add_way, leaf_has}
+use Rattle.hash_set.specs.list_set.Places.{add_writes}
+use Rattle.hash_set.proofs.list_set_lemmas.ListHalves.{node_has}
+use Rattle.hash_set.proofs.list_set_lemmas.ListWays.{list_add_way}
+use Rattle.hash_set.proofs.list_set_lemmas.Removing.{Removal, removal}
+use Rattle.tree_balance.specs.tree_set.Places.{tree_add_writes, grow_writes}
+use Rattle.tree_balance.proofs.tree_set_lemmas.TreeWays.{grow_way, tree_add_way, leaf_has}
 use Rattle.set_catalog.specs.Ends.{EndsAt, adds_at, objects_added}
 use Rattle.set_catalog.specs.Merges.{merged}
 use Rattle.set_catalog.specs.Needs.{taken, freed, wanted, AreEnough}

@@ -16,10 +16,10 @@ use Rattle.set_model.proofs.Entries.{has_entry-there}
 use Rattle.set_model.proofs.Fits.{add_fit, put_new_fit, put_fit, del_fit}
 use Rattle.section_work.proofs.Objects.{IsIn, in_either, in-touches}
 use Rattle.set_model.proofs.Ways as ways
-use Rattle.list_set.proofs.ListHalves.{node_has}
-use Rattle.list_set.proofs.ListWays.{list_add_way, list_del_way, list_put_way}
-use Rattle.tree_set.proofs.Around.{at_in_range}
-use Rattle.tree_set.proofs.TreeWays.{grow_way, tree_add_way, cut_way, bare_way, put_way, leaf_has}
+use Rattle.hash_set.proofs.list_set_lemmas.ListHalves.{node_has}
+use Rattle.hash_set.proofs.list_set_lemmas.ListWays.{list_add_way, list_del_way, list_put_way}
+use Rattle.tree_balance.proofs.tree_set_lemmas.Around.{at_in_range}
+use Rattle.tree_balance.proofs.tree_set_lemmas.TreeWays.{grow_way, tree_add_way, cut_way, bare_way, put_way, leaf_has}
 use Rattle.set_catalog.specs.Picks.{IsVacant}
 use Rattle.set_catalog.specs.Plans.{head_of, DelPlan, AddPlan, PutPlan}
 use Rattle.set_catalog.specs.Plans.DelPlan.{unlinks, bares, cuts}

@@ -8,9 +8,9 @@ use Rattle.set_model.specs.Lawful.{IsLawful}
 use Rattle.set_model.specs.Objects.{owner}
 use Rattle.set_model.specs.Trees.{HoldsTree}
 use Rattle.set_model.proofs.ObjectWords.{word}
-use Rattle.tree_set.specs.declared.search.Descent.{Descent}
-use Rattle.tree_set.specs.Places.{grow_writes}
-use Rattle.tree_set.proofs.Planning.{key_not}
+use Rattle.tree_balance.specs.tree_set.declared.search.Descent.{Descent}
+use Rattle.tree_balance.specs.tree_set.Places.{grow_writes}
+use Rattle.tree_balance.proofs.tree_set_lemmas.Planning.{key_not}
 use Rattle.tree_balance.specs.declared.plan.WritePlan.{WritePlan}
 use Rattle.tree_balance.specs.Depths.{IsOfWay}
 use Rattle.tree_balance.specs.Drafts.{IsAddOnWay}

@@ -5,10 +5,10 @@ use Rattle.set_model.specs.Catalogue.{map_of, has_key}
 use Rattle.set_model.specs.CatalogueOf.{catalogue_of}
 use Rattle.set_model.specs.Lawful.{IsLawful}
 use Rattle.set_model.specs.Objects.{link}
-use Rattle.list_set.specs.Places.{add_writes, del_writes, put_writes}
-use Rattle.list_set.specs.Windows.{EndsHere}
-use Rattle.tree_set.specs.Places.{tree_add_writes, grow_writes, bare_writes, tree_del_writes}
-use Rattle.tree_set.specs.Descents as trees
+use Rattle.hash_set.specs.list_set.Places.{add_writes, del_writes, put_writes}
+use Rattle.hash_set.specs.list_set.Windows.{EndsHere}
+use Rattle.tree_balance.specs.tree_set.Places.{tree_add_writes, grow_writes, bare_writes, tree_del_writes}
+use Rattle.tree_balance.specs.tree_set.Descents as trees
 use Rattle.set_catalog.specs.Needs.{first_tree}
 use Rattle.set_catalog.specs.Plans.{head_of}
 use Rattle.set_catalog.specs.declared.ends.End.{End}

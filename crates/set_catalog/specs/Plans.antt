@@ -6,8 +6,8 @@ use Rattle.set_model.specs.declared.commands.Command.TheVariants.{Add, Put, Del,
 use Rattle.set_model.specs.Objects.{link, value}
 use Rattle.set_model.specs.Trees.{Tree, HoldsTree}
 use Rattle.section_work.specs.OwnWrites.{with_locks, with_writes, objects_of}
-use Rattle.list_set.specs.Places.{IsAddPlace, add_writes, IsDelPlace, del_writes, IsPutPlace, put_writes}
-use Rattle.tree_set.specs.Places.{IsLeaf, tree_add_writes, IsGrowPlace, grow_writes, IsBarePlace, bare_writes, IsCutPlace, tree_del_writes}
+use Rattle.hash_set.specs.list_set.Places.{IsAddPlace, add_writes, IsDelPlace, del_writes, IsPutPlace, put_writes}
+use Rattle.tree_balance.specs.tree_set.Places.{IsLeaf, tree_add_writes, IsGrowPlace, grow_writes, IsBarePlace, bare_writes, IsCutPlace, tree_del_writes}
 use Rattle.tree_balance.specs.Depths.{depth_of}
 use Rattle.tree_balance.specs.Drafts.{IsAddOnWay}
 use Rattle.set_catalog.specs.Needs.{first_tree}

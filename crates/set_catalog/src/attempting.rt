@@ -12,7 +12,7 @@ use crate::command_work::CommandWork;
 use crate::hints::Hints;
 use crate::memo::Memo;
 use crate::shortage::Shortage;
-use list_set::Fingers;
+use hash_set::list_set::Fingers;
 use mv_history::Store;
 use section_work::{Attempt, attempt_work};
 use set_model::{Command, SetRules};

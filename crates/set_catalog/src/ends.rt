@@ -12,11 +12,12 @@ ghost use Rattle.set_catalog.specs.Plans.{AddsWithin};
 use crate::names::{Set, set_of};
 use crate::picks::Picked;
 use crate::plan::Vacated;
-use list_set::{Fingers, Window};
+use hash_set::list_set;
+use hash_set::list_set::{Fingers, Window};
 use mv_history::View;
 use set_model::{Name, word};
-use tree_balance::{WritePlan, find_way, plan_add};
-use tree_set::{Descent, tree_add_writes};
+use tree_balance::tree_set::{Descent, tree_add_writes};
+use tree_balance::{WritePlan, find_way, plan_add, tree_set};
 
 /// Where the search for a key ended: all that a command needs to know of its set.
 #[derive(Clone, Copy, Drop)]

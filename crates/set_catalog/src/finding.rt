@@ -19,7 +19,7 @@ use crate::outcome::PlanOutcome;
 use crate::picks::{Picked, pick};
 use crate::plan::Vacated;
 use crate::sets::{has, next, size, value};
-use list_set::Fingers;
+use hash_set::list_set::Fingers;
 use mv_history::View;
 use set_model::{Command, Name, Reply};
 use tree_balance::WritePlan;

@@ -2,7 +2,7 @@
 ghost use Rattle.std.specs.Prelude.{◌≡◌, ◌≤◌, ◌+◌, ◌++◌, ◌∷◌, [], length, IfOk, MatchOption, ⊤};
 ghost use Rattle.set_catalog.specs.Hinted.{noted};
 
-use list_set::Fingers;
+use hash_set::list_set::Fingers;
 use std::alloc::{AllocError, Global};
 use std::marker::Model;
 use std::mem::replace;

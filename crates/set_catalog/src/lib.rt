@@ -60,9 +60,9 @@
 //!
 //! # Its place
 //!
-//! It stands on the three crates of sets, whose calls it makes by a command's names, on `tree_balance`,
-//! whose plans are its own, on `set_model`,
-//! on `section_work`, by which each attempt is made, and on the traits of `mv_history`. It knows no
+//! It stands on the three crates of sets, whose calls it makes by a command's names (it names `list_set`
+//! through `hash_set`, and `tree_set` through `tree_balance`), on `tree_balance`, whose plans are its
+//! own, on `set_model`, on `section_work`, by which each attempt is made, and on the traits of `mv_history`. It knows no
 //! store, and nothing of logs, chains or marks. The program runs a script by one attempt after another.
 #![tactic(auto)]
 

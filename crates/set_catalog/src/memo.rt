@@ -4,7 +4,7 @@ ghost use Rattle.std.specs.Prelude.{◌≡◌, [], IfOk};
 use crate::hints::Hints;
 use crate::plan::Vacated;
 use crate::shortage::Shortage;
-use list_set::Fingers;
+use hash_set::list_set::Fingers;
 use section_work::Place;
 use set_model::Command;
 use std::alloc::{AllocError, Global};

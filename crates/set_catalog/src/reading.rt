@@ -8,7 +8,7 @@ use crate::names::{FIRST_NODE, FIRST_ROOT, name_of};
 use mv_history::View;
 use set_model::{Catalogue, word};
 use std::alloc::{AllocError, Global};
-use tree_set::Leaves;
+use tree_balance::tree_set::Leaves;
 
 /// Reads the catalogue of a lawful state: the keys of all sets, with their values.
 ///

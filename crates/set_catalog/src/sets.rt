@@ -5,9 +5,11 @@ ghost use Rattle.set_model.specs.CatalogueOf.{catalogue_of};
 ghost use Rattle.set_model.specs.Lawful.{IsLawful};
 
 use crate::names::{Set, set_of};
-use list_set::Fingers;
+use hash_set::list_set;
+use hash_set::list_set::Fingers;
 use mv_history::View;
 use set_model::Name;
+use tree_balance::tree_set;
 
 // Whether the set has the key. In a list or a bucket it begins at a finger.
 pub fn has<V: View>(view: &mut V, fingers: &mut Fingers, name: Name, key: u32) -> bool

@@ -15,7 +15,7 @@ use Rattle.mv_core.specs.Moves.{Moment, opening_of}
 use Rattle.mv_core.proofs.frames.FrameLaw.{set_at_all, set_at_here}
 use Rattle.mv_core.proofs.kinds.opening.Starting.{none_lives}
 use Rattle.step_replay.specs.declared.machine.Machine.{Machine}
-use Rattle.replay_rules.specs.States.{zeros, with_made, opened, Turn, state_of}
+use Rattle.replay_text.specs.replay_rules.States.{zeros, with_made, opened, Turn, state_of}
 use Rattle.step_replay.specs.Machines.{IsNext}
 use Rattle.step_replay.specs.FirstSteps.{low_step, mark_step, time_step, leave_step}
 

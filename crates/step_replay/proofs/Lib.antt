@@ -3,4 +3,4 @@ pub mod FirstSteps
 pub mod TurnLaws
 pub mod MachineLaws
 -- Passed on to the crates above: the lemmas of replay_rules.
-pub use Rattle.replay_rules.proofs as replay_rules_lemmas
+pub use Rattle.replay_text.proofs.replay_rules_lemmas as replay_rules_lemmas

@@ -1,9 +1,9 @@
 -- Each machine behind steps is ruled.
 use Rattle.std.proofs.Common.{◌≡◌, sym, ap, ◌∙◌, subst}
 use Rattle.mv_core.proofs.Terms.{Checked, Shows}
-use Rattle.replay_rules.specs.States.{zeros, state_of, AreMade}
-use Rattle.replay_rules.specs.ReplayLaws.{IsRuled}
-use Rattle.replay_rules.proofs.Ruled.{is_ruled}
+use Rattle.replay_text.specs.replay_rules.States.{zeros, state_of, AreMade}
+use Rattle.replay_text.specs.replay_rules.ReplayLaws.{IsRuled}
+use Rattle.replay_text.proofs.replay_rules_lemmas.Ruled.{is_ruled}
 use Rattle.step_replay.specs.MachineLaws.{ReplaysAreRuled}
 
 pub replays_ruled : ReplaysAreRuled

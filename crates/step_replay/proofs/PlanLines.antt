@@ -1,16 +1,16 @@
 -- One line more of a plan.
 use Rattle.std.proofs.Common.{◌≡◌, ℕ, ◌+◌, ◌≤◌, ◌<◌, List, length, get_or, drop, Result, Ok, Err, refl, ap, sym, ◌∙◌, arith}
 use Rattle.std.proofs.lemmas.List.{at_drop_more, at_drop_all}
-use Rattle.replay_rules.specs.declared.plan.PlanKind.{PlanKind}
-use Rattle.replay_rules.specs.declared.plan.PlanKind.TheVariants as faults
+use Rattle.replay_text.specs.replay_rules.declared.plan.PlanKind.{PlanKind}
+use Rattle.replay_text.specs.replay_rules.declared.plan.PlanKind.TheVariants as faults
 use Rattle.step_replay.specs.declared.heads.Heads.{Heads}
 use Rattle.step_replay.specs.declared.heads.Heads.TheVariants.{Seats, Objects, Slots, Base, Whole}
 use Rattle.mv_layout.specs.declared.config.Config.{Config}
-use Rattle.replay_rules.specs.declared.plan.PlanFault.{PlanFault}
-use Rattle.replay_rules.specs.declared.plan.PlanFault.TheVariants.{At, Memory}
+use Rattle.replay_text.specs.replay_rules.declared.plan.PlanFault.{PlanFault}
+use Rattle.replay_text.specs.replay_rules.declared.plan.PlanFault.TheVariants.{At, Memory}
 use Rattle.script_parser.specs.Grammar.{◌>>=◌, lines_of, words_of}
 use Rattle.step_replay.specs.PlanTexts.{Said, line_taken, at_line, said_after, nothing_said, last_line, finished, planned, Refuses}
-use Rattle.replay_rules.specs.Plans.{PlanOf}
+use Rattle.replay_text.specs.replay_rules.Plans.{PlanOf}
 
 -- what is refused in front is refused of the whole
 Refuses-then : {A B : Type 0} (reading : Result A (ℕ × PlanKind)) (f : A → Result B (ℕ × PlanKind)) (fault : PlanFault) → Refuses reading fault

@@ -2,13 +2,13 @@
 use Rattle.std.proofs.Common.{◌≡◌, ℕ, zero, suc, ◌+◌, ◌-◌, ◌<◌, ◌≤◌, List, [], ◌∷◌, ◌++◌, length, get_or, drop}
 use Rattle.std.proofs.Common.{set, append_assoc, refl, sym, ap, ◌∙◌, arith, drop-cons}
 use Rattle.mv_layout.specs.declared.config.Config.{Config}
-use Rattle.replay_rules.specs.declared.plan.CallOf.{CallOf}
+use Rattle.replay_text.specs.replay_rules.declared.plan.CallOf.{CallOf}
 use Rattle.std.proofs.lemmas.List.{map-append}
 use Rattle.step_replay.specs.declared.turns.ReplaySeat.{ReplaySeat}
-use Rattle.replay_rules.specs.Runs.{SeatOf, TapeOf, Scene, Looked, Replay, no_call, one_looked, looked, looked_on, turned, turn_taken, turns_taken}
-use Rattle.replay_rules.specs.Runs.{new_seat, new_seats, replay_of}
-use Rattle.replay_rules.specs.Plans.{PlanOf}
-use Rattle.replay_rules.specs.Words.{new_words}
+use Rattle.replay_text.specs.replay_rules.Runs.{SeatOf, TapeOf, Scene, Looked, Replay, no_call, one_looked, looked, looked_on, turned, turn_taken, turns_taken}
+use Rattle.replay_text.specs.replay_rules.Runs.{new_seat, new_seats, replay_of}
+use Rattle.replay_text.specs.replay_rules.Plans.{PlanOf}
+use Rattle.replay_text.specs.replay_rules.Words.{new_words}
 use Rattle.step_replay.specs.Shown.{seat_of, seats_of}
 
 -- the list from a place on is what stands there and what is behind

@@ -1,7 +1,7 @@
 -- The first steps of a seat of a new domain: it enters a section, and leaves it.
 use Rattle.std.specs.Prelude.{ℕ, List, [], ◌∷◌}
 use Rattle.mv_core.specs.Moves.{load_low, store_mark, load_time, clear_mark}
-use Rattle.replay_rules.specs.States.{Made}
+use Rattle.replay_text.specs.replay_rules.States.{Made}
 
 -- the first step: CLOCK is loaded for a low time
 abbrev pub low_step : ℕ → Made

@@ -1,7 +1,7 @@
 -- The ranges of the numbers of a plan's lines so far.
 use Rattle.std.specs.Prelude.{◌≡◌, ℕ, List, [], All}
-use Rattle.replay_rules.specs.declared.plan.CallOf.{CallOf}
-use Rattle.replay_rules.specs.FitPlans.{AreSeats, AreObjects, AreSlots, IsFitConfig, IsFitCallOf, AreFitSteps}
+use Rattle.replay_text.specs.replay_rules.declared.plan.CallOf.{CallOf}
+use Rattle.replay_text.specs.replay_rules.FitPlans.{AreSeats, AreObjects, AreSlots, IsFitConfig, IsFitCallOf, AreFitSteps}
 use Rattle.step_replay.specs.declared.heads.Heads.{Heads}
 use Rattle.step_replay.specs.declared.heads.Heads.TheVariants.{Seats, Objects, Slots, Base, Whole}
 use Rattle.step_replay.specs.PlanTexts.{Said}

@@ -5,7 +5,7 @@ use Rattle.mv_layout.specs.declared.SharedWord.{SharedWord}
 use Rattle.mv_layout.specs.Places.{IsPlace}
 use Rattle.mv_layout.specs.Cells.{Shows}
 use Rattle.step_replay.specs.declared.machine.Machine.{Machine}
-use Rattle.replay_rules.specs.States.{Made, Turn, may_in, place_in, writes_in, state_of, AreMade}
+use Rattle.replay_text.specs.replay_rules.States.{Made, Turn, may_in, place_in, writes_in, state_of, AreMade}
 
 -- the numbers of the machine's domain
 abbrev pub config_of : Machine → Config

@@ -6,20 +6,20 @@ use Rattle.std.specs.Str.{bytes_eq}
 use Rattle.std.specs.Str.Parse.{digits_value}
 use Rattle.mv_layout.specs.declared.config.Config.{Config}
 use Rattle.script_parser.specs.Grammar.{◌>>=◌, lines_of, words_of, is_numeral}
-use Rattle.replay_rules.specs.declared.plan.Call.{Call}
-use Rattle.replay_rules.specs.declared.plan.Call.TheVariants as calls
-use Rattle.replay_rules.specs.declared.plan.CallOf.{CallOf}
-use Rattle.replay_rules.specs.declared.plan.PlanKind.{PlanKind}
-use Rattle.replay_rules.specs.declared.plan.PlanKind.TheVariants as faults
-use Rattle.replay_rules.specs.declared.plan.PlanFault.{PlanFault}
-use Rattle.replay_rules.specs.declared.plan.PlanFault.TheVariants.{At, Memory}
+use Rattle.replay_text.specs.replay_rules.declared.plan.Call.{Call}
+use Rattle.replay_text.specs.replay_rules.declared.plan.Call.TheVariants as calls
+use Rattle.replay_text.specs.replay_rules.declared.plan.CallOf.{CallOf}
+use Rattle.replay_text.specs.replay_rules.declared.plan.PlanKind.{PlanKind}
+use Rattle.replay_text.specs.replay_rules.declared.plan.PlanKind.TheVariants as faults
+use Rattle.replay_text.specs.replay_rules.declared.plan.PlanFault.{PlanFault}
+use Rattle.replay_text.specs.replay_rules.declared.plan.PlanFault.TheVariants.{At, Memory}
 use Rattle.step_replay.specs.declared.heads.Heads.{Heads}
 use Rattle.step_replay.specs.declared.heads.Heads.TheVariants.{Seats, Objects, Slots, Base, Whole}
 use Rattle.step_replay.specs.declared.body.CallVerb.{CallVerb}
 use Rattle.step_replay.specs.declared.body.CallVerb.TheVariants.{Enter, Read, Lock, Write, Commit, Abort, Leave, Tidy}
 use Rattle.step_replay.specs.declared.drafts.Draft.{Draft}
-use Rattle.replay_rules.specs.declared.plan.TheConstants.{MOST_STEPS}
-use Rattle.replay_rules.specs.Plans.{PlanOf, config_of}
+use Rattle.replay_text.specs.replay_rules.declared.plan.TheConstants.{MOST_STEPS}
+use Rattle.replay_text.specs.replay_rules.Plans.{PlanOf, config_of}
 
 -- a number of 1 to 20 decimal digits within these bounds
 abbrev pub number_in : ℕ → ℕ → List ℕ → Result ℕ PlanKind

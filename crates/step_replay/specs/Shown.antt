@@ -1,10 +1,10 @@
 -- What the running parts of a replay say: a seat, the tape, and both at a turn.
 use Rattle.std.specs.Prelude.{List, drop, map, string_bytes, Option}
-use Rattle.replay_rules.specs.declared.plan.CallOf.{CallOf}
-use Rattle.replay_rules.specs.declared.seats.NextStep.{NextStep}
+use Rattle.replay_text.specs.replay_rules.declared.plan.CallOf.{CallOf}
+use Rattle.replay_text.specs.replay_rules.declared.seats.NextStep.{NextStep}
 use Rattle.step_replay.specs.declared.turns.ReplaySeat.{ReplaySeat}
 use Rattle.step_replay.specs.declared.turns.Tape.{Tape}
-use Rattle.replay_rules.specs.Runs.{SeatOf, TapeOf, Scene, Looked}
+use Rattle.replay_text.specs.replay_rules.Runs.{SeatOf, TapeOf, Scene, Looked}
 
 -- a seat, with the calls that it hasn't looked at
 abbrev pub seat_of : List CallOf → ReplaySeat → SeatOf

@@ -3,16 +3,18 @@ ghost use Rattle.std.specs.Prelude.{◌≡◌};
 ghost use Rattle.mv_layout.specs.Limits.{Checked};
 ghost use Rattle.mv_layout.specs.Words.{link_seat_of};
 ghost use Rattle.mv_core.specs.LockSteps.{field_place};
-ghost use Rattle.replay_rules.specs.Tasks.{link_slot, slot_at, link_to, stamp_from, next_clock, commit_clock, named_place, entering_place, helping_place};
-ghost use Rattle.replay_rules.specs.Tasks.{walking_place, locking_place, ending_place, sweeping_place, place_in_task, entering_access, helping_access};
-ghost use Rattle.replay_rules.specs.Tasks.{field_word, locking_access, ending_access, sweeping_access, access_in_task};
+ghost use Rattle.replay_text.specs.replay_rules.Tasks.{link_slot, slot_at, link_to, stamp_from};
+ghost use Rattle.replay_text.specs.replay_rules.Tasks.{next_clock, commit_clock, named_place, entering_place, helping_place};
+ghost use Rattle.replay_text.specs.replay_rules.Tasks.{walking_place, locking_place, ending_place};
+ghost use Rattle.replay_text.specs.replay_rules.Tasks.{sweeping_place, place_in_task, entering_access, helping_access};
+ghost use Rattle.replay_text.specs.replay_rules.Tasks.{field_word, locking_access, ending_access, sweeping_access, access_in_task};
 
 use crate::notes::word_of;
 use mv_layout::{
     Config, LAST, SharedWord, clock_seat, clock_slot, clock_time, clock_word, link_word,
     slot_of_position, unset_stamp,
 };
-use replay_rules::{
+use replay_text::replay_rules::{
     Access, Ending, Entering, Helping, Locking, NextStep, NotedVersion, Sweeping, Walking,
 };
 

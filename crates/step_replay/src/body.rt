@@ -2,11 +2,11 @@
 ghost use Rattle.std.specs.Prelude.{◌≡◌, ◌≤◌, ◌<◌, All, IfOk, MatchResult, Ok, length};
 ghost use Rattle.script_parser.specs.Grammar.{words_in};
 ghost use Rattle.step_replay.specs.PlanTexts.{verb_of, other_verb_of, words_behind, call_with, call_of, seats_after, steps_taken, at_line, Refuses};
-ghost use Rattle.replay_rules.specs.FitPlans.{IsFitConfig, IsFitCall, IsFitCallOf, AreFitSteps};
+ghost use Rattle.replay_text.specs.replay_rules.FitPlans.{IsFitConfig, IsFitCall, IsFitCallOf, AreFitSteps};
 
 use crate::numbers::{are_words, next_number, read_number, read_six};
 use mv_layout::Config;
-use replay_rules::{Call, CallOf, MOST_STEPS, PlanFault, PlanKind};
+use replay_text::replay_rules::{Call, CallOf, MOST_STEPS, PlanFault, PlanKind};
 use script_parser::{first_word, same_word};
 
 /// What a call does.

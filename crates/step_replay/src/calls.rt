@@ -1,11 +1,11 @@
 // How calls begin: their conditions, and their first step.
 ghost use Rattle.std.specs.Prelude.{◌≡◌};
-ghost use Rattle.replay_rules.specs.Begins.{may_begin, new_sweep, begun, begin_lock, unlock, begin_abort, begin_call};
+ghost use Rattle.replay_text.specs.replay_rules.Begins.{may_begin, new_sweep, begun, begin_lock, unlock, begin_abort, begin_call};
 
 use crate::notes::{held, holds, live, place_held, version_at};
 use mv_history::LockAnswer;
 use mv_layout::Config;
-use replay_rules::{
+use replay_text::replay_rules::{
     Call, CallAnswer, Ending, Entering, Leaving, NextStep, NotedVersion, Scanned, State, Sweep,
     Sweeping, Then, Walking,
 };

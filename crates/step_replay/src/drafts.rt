@@ -11,13 +11,13 @@
 ghost use Rattle.std.specs.Prelude.{◌≡◌, ◌-◌, ◌<◌, ◌^◌, ◌∷◌, IfOk, MatchResult, Ok, length};
 ghost use Rattle.script_parser.specs.Grammar.{lines_of, words_of, words_in};
 ghost use Rattle.step_replay.specs.PlanTexts.{line_taken, last_line, said_of, at_line, planned, Refuses};
-ghost use Rattle.replay_rules.specs.Plans.{plan_of};
+ghost use Rattle.replay_text.specs.replay_rules.Plans.{plan_of};
 ghost use Rattle.step_replay.specs.FitDrafts.{IsFitSaid};
-ghost use Rattle.replay_rules.specs.FitPlans.{IsFitPlan};
+ghost use Rattle.replay_text.specs.replay_rules.FitPlans.{IsFitPlan};
 
 use crate::body::{read_call, take_steps};
 use crate::heads::{Heads, next_heads};
-use replay_rules::{CallOf, Plan, PlanFault, PlanKind};
+use replay_text::replay_rules::{CallOf, Plan, PlanFault, PlanKind};
 use script_parser::{first_word, same_word, strip_carriage_return};
 use std::alloc::Global;
 

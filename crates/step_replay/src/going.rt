@@ -1,15 +1,16 @@
 // How a call goes on behind a step.
 ghost use Rattle.std.specs.Prelude.{◌≡◌, ◌+◌};
 ghost use Rattle.mv_layout.specs.Limits.{Checked};
-ghost use Rattle.replay_rules.specs.declared.seats.Then.TheVariants.{Goes};
-ghost use Rattle.replay_rules.specs.declared.seats.NextStep.TheVariants.{EndsSection, Tidies, Walks, Locks};
-ghost use Rattle.replay_rules.specs.GoesOn.{name, helped_in_tidy, helped_in, help, after_entering, after_helping, stand, refusal, is_lock};
-ghost use Rattle.replay_rules.specs.GoesOn.{after_stamp, after_words};
-ghost use Rattle.replay_rules.specs.GoesOn.{after_walking, after_field, after_lock_head, after_locking, after_writing, store_super, after_name};
-ghost use Rattle.replay_rules.specs.GoesOn.{after_unlock};
-ghost use Rattle.replay_rules.specs.GoesOn.{after_leaving, after_now, after_ending};
-ghost use Rattle.replay_rules.specs.Sweeps.{rest_is_due, by_mark, holder_of, holder, tidied, after_frees, free, after_free, look_at, settle, settle_behind};
-ghost use Rattle.replay_rules.specs.Sweeps.{after_super, back_by, after_top, after_master, after_cut, after_back, after_sweeping, then_after};
+ghost use Rattle.replay_text.specs.replay_rules.declared.seats.Then.TheVariants.{Goes};
+ghost use Rattle.replay_text.specs.replay_rules.declared.seats.NextStep.TheVariants.{EndsSection, Tidies, Walks, Locks};
+ghost use Rattle.replay_text.specs.replay_rules.GoesOn.{name, helped_in_tidy, helped_in, help, after_entering, after_helping, stand, refusal, is_lock};
+ghost use Rattle.replay_text.specs.replay_rules.GoesOn.{after_stamp, after_words};
+ghost use Rattle.replay_text.specs.replay_rules.GoesOn.{after_walking, after_field, after_lock_head, after_locking, after_writing, store_super, after_name};
+ghost use Rattle.replay_text.specs.replay_rules.GoesOn.{after_unlock};
+ghost use Rattle.replay_text.specs.replay_rules.GoesOn.{after_leaving, after_now, after_ending};
+ghost use Rattle.replay_text.specs.replay_rules.Sweeps.{rest_is_due, by_mark, holder_of, holder, tidied};
+ghost use Rattle.replay_text.specs.replay_rules.Sweeps.{after_frees, free, after_free, look_at, settle, settle_behind};
+ghost use Rattle.replay_text.specs.replay_rules.Sweeps.{after_super, back_by, after_top, after_master, after_cut, after_back, after_sweeping, then_after};
 
 use crate::access::{commit_clock, link_to, next_clock, seat_of_link};
 use crate::calls::unlock;
@@ -18,7 +19,7 @@ use crate::notes::{dead_count, first_behind, first_from, live, version_at, with_
 use commit_abort::Ended;
 use mv_history::{Holder, LockAnswer, Rival, WORDS, Words};
 use mv_layout::{Config, LAST, NO_SLOT, clock_seat, clock_slot, clock_time, is_unset, mark_word};
-use replay_rules::{
+use replay_text::replay_rules::{
     Call, CallAnswer, Ending, Entering, Helping, Leaving, Locking, NextStep, NotedVersion,
     Reclaimed, Scanned, State, Sweep, Sweeping, Test, Then, Walking, WriteBackEnd,
 };

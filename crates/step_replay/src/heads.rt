@@ -1,14 +1,14 @@
 // The first four lines of a plan: the numbers of its domain.
 ghost use Rattle.std.specs.Prelude.{◌≡◌, ◌≤◌, IfOk};
 ghost use Rattle.script_parser.specs.Grammar.{words_in};
-ghost use Rattle.replay_rules.specs.Plans.{config_of};
+ghost use Rattle.replay_text.specs.replay_rules.Plans.{config_of};
 ghost use Rattle.step_replay.specs.PlanTexts.{head_taken};
 ghost use Rattle.step_replay.specs.FitDrafts.{AreFitHeads};
-ghost use Rattle.replay_rules.specs.FitPlans.{IsFitConfig};
+ghost use Rattle.replay_text.specs.replay_rules.FitPlans.{IsFitConfig};
 
 use crate::numbers::read_single;
 use mv_layout::{Config, LAST};
-use replay_rules::PlanKind;
+use replay_text::replay_rules::PlanKind;
 use script_parser::same_word;
 
 // How many objects a section may hold.

@@ -1,13 +1,13 @@
 // What a step changes of what its seat is at, and of the notes of its log.
 ghost use Rattle.std.specs.Prelude.{◌≡◌};
-ghost use Rattle.replay_rules.specs.Learns.{with_clock, entered, helped, ended, scanning, lowered, scanned, freed_one, swept, state_after};
-ghost use Rattle.replay_rules.specs.Learns.{edit_of_end, edit_of_super};
-ghost use Rattle.replay_rules.specs.Learns.{edit_of_sweep, edit_of, other_seat};
+ghost use Rattle.replay_text.specs.replay_rules.Learns.{with_clock, entered, helped, ended, scanning, lowered, scanned, freed_one, swept, state_after};
+ghost use Rattle.replay_text.specs.replay_rules.Learns.{edit_of_end, edit_of_super};
+ghost use Rattle.replay_text.specs.replay_rules.Learns.{edit_of_sweep, edit_of, other_seat};
 
 use crate::access::seat_of_link;
 use crate::notes::word_of;
 use mv_layout::{clock_time, mark_low};
-use replay_rules::{
+use replay_text::replay_rules::{
     Edit, Ending, Entering, Helping, Leaving, Locking, NextStep, NotedVersion, Scanned, State,
     Sweep, Sweeping, WriteBackEnd,
 };

@@ -22,10 +22,11 @@
 //! there just before, and the machine is then at the state that the step makes. By `replays_are_ruled` each such state is
 //! one of the core's rule, with all points of it. `replay` has its words on one.
 //!
-//! **Place.** It stands on `replay_rules` for what a plan's run is and for the laws of all runs, on `set_model` for the words of
-//! a line and their numbers, on `mv_layout` for the numbers and the places of a domain, on `mv_core` for the rule, and on
-//! `mv_history` and `commit_abort` for the words of an object and the answers' types. The program's `replay` stands on it.
-//! Crates above name `replay_rules` through this crate.
+//! **Place.** It stands on `replay_rules` for what a plan's run is and for the laws of all runs, which it names through
+//! `replay_text`; on `replay_text`, which writes the lines of a run; on `script_parser` for the words of a line and their numbers,
+//! on `mv_layout` for the numbers and the places of a domain, on `mv_core` for the rule, and on `mv_history` and `commit_abort`
+//! for the words of an object and the answers' types. The program's `replay` stands on it. Crates above name `replay_rules`
+//! through this crate.
 #![tactic(auto)]
 
 mod access;
@@ -41,17 +42,16 @@ mod notes;
 mod numbers;
 mod places;
 mod schedule;
-mod text;
 mod turns;
 
 pub use drafts::parse_plan;
 pub use laws::replays_are_ruled;
 pub use machine::Machine;
 pub use places::{place_cell, place_number};
-pub use replay_rules;
-pub use replay_rules::{
+pub use replay_text::replay_rules;
+pub use replay_text::replay_rules::{
     Access, Call, CallOf, MOST_STEPS, Plan, PlanFault, PlanKind, runs_are_ruled, turns_go_on,
     turns_make_one_step,
 };
 pub use schedule::replay;
-pub use text::write_step;
+pub use replay_text::write_step;

@@ -45,7 +45,7 @@ impl Machine {
     ghost use Rattle.mv_core.specs.EnterSteps.{stored_if};
     ghost use Rattle.mv_layout.specs.Places.{IsPlace};
     ghost use Rattle.step_replay.specs.Machines.{IsBehind, Makes, config_of};
-    ghost use Rattle.replay_rules.specs.Words.{word_at, words_with, new_words};
+    ghost use Rattle.replay_text.specs.replay_rules.Words.{word_at, words_with, new_words};
 
     /// A new domain of these numbers whose objects are all zeros, with all its seats. The error is want of memory.
     pub fn new(alloc: Global, config: &Config) -> Result<Machine, AllocError>

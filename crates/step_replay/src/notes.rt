@@ -1,10 +1,10 @@
 // The notes of a seat's log.
 ghost use Rattle.std.specs.Prelude.{◌≡◌, ◌+◌, ◌<◌, length, slice_index, slice_set, OnOk, IfOk};
-ghost use Rattle.replay_rules.specs.SeatNotes.{passes, first_from, first_behind, version_at, held, place_held, holds, live, dead_count, edited};
-ghost use Rattle.replay_rules.specs.SeatNotes.{edited_from, applied};
+ghost use Rattle.replay_text.specs.replay_rules.SeatNotes.{passes, first_from, first_behind, version_at, held, place_held, holds, live, dead_count, edited};
+ghost use Rattle.replay_text.specs.replay_rules.SeatNotes.{edited_from, applied};
 
 use mv_history::{WORDS, Words};
-use replay_rules::{Edit, NotedVersion, State, Test};
+use replay_text::replay_rules::{Edit, NotedVersion, State, Test};
 use std::alloc::AllocError;
 
 // Whether a version is what is looked for.

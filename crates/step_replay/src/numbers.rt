@@ -1,11 +1,11 @@
 // The numbers of a line.
 ghost use Rattle.std.specs.Prelude.{◌≡◌, ◌≤◌, ◌==◌, IfOk, MatchResult, Ok, Err, length};
 ghost use Rattle.script_parser.specs.Grammar.{words_in};
-ghost use Rattle.replay_rules.specs.FitPlans.{AreSixWords};
+ghost use Rattle.replay_text.specs.replay_rules.FitPlans.{AreSixWords};
 ghost use Rattle.step_replay.specs.PlanTexts.{number_in, next_number, single, numbers_of_six};
 
 use mv_history::Words;
-use replay_rules::PlanKind;
+use replay_text::replay_rules::PlanKind;
 use script_parser::{first_word, read_value};
 
 /// The number of a word, within these bounds. `Err` is `Number`.

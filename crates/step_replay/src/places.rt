@@ -3,7 +3,7 @@ ghost use Rattle.std.specs.Prelude.{◌≡◌, ◌<◌, true};
 ghost use Rattle.mv_layout.specs.Limits.{Checked};
 ghost use Rattle.mv_layout.specs.Places.{IsPlace, place_of};
 ghost use Rattle.mv_layout.specs.Cells.{cell_of, cells};
-ghost use Rattle.replay_rules.specs.Runs.{is_place};
+ghost use Rattle.replay_text.specs.replay_rules.Runs.{is_place};
 
 use mv_layout::{
     CLOCK_CELL, Config, DATA_OFFSET, FIRST_OFFSET, GRACE_CELL, PREV_OFFSET, STAMP_OFFSET,

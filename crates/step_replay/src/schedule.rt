@@ -1,17 +1,17 @@
 // The replay of a plan.
 ghost use Rattle.std.specs.Prelude.{◌≡◌, ◌+◌, ◌≤◌, ◌<◌, ◌^◌, OnOk, IfOk, length, map};
 ghost use Rattle.mv_layout.specs.Limits.{Checked};
-ghost use Rattle.replay_rules.specs.Plans.{plan_of};
-ghost use Rattle.replay_rules.specs.FitPlans.{IsFitPlan};
-ghost use Rattle.replay_rules.specs.Runs.{new_seats, text_of_plan};
+ghost use Rattle.replay_text.specs.replay_rules.Plans.{plan_of};
+ghost use Rattle.replay_text.specs.replay_rules.FitPlans.{IsFitPlan};
+ghost use Rattle.replay_text.specs.replay_rules.Runs.{new_seats, text_of_plan};
 ghost use Rattle.step_replay.specs.Shown.{seats_of};
-ghost use Rattle.replay_rules.specs.RuledRuns.{IsRuledPlan};
+ghost use Rattle.replay_text.specs.replay_rules.RuledRuns.{IsRuledPlan};
 
 use crate::machine::Machine;
-use crate::text::write_end;
+use replay_text::write_end;
 use crate::turns::{ReplaySeat, Tape, new_seat};
 use mv_layout::{SharedWord, clock_time};
-use replay_rules::{CallOf, Plan};
+use replay_text::replay_rules::{CallOf, Plan};
 use std::alloc::{AllocError, Global};
 
 // So many seats that have made no call.

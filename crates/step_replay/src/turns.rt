@@ -3,9 +3,9 @@ ghost use Rattle.std.specs.Prelude.{◌≡◌, ◌+◌, ◌≤◌, ◌<◌, ◌^
 ghost use Rattle.mv_layout.specs.Limits.{Checked};
 ghost use Rattle.mv_layout.specs.Places.{IsPlace};
 ghost use Rattle.step_replay.specs.Machines.{config_of};
-ghost use Rattle.replay_rules.specs.Words.{word_at, words_with};
-ghost use Rattle.replay_rules.specs.Tasks.{written_by};
-ghost use Rattle.replay_rules.specs.Runs.{found_in, tape_after, step_made, call_looked, one_looked, looked, turned, new_seat, no_call};
+ghost use Rattle.replay_text.specs.replay_rules.Words.{word_at, words_with};
+ghost use Rattle.replay_text.specs.replay_rules.Tasks.{written_by};
+ghost use Rattle.replay_text.specs.replay_rules.Runs.{found_in, tape_after, step_made, call_looked, one_looked, looked, turned, new_seat, no_call};
 ghost use Rattle.step_replay.specs.Shown.{seat_of, tape_of, scene_of, looked_of};
 
 use crate::access::{access_of, place_of};
@@ -15,9 +15,9 @@ use crate::learning::{edit_of, state_after};
 use crate::machine::Machine;
 use crate::notes::apply;
 use crate::places::{is_place, place_number};
-use crate::text::{write_answer, write_idle, write_skip, write_step};
+use replay_text::{write_answer, write_idle, write_skip, write_step};
 use mv_layout::{Config, SharedWord};
-use replay_rules::{Access, Call, CallOf, NextStep, NotedVersion, State, Then};
+use replay_text::replay_rules::{Access, Call, CallOf, NextStep, NotedVersion, State, Then};
 use std::alloc::{AllocError, Global};
 
 /// A seat of a replay: the versions of its log, what it is at, the step that comes next where a call is under way, and

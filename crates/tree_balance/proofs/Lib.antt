@@ -11,3 +11,5 @@ pub mod Depths
 pub mod Planning
 pub mod Drifting
 pub mod Fitting
+-- Passed on to the crates above: the lemmas of tree_set.
+pub use Rattle.tree_set.proofs as tree_set_lemmas

@@ -43,7 +43,7 @@
 //!
 //! It stands on `tree_set`, whose `Descent` says where a search ended and what an add writes there, and on
 //! `mv_history`, whose trait `View` it is generic over. It locks nothing, commits nothing and takes no
-//! memory.
+//! memory. Crates above name `tree_set` through this crate.
 #![tactic(auto)]
 
 mod balance;
@@ -52,6 +52,7 @@ mod plan;
 mod steps;
 mod way;
 
+pub use tree_set;
 pub use balance::{SHORT, plan_add};
 pub use laws::{adds_with_steps_are_fit, steps_after_an_add, steps_keep_the_tree};
 pub use plan::WritePlan;

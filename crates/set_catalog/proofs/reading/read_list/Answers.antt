@@ -1,5 +1,5 @@
 use Rattle.std.proofs.Common.{arith, refl}
-use Rattle.tree_set.proofs.Walking.{read_at}
+use Rattle.tree_balance.proofs.tree_set_lemmas.Walking.{read_at}
 use Rattle.set_catalog.proofs.HeadReads.{part_start, part_puts, list_start, next_node}
 use Rattle.set_catalog.proofs.reading.read_list.Goals as goal
 

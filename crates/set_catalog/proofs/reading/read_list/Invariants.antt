@@ -1,5 +1,5 @@
 use Rattle.set_model.specs.Catalogue.{Map}
-use Rattle.list_set.specs.Walks.{walk_left}
+use Rattle.hash_set.specs.list_set.Walks.{walk_left}
 use Rattle.set_catalog.proofs.HeadReads.{AtNode, HasPart}
 use Rattle.set_catalog.proofs.reading.read_list.Given as goal
 

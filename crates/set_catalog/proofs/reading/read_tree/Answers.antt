@@ -1,6 +1,6 @@
 use Rattle.std.proofs.Common.{arith}
 use Rattle.set_model.proofs.TreeMaps.{map_of-root}
-use Rattle.tree_set.proofs.LeafWalks.{passed_there, fewer_left, stopped_there}
+use Rattle.tree_balance.proofs.tree_set_lemmas.LeafWalks.{passed_there, fewer_left, stopped_there}
 use Rattle.set_catalog.proofs.HeadReads.{part_start, part_puts, part_end}
 use Rattle.set_catalog.proofs.reading.read_tree.Goals as goal
 

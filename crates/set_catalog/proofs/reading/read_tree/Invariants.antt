@@ -1,6 +1,6 @@
 use Rattle.std.proofs.Common.{◌*◌, ◌≤◌, length}
 use Rattle.set_model.specs.Catalogue.{Map}
-use Rattle.tree_set.specs.Leaves.{Passes, leaves_left}
+use Rattle.tree_balance.specs.tree_set.Leaves.{Passes, leaves_left}
 use Rattle.set_catalog.proofs.HeadReads.{HasPart}
 use Rattle.set_catalog.proofs.reading.read_tree.Given as goal
 

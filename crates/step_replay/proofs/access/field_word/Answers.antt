@@ -1,5 +1,5 @@
 use Rattle.std.proofs.Common.{◌≡◌, ◌-◌, suc, sym, ap, ◌∙◌, arith}
-use Rattle.replay_rules.specs.Tasks.{field_word}
+use Rattle.replay_text.specs.replay_rules.Tasks.{field_word}
 use Rattle.step_replay.proofs.access.field_word.Goals as goal
 
 pub returns-in-0 : goal.returns-in-0

@@ -1,5 +1,5 @@
 use Rattle.std.proofs.Common.{◌≡◌, ◌+◌, ◌<◌, ◌≤◌, suc, length, set, ◌∙◌, sym, ap, arith, length-set}
-use Rattle.replay_rules.proofs.SeatNotes.{edited_behind, one_edited, all_edited}
+use Rattle.replay_text.proofs.replay_rules_lemmas.SeatNotes.{edited_behind, one_edited, all_edited}
 use Rattle.step_replay.proofs.notes.edit_all.Goals as goal
 
 pub loop-at-preserved : goal.loop-at-preserved

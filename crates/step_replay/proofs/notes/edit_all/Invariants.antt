@@ -1,6 +1,6 @@
 use Rattle.std.proofs.Common.{◌≡◌, length}
-use Rattle.replay_rules.specs.SeatNotes.{edited_from}
-use Rattle.replay_rules.proofs.SeatNotes.{edited_behind}
+use Rattle.replay_text.specs.replay_rules.SeatNotes.{edited_from}
+use Rattle.replay_text.proofs.replay_rules_lemmas.SeatNotes.{edited_behind}
 use Rattle.step_replay.proofs.notes.edit_all.Given as goal
 
 -- the versions before this one are changed, and those from it on are still to be

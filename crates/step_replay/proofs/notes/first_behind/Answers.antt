@@ -1,5 +1,5 @@
 use Rattle.std.proofs.Common.{◌+◌, sym, arith}
-use Rattle.replay_rules.proofs.SeatNotes.{none_left}
+use Rattle.replay_text.proofs.replay_rules_lemmas.SeatNotes.{none_left}
 use Rattle.step_replay.proofs.notes.first_behind.Goals as goal
 
 pub returns-else-at-log : goal.returns-else-at-log

@@ -1,6 +1,6 @@
 use Rattle.std.proofs.Common.{suc, ◌+◌, ◌≡◌, ◌∙◌, sym, ap, arith}
-use Rattle.replay_rules.specs.SeatNotes.{first_from}
-use Rattle.replay_rules.proofs.SeatNotes.{none_left, passed_by, stopped_at}
+use Rattle.replay_text.specs.replay_rules.SeatNotes.{first_from}
+use Rattle.replay_text.proofs.replay_rules_lemmas.SeatNotes.{none_left, passed_by, stopped_at}
 use Rattle.step_replay.proofs.notes.first_from.Goals as goal
 
 pub returns-then-passes : goal.returns-then-passes

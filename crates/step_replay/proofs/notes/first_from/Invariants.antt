@@ -1,5 +1,5 @@
 use Rattle.std.proofs.Common.{◌≡◌}
-use Rattle.replay_rules.specs.SeatNotes.{first_from}
+use Rattle.replay_text.specs.replay_rules.SeatNotes.{first_from}
 use Rattle.step_replay.proofs.notes.first_from.Given as goal
 
 -- no version before this one is what is looked for

@@ -1,5 +1,5 @@
 use Rattle.std.proofs.Common.{◌≡◌, ◌++◌, ◌-◌}
-use Rattle.replay_rules.specs.Runs.{new_seats}
+use Rattle.replay_text.specs.replay_rules.Runs.{new_seats}
 use Rattle.step_replay.specs.Shown.{seats_of}
 use Rattle.step_replay.proofs.schedule.new_seats.Given as goal
 

@@ -1,13 +1,13 @@
 use Rattle.std.proofs.Common.{◌≡◌, ◌+◌, ◌<◌, ℕ, List, length, get_or, drop, sym, ap, ◌∙◌, subst, arith, length-set}
 use Rattle.std.proofs.lemmas.List.{length-map}
 use Rattle.std.proofs.lemmas.List.Elements.{All-get_or}
-use Rattle.replay_rules.specs.declared.plan.CallOf.{CallOf}
-use Rattle.replay_rules.specs.Plans.{plan_of}
-use Rattle.replay_rules.specs.Runs.{new_seats, turned, turns_taken}
+use Rattle.replay_text.specs.replay_rules.declared.plan.CallOf.{CallOf}
+use Rattle.replay_text.specs.replay_rules.Plans.{plan_of}
+use Rattle.replay_text.specs.replay_rules.Runs.{new_seats, turned, turns_taken}
 use Rattle.step_replay.specs.Shown.{seat_of, seats_of, tape_of, scene_of}
-use Rattle.replay_rules.proofs.NewSeats.{seats_long}
+use Rattle.replay_text.proofs.replay_rules_lemmas.NewSeats.{seats_long}
 use Rattle.step_replay.proofs.TurnLaws.{turns_next, begun_is, turn_shown}
-use Rattle.replay_rules.proofs.runs.Turns.{plan_ruled}
+use Rattle.replay_text.proofs.replay_rules_lemmas.runs.Turns.{plan_ruled}
 use Rattle.step_replay.proofs.schedule.replay.Goals as goal
 
 pub loop-seat-init : goal.loop-seat-init

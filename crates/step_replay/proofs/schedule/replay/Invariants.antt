@@ -1,7 +1,7 @@
 use Rattle.std.proofs.Common.{◌≡◌, ◌≤◌, drop, length}
 use Rattle.step_replay.specs.Machines.{config_of}
-use Rattle.replay_rules.specs.Plans.{plan_of}
-use Rattle.replay_rules.specs.Runs.{replay_of, turns_taken}
+use Rattle.replay_text.specs.replay_rules.Plans.{plan_of}
+use Rattle.replay_text.specs.replay_rules.Runs.{replay_of, turns_taken}
 use Rattle.step_replay.specs.Shown.{tape_of, seats_of}
 use Rattle.step_replay.proofs.schedule.replay.Given as goal
 

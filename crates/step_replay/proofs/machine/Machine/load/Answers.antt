@@ -1,7 +1,7 @@
 use Rattle.std.proofs.Common.{None, refl, arith}
 use Rattle.mv_layout.proofs.InCells.{in_cells}
-use Rattle.replay_rules.specs.States.{state_of}
-use Rattle.replay_rules.proofs.Machines.{shows_next, made_next, found_is, word_is}
+use Rattle.replay_text.specs.replay_rules.States.{state_of}
+use Rattle.replay_text.proofs.replay_rules_lemmas.Machines.{shows_next, made_next, found_is, word_is}
 use Rattle.step_replay.proofs.machine.Machine.load.Goals as goal
 
 pub index-requires : goal.index-requires

@@ -1,4 +1,4 @@
-use Rattle.replay_rules.proofs.Machines.{shows_opened}
+use Rattle.replay_text.proofs.replay_rules_lemmas.Machines.{shows_opened}
 use Rattle.step_replay.proofs.machine.Machine.new.Goals as goal
 
 pub returns-clause-behind : goal.returns-clause-behind

@@ -1,8 +1,8 @@
 use Rattle.std.proofs.Common.{◌≡◌, ◌∷◌, Some, set, max, sym, ap, ◌∙◌, subst, arith}
 use Rattle.mv_layout.proofs.InCells.{in_cells}
 use Rattle.mv_layout.specs.Cells.{Shows, cell_of}
-use Rattle.replay_rules.specs.States.{state_of}
-use Rattle.replay_rules.proofs.Machines.{shows_next, made_next, found_is, word_is}
+use Rattle.replay_text.specs.replay_rules.States.{state_of}
+use Rattle.replay_text.proofs.replay_rules_lemmas.Machines.{shows_next, made_next, found_is, word_is}
 use Rattle.step_replay.proofs.machine.Machine.raise.Goals as goal
 
 pub index-found-requires : goal.index-found-requires

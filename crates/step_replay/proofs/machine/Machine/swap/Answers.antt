@@ -2,9 +2,9 @@ use Rattle.std.proofs.Common.{◌≡◌, ◌∷◌, Some, None, set, sym, ap, �
 use Rattle.mv_layout.proofs.InCells.{in_cells}
 use Rattle.mv_layout.specs.Cells.{Shows}
 use Rattle.mv_core.specs.EnterSteps.{stored_if}
-use Rattle.replay_rules.specs.States.{state_of}
-use Rattle.replay_rules.specs.Words.{words_with}
-use Rattle.replay_rules.proofs.Machines.{shows_next, made_next, found_is, word_is}
+use Rattle.replay_text.specs.replay_rules.States.{state_of}
+use Rattle.replay_text.specs.replay_rules.Words.{words_with}
+use Rattle.replay_text.proofs.replay_rules_lemmas.Machines.{shows_next, made_next, found_is, word_is}
 use Rattle.step_replay.proofs.machine.Machine.swap.Goals as goal
 
 pub index-found-requires : goal.index-found-requires

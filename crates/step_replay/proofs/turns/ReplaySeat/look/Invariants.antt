@@ -1,6 +1,6 @@
 use Rattle.std.proofs.Common.{◌≡◌, drop}
 use Rattle.step_replay.specs.Machines.{config_of}
-use Rattle.replay_rules.specs.Runs.{looked}
+use Rattle.replay_text.specs.replay_rules.Runs.{looked}
 use Rattle.step_replay.specs.Shown.{scene_of}
 use Rattle.step_replay.proofs.turns.ReplaySeat.look.Given as goal
 

@@ -1,4 +1,4 @@
-// The lines of a replay.
+// Lines, each appended to a text.
 ghost use Rattle.std.specs.Prelude.{◌≡◌, ◌==◌, ◌++◌, codes, decimal, if◌then◌else◌, OnOk, string_bytes};
 ghost use Rattle.replay_rules.specs.Lines.{name_of, spaced, idle_line, skip_line, end_line, text_of_access, step_line, text_of_words, text_of_lock};
 ghost use Rattle.replay_rules.specs.Lines.{text_of_commit, text_of_holder};

@@ -2,7 +2,7 @@ use Rattle.std.proofs.Common.{◌≡◌, ◌∙◌, ℕ, List, ◌++◌, append_
 use Rattle.std.specs.Prelude.{decimal}
 use Rattle.std.specs.declared.alloc.AllocError.{AllocError}
 use Rattle.replay_rules.specs.Lines.{spaced}
-use Rattle.step_replay.proofs.text.write_deed.Goals as goal
+use Rattle.replay_text.proofs.writing.write_deed.Goals as goal
 
 -- five parts written one by one are their whole written
 in_one : (old a b d e f : List ℕ) → old ++ a ++ b ++ d ++ e ++ f ≡ old ++ (a ++ b ++ d ++ e ++ f)

@@ -1,8 +1,7 @@
 -- A transfer is a fit commit.
 use Rattle.mv_history.specs.Drift.{IsFit}
 use Rattle.mv_client.proofs.Fits.{fit_by_held}
-use Rattle.std.proofs.Common.{◌≡◌}
-use Rattle.accounts.proofs.Terms.{ℕ, true, List, ap, arith, nat_tests, State, Writes, touches, balance, balance_of, from_of, to_of, IsTransfer}
+use Rattle.accounts.proofs.Terms.{ℕ, true, List, ap, arith, nat_tests, State, Writes, touches, balance, balance_of, from_of, to_of, IsTransfer, ◌≡◌}
 
 -- a transfer writes both of its accounts
 touches-from : (tag : List ℕ) (s : State) (ws : Writes) → IsTransfer tag s ws → touches ws (from_of tag) ≡ true

@@ -5,9 +5,8 @@ use Rattle.section_work.specs.declared.place.Place.TheVariants.{Commit as AtComm
 use Rattle.section_work.specs.Causes.{Causes}
 use Rattle.section_work.specs.Attempts.{IsDoneAt, IsReadAt, Attempted}
 use Rattle.section_work.specs.declared.attempting.Attempt.TheVariants.{Done}
-use Rattle.std.proofs.Common.{◌≡◌, ◌+◌, ◌-◌, ◌==◌}
 use Rattle.accounts.proofs.Terms.{ℕ, true, List, refl, ap, ◌∙◌, subst, arith, nat_tests, state_at, Seat, IsSeat, IsWorn, length-seen, Enough, Short, Late}
-use Rattle.accounts.proofs.Terms.{balance, from_of, IsOpening, IsTransfer, transfer_meaning}
+use Rattle.accounts.proofs.Terms.{balance, from_of, IsOpening, IsTransfer, transfer_meaning, ◌≡◌, ◌+◌, ◌-◌, ◌==◌}
 use Rattle.accounts.specs.declared.transfer_work.Funds.{Funds}
 use Rattle.accounts.specs.Attempts.{attempt_of, IsDone, IsShort, Answers}
 

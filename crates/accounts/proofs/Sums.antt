@@ -1,7 +1,6 @@
 -- Sums, one after another.
-use Rattle.std.proofs.Common.{◌≡◌, ◌+◌, ◌∷◌, ◌++◌}
 use Rattle.accounts.proofs.Terms.{List, [], refl, sym, ap, subst, ◌∙◌, arith, State, Seat, InSection, state_of, Continues, Enters, IsAsBefore, Leaves}
-use Rattle.accounts.proofs.Terms.{Continues-Continues, length-seen, state_at-later, total, IsSum, ReadsEach, reads_snapshot}
+use Rattle.accounts.proofs.Terms.{Continues-Continues, length-seen, state_at-later, total, IsSum, ReadsEach, reads_snapshot, ◌≡◌, ◌+◌, ◌∷◌, ◌++◌}
 use Rattle.accounts.specs.declared.reading.SumAt.{SumAt}
 use Rattle.accounts.proofs.Sections.{IsLawful}
 

@@ -1,11 +1,10 @@
 -- From what the searches of a growing hash set read to what they find.
-use Rattle.std.proofs.Common.{◌≡◌, ◌+◌, ◌<◌, ◌≤◌}
 use Rattle.grow_hash.proofs.Terms.{ℕ, suc, inl, inr, List, length, Option, sym, ap, ◌∙◌, subst, arith, cases_eq, State, next_key, map_at, IsLinked, IsWindow}
-use Rattle.grow_hash.proofs.Terms.{level, split_place, buckets_at, bucket_of, bucket, buckets, IsGrown, head_at, head_of}
+use Rattle.grow_hash.proofs.Terms.{level, split_place, buckets_at, bucket_of, bucket, buckets, IsGrown, head_at, head_of, most_buckets, most_level, most_levels}
+use Rattle.grow_hash.proofs.Terms.{hash, ◌≡◌, ◌+◌, ◌<◌, ◌≤◌}
 use Rattle.grow_hash.proofs.Buckets.{few_buckets, more_buckets, twice_buckets}
 use Rattle.grow_hash.proofs.GrownStates.{bucket_low}
 use Rattle.set_model.specs.Objects.{most_objects}
-use Rattle.grow_hash.proofs.Terms.{most_buckets, most_level, most_levels, hash}
 
 -- the table that was read
 module _ (levels : ℕ) (s : State) (lev pl : ℕ) (l : IsGrown levels s) (el : lev ≡ level s) (ep : pl ≡ split_place s) where

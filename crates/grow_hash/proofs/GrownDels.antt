@@ -1,17 +1,16 @@
 -- A del at its place keeps a grown state lawful, and takes its key out of the set.
 use Rattle.list_set.proofs.Removing.{del_writes_do}
-use Rattle.std.proofs.Common.{◌≡◌, ◌≢◌, ◌<◌, ◌≤◌, ◌⊎◌}
 use Rattle.grow_hash.proofs.Terms.{ℕ, suc, inl, inr, true, false, [], length, set, refl, sym, ap, ◌∙◌, subst, arith, get_or-set_other, length-set, cases_eq}
 use Rattle.grow_hash.proofs.Terms.{false_from_ne_true, State, written, words_at, length-written, Del, empty, has_key, take_out, owner, key, link, value}
 use Rattle.grow_hash.proofs.Terms.{head_words, list_words, no_words, relink, tag_of, word, owned_in_range, owner-relink, kind-relink, key-relink, IsDelPlace}
 use Rattle.grow_hash.proofs.Terms.{del_writes, IsNodeOf, IsLinked, Taken, bucket, IsGrown, head_at, grown_map, grown_name, KeepsGrown, IsGrowCommit}
+use Rattle.grow_hash.proofs.Terms.{most_buckets, first_grown, ◌≡◌, ◌≢◌, ◌<◌, ◌≤◌, ◌⊎◌}
 use Rattle.grow_hash.proofs.KeptLists.{list_kept}
 use Rattle.grow_hash.proofs.LinkedDels.{del_node, del_apart, Unlinked, less_owner, less_key, list_less}
 use Rattle.grow_hash.proofs.GrownMaps.{Keeps, grown_map-keeps, keeps-grown_map, grown_map-relink, grown_map-less}
 use Rattle.grow_hash.proofs.GrownStates.{node_high, node_keeps, key_once, table_kept, bucket_kept, head_is, node_is}
 use Rattle.grow_hash.proofs.GrownAdds.{list_high, relinked, list_in_range}
 use Rattle.grow_hash.proofs.Committing.{grow_commit}
-use Rattle.grow_hash.proofs.Terms.{most_buckets, first_grown}
 
 module _ (levels : ℕ) (s : State) (b k p n : ℕ) (l : IsGrown levels s) (in_buckets : b < most_buckets levels) (place : IsDelPlace s (head_at b) k p n) where
   abbrev after : State

@@ -1,7 +1,6 @@
 -- The states with which a growing hash set begins are lawful.
-use Rattle.std.proofs.Common.{◌≡◌, ◌*◌, ◌^◌, ◌<◌}
 use Rattle.grow_hash.proofs.Terms.{ℕ, suc, inl, inr, [], length, sym, ap, ◌∙◌, subst, arith, cases_lt, get_or_past, State, words_at, owner, link, no_words}
-use Rattle.grow_hash.proofs.Terms.{word, IsNodeOf, IsLinked, level, table_words, IsGrown, IsGrownOpening, head_at}
+use Rattle.grow_hash.proofs.Terms.{word, IsNodeOf, IsLinked, level, table_words, IsGrown, IsGrownOpening, head_at, ◌≡◌, ◌*◌, ◌^◌, ◌<◌}
 use Rattle.grow_hash.proofs.GrownStates.{head_is}
 
 opening_owner : (levels : ℕ) (s : State) → IsGrownOpening levels s → (o : ℕ) → owner s o ≡ 0

@@ -1,9 +1,8 @@
 -- What is known of a grown lawful state.
 use Rattle.set_model.specs.Catalogue.{cost}
-use Rattle.std.proofs.Common.{◌≡◌, ◌≢◌, ◌*◌, ◌^◌, ◌<◌, ◌≤◌, ℕ, zero, suc, inl, inr, List, sym, ap, ◌∙◌, subst, arith}
 use Rattle.grow_hash.proofs.Terms.{cases_lt, State, words_at, owner, key, head_words, list_words, word, IsNodeOf, level, split_place, bucket_of, bucket, hash}
-use Rattle.grow_hash.proofs.Terms.{most_buckets, first_grown}
-use Rattle.grow_hash.proofs.Terms.{table_words, IsTable, IsGrown, head_at, grown_catalogue, grown_capacity}
+use Rattle.grow_hash.proofs.Terms.{most_buckets, first_grown, table_words, IsTable, IsGrown, head_at, grown_catalogue, grown_capacity, ◌≡◌, ◌≢◌, ◌*◌, ◌^◌, ◌<◌}
+use Rattle.grow_hash.proofs.Terms.{◌≤◌, ℕ, zero, suc, inl, inr, List, sym, ap, ◌∙◌, subst, arith}
 use Rattle.grow_hash.proofs.Buckets.{bucket_in, many_heads}
 use Rattle.grow_hash.proofs.GrownMaps.{Keeps, grown_fits}
 

@@ -1,7 +1,6 @@
 -- A list with one node more.
-use Rattle.std.proofs.Common.{◌≡◌, ◌≢◌, ◌^◌, ◌<◌, ◌≤◌, ◌⊎◌}
 use Rattle.grow_hash.proofs.Terms.{ℕ, suc, inl, inr, length, sym, ap, ◌∙◌, subst, arith, cases_eq, cases_lt, State, words_at, owner, kind, key, link, word}
-use Rattle.grow_hash.proofs.Terms.{IsInList, IsAddPlace, IsNodeOf, IsAfter, IsLinked, head_no_node}
+use Rattle.grow_hash.proofs.Terms.{IsInList, IsAddPlace, IsNodeOf, IsAfter, IsLinked, head_no_node, ◌≡◌, ◌≢◌, ◌^◌, ◌<◌, ◌≤◌, ◌⊎◌}
 
 -- the place of an add parts the nodes of the list into those with keys up to that of its node, and those with greater ones
 module _ (s : State) (head k p : ℕ) (l : IsLinked s head) (place : IsAddPlace s head k p) where

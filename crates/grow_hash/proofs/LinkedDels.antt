@@ -1,7 +1,6 @@
 -- A list with one node less.
-use Rattle.std.proofs.Common.{◌≡◌, ◌≢◌, ◌^◌, ◌<◌, ◌≤◌, ◌⊎◌}
 use Rattle.grow_hash.proofs.Terms.{ℕ, suc, inl, inr, length, sym, ap, ◌∙◌, subst, arith, cases_eq, cases_order, State, words_at, owner, kind, key, link, word}
-use Rattle.grow_hash.proofs.Terms.{IsInList, IsDelPlace, IsNodeOf, IsAfter, IsLinked, head_no_node}
+use Rattle.grow_hash.proofs.Terms.{IsInList, IsDelPlace, IsNodeOf, IsAfter, IsLinked, head_no_node, ◌≡◌, ◌≢◌, ◌^◌, ◌<◌, ◌≤◌, ◌⊎◌}
 
 -- what is known at the place of a del
 module _ (s : State) (head k p n : ℕ) (l : IsLinked s head) (place : IsDelPlace s head k p n) where

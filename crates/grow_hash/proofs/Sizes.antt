@@ -1,13 +1,12 @@
 -- The buckets together have as many keys as the set.
-use Rattle.std.proofs.Common.{◌≡◌, ◌≢◌, ◌+◌, ◌<◌, ◌≤◌, ◌&&◌, ◌∷◌, ℕ, zero, suc, inl, inr, Bool, true, false, cond, nat_lt, List, [], length, drop, refl, sym}
 use Rattle.grow_hash.proofs.Terms.{ap, ◌∙◌, subst, arith, length-drop, lt-ltb, get_or-drop, cases_eq, cases_lt, nat_tests, State, words_at, is_key_at, map_at}
 use Rattle.grow_hash.proofs.Terms.{owner, kind, key, word, tally, tally-none, tally-bound, tally-same, length-map_among, node_at, keys_counted, level}
-use Rattle.grow_hash.proofs.Terms.{split_place, bucket, buckets, IsGrown, head_at, is_used, grown_map, most_buckets, first_grown, hash}
+use Rattle.grow_hash.proofs.Terms.{split_place, bucket, buckets, IsGrown, head_at, is_used, grown_map, most_buckets, first_grown, hash, ◌≡◌, ◌≢◌, ◌+◌, ◌<◌, ◌≤◌}
+use Rattle.grow_hash.proofs.Terms.{◌&&◌, ◌∷◌, ℕ, zero, suc, inl, inr, Bool, true, false, cond, nat_lt, List, [], length, drop, refl, sym, ◌-◌}
 use Rattle.grow_hash.proofs.Buckets.{bucket_present, many_heads}
 use Rattle.grow_hash.proofs.GrownMaps.{used-from, used_vacant}
 use Rattle.grow_hash.proofs.GrownStates.{low_unowned, key_once}
 use Rattle.set_model.specs.Objects.{most_objects}
-use Rattle.std.proofs.Common.{◌-◌}
 
 -- where a test picks what one of two others does, and no object is picked by both
 tally-add : (t u v : List ℕ → Bool) (s : State)

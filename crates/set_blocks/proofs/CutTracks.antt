@@ -1,11 +1,10 @@
 -- The way to cut a leaf and its parent out of a tree is one that others don't disturb.
 use Rattle.tree_set.proofs.Cutting.{IsTwig, Prunes, grown_less, cut_ends}
 use Rattle.tree_set.proofs.TreeWays.{cut_way}
-use Rattle.std.proofs.Common.{◌≡◌, ◌≢◌, ◌<◌, ◌≤◌, ◌∷◌, ℕ, suc, inl, inr, true, [], refl, sym, ap, ◌∙◌, subst, arith}
 use Rattle.set_blocks.proofs.Terms.{State, Writes, written, touches, words_at, owner, HoldsTree, seek, EndsAt, leaf, IsLawful, word, IsIn, in-touches, seek_in}
 use Rattle.set_blocks.proofs.Terms.{Stands-owner, PathStep, Path, plug, IsCutPlace, tree_del_writes, sibling, distinct_part, stands_part, seek_plug}
-use Rattle.set_blocks.proofs.Terms.{seek_beside}
-use Rattle.set_blocks.proofs.Terms.{redirect_keeps, beside, seek_turn, cut_twig, cut_prunes, inner_same, leaf_same, child_same, parent_same, IsOfLists, Remains}
+use Rattle.set_blocks.proofs.Terms.{seek_beside, redirect_keeps, beside, seek_turn, cut_twig, cut_prunes, inner_same, leaf_same, child_same, parent_same}
+use Rattle.set_blocks.proofs.Terms.{IsOfLists, Remains, ◌≡◌, ◌≢◌, ◌<◌, ◌≤◌, ◌∷◌, ℕ, suc, inl, inr, true, [], refl, sym, ap, ◌∙◌, subst, arith}
 use Rattle.set_blocks.proofs.Tracking.{Tracks}
 use Rattle.set_blocks.proofs.ListTracks.{vacant_of_none}
 use Rattle.set_blocks.proofs.TreeTracks.{parent_of_none, ends_once}

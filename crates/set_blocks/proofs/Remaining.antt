@@ -2,10 +2,9 @@
 use Rattle.mv_history.specs.declared.history.Entry.{Entry}
 use Rattle.mv_history.specs.declared.history.Entry.TheVariants.{Rest, Change}
 use Rattle.set_model.proofs.Opening.{opening_lawful}
-use Rattle.std.proofs.Common.{◌≡◌, ◌≤◌, ◌∷◌, ◌++◌, ℕ, inl, inr, true, false, List, [], refl, sym, ap, ◌∙◌, subst, arith, append_assoc, append-nil}
-use Rattle.set_blocks.proofs.Terms.{State, Writes, written, touches, state_after, IsAllowed, words_at, Drifts}
-use Rattle.set_blocks.proofs.Terms.{state_after-append, length-written, drift_keeps_apart, key, link, IsLawful, IsOpening, word}
-use Rattle.set_blocks.proofs.Terms.{IsOfLists, IsBlockCommit, Remains}
+use Rattle.set_blocks.proofs.Terms.{State, Writes, written, touches, state_after, IsAllowed, words_at, Drifts, state_after-append, length-written}
+use Rattle.set_blocks.proofs.Terms.{drift_keeps_apart, key, link, IsLawful, IsOpening, word, IsOfLists, IsBlockCommit, Remains, ◌≡◌, ◌≤◌, ◌∷◌, ◌++◌, ℕ, inl}
+use Rattle.set_blocks.proofs.Terms.{inr, true, false, List, [], refl, sym, ap, ◌∙◌, subst, arith, append_assoc, append-nil}
 
 lawful_on : (start : State) (front es : List Entry) → IsLawful (state_after start front) → IsAllowed IsBlockCommit start (front ++ es)
     → IsLawful (state_after start (front ++ es))

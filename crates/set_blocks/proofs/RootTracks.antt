@@ -2,12 +2,11 @@
 use Rattle.tree_set.proofs.Ends.{no_tree, tree_add_distinct, tree_add_half, bare_tree, bare_distinct}
 use Rattle.tree_set.proofs.Putting.{put_grown, put_ends}
 use Rattle.tree_set.proofs.TreeWays.{tree_add_way, bare_way, put_way}
-use Rattle.std.proofs.Common.{◌≡◌, ◌^◌, ◌<◌, ◌≤◌, ◌∷◌}
 use Rattle.set_blocks.proofs.Terms.{ℕ, inl, inr, true, List, [], refl, sym, ap, ◌∙◌, subst, arith, State, Writes, written, touches, words_at}
 use Rattle.set_blocks.proofs.Terms.{words-written_same, kind, link, value, leaf_words, no_words, relink, revalue, top, HoldsTree, seek, EndsAt, leaf}
-use Rattle.set_blocks.proofs.Terms.{top_is_node}
-use Rattle.set_blocks.proofs.Terms.{IsLawful, word, kind-revalue, owned_in_range, IsIn, in-touches, IsVacant, put_writes, Path, plug, Follows, IsLeaf}
-use Rattle.set_blocks.proofs.Terms.{tree_add_writes, IsBarePlace, bare_writes, tree_with, path_to_leaf, leaf_same, IsOfLists, Remains}
+use Rattle.set_blocks.proofs.Terms.{top_is_node, IsLawful, word, kind-revalue, owned_in_range, IsIn, in-touches, IsVacant, put_writes, Path, plug, Follows}
+use Rattle.set_blocks.proofs.Terms.{IsLeaf, tree_add_writes, IsBarePlace, bare_writes, tree_with, path_to_leaf, leaf_same, IsOfLists, Remains, ◌≡◌, ◌^◌, ◌<◌}
+use Rattle.set_blocks.proofs.Terms.{◌≤◌, ◌∷◌}
 use Rattle.set_blocks.proofs.Tracking.{Tracks}
 use Rattle.set_blocks.proofs.ListTracks.{vacant_of_none}
 use Rattle.set_blocks.proofs.TreeTracks.{tree_of_none, ends_once}

@@ -1,13 +1,12 @@
 -- What a command comes to at its turn, from what was found and held.
 use Rattle.std.proofs.lemmas.List.{length-take}
-use Rattle.std.proofs.Common.{◌≡◌, ◌+◌, ◌-◌, ◌^◌, ◌==◌, ◌<◌, ◌≤◌, ◌&&◌, ◌∷◌, ◌++◌, ℕ, suc, min, Bool, true, false, not, eqb, eqb-true, cond, List, [], length}
 use Rattle.set_blocks.proofs.Terms.{drop, take, slice_index_or, refl, sym, ap, ap₂, ◌∙◌, subst, arith, true≢false, Option, Some, None, length-drop}
-use Rattle.set_blocks.proofs.Terms.{length-take-le}
-use Rattle.set_blocks.proofs.Terms.{State, Writes, written, are_distinct, words_at, Command, Add, Put, Del, Has, Get, Move, Pair, Reply, Yes, No}
-use Rattle.set_blocks.proofs.Terms.{Full, Worn, Both, NoKey, Value, map_of, has_key, value_of, has_entry, catalogue_of, IsLawful, applies}
-use Rattle.set_blocks.proofs.Terms.{overflows, value_reply, capacity, has_entry-value, has_entry-absent, touches-in, merged, merged_one, count_vacant}
-use Rattle.set_blocks.proofs.Terms.{vacant_nodes, reply_in, changes_in, ValueAt, TellsAt, StepPlan, holding, has_yes, has_no, del_no, add_no, get_none}
-use Rattle.set_blocks.proofs.Terms.{get_value, put_no, move_from_none, move_to_one, pair_tells, keeping, is_full, HoldsReply}
+use Rattle.set_blocks.proofs.Terms.{length-take-le, State, Writes, written, are_distinct, words_at, Command, Add, Put, Del, Has, Get, Move, Pair, Reply, Yes}
+use Rattle.set_blocks.proofs.Terms.{No, Full, Worn, Both, NoKey, Value, map_of, has_key, value_of, has_entry, catalogue_of, IsLawful, applies, overflows}
+use Rattle.set_blocks.proofs.Terms.{value_reply, capacity, has_entry-value, has_entry-absent, touches-in, merged, merged_one, count_vacant, vacant_nodes}
+use Rattle.set_blocks.proofs.Terms.{reply_in, changes_in, ValueAt, TellsAt, StepPlan, holding, has_yes, has_no, del_no, add_no, get_none, get_value, put_no}
+use Rattle.set_blocks.proofs.Terms.{move_from_none, move_to_one, pair_tells, keeping, is_full, HoldsReply, ◌≡◌, ◌+◌, ◌-◌, ◌^◌, ◌==◌, ◌<◌, ◌≤◌, ◌&&◌, ◌∷◌, ◌++◌}
+use Rattle.set_blocks.proofs.Terms.{ℕ, suc, min, Bool, true, false, not, eqb, eqb-true, cond, List, [], length}
 use Rattle.set_blocks.specs.Holds.{HoldsKey, HoldsValue}
 use Rattle.set_blocks.specs.declared.overlay.Overlay.{Overlay}
 use Rattle.set_blocks.proofs.HeldReplies.{tells_there, value_there, objects-holding, written-holding}

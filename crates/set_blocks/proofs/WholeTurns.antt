@@ -1,10 +1,9 @@
 -- What a block replies and changes in a state, from the turns of its commands.
-use Rattle.std.proofs.Common.{◌≡◌, ◌-◌, ◌&&◌, ◌||◌, ◌∷◌, ◌++◌, ℕ, Bool, true, false, not, cond, List, [], length, replicate, get_or, refl, sym, ap, ap₂, ◌∙◌}
 use Rattle.set_blocks.proofs.Terms.{subst, true≢false, arith, list_any, list_any-append, State, Writes, written, length-written, Command, Size, Next, Reply}
 use Rattle.set_blocks.proofs.Terms.{Full, Worn, Maps, catalogue_of, IsLawful, reply, next, capacity, reply_in, changes_in, stands_alone, IsBlock, replies_in}
-use Rattle.set_blocks.proofs.Terms.{block_changes_in, IsBlockFound, found_by, HoldPlan, StepPlan, BlockPlan, has_yes}
-use Rattle.set_blocks.proofs.Terms.{changing, keeping, nothing_yet, one_more, turn_replies}
-use Rattle.set_blocks.proofs.Terms.{after_turns, some_changes, is_full, some_full, would_change, Settled, Open}
+use Rattle.set_blocks.proofs.Terms.{block_changes_in, IsBlockFound, found_by, HoldPlan, StepPlan, BlockPlan, has_yes, changing, keeping, nothing_yet, one_more}
+use Rattle.set_blocks.proofs.Terms.{turn_replies, after_turns, some_changes, is_full, some_full, would_change, Settled, Open, ◌≡◌, ◌-◌, ◌&&◌, ◌||◌, ◌∷◌, ◌++◌}
+use Rattle.set_blocks.proofs.Terms.{ℕ, Bool, true, false, not, cond, List, [], length, replicate, get_or, refl, sym, ap, ap₂, ◌∙◌}
 use Rattle.set_blocks.specs.declared.finding.TurnReplies.{TurnReplies}
 use Rattle.set_blocks.proofs.Planning.{plan_runs}
 use Rattle.set_blocks.proofs.Remaining.{remains_itself}

@@ -4,9 +4,8 @@ use Rattle.section_work.specs.Causes.{Causes}
 use Rattle.section_work.specs.Attempts.{IsDoneAt, Attempted}
 use Rattle.section_work.specs.declared.attempting.Attempt.{Attempt}
 use Rattle.section_work.specs.declared.attempting.Attempt.TheVariants.{Done as WorkDone, Again as WorkAgain}
-use Rattle.std.proofs.Common.{◌≤◌}
 use Rattle.grow_hash.proofs.Terms.{ℕ, Bool, take, sym, ap, subst, arith, length-take, State, Writes, state_at, IsFit, Seat, IsSeat, IsPlanned, split_place}
-use Rattle.grow_hash.proofs.Terms.{IsGrown, IsGrownOpening, split_tag, IsGrowCommit, IsPlannedSplit, IsClosed}
+use Rattle.grow_hash.proofs.Terms.{IsGrown, IsGrownOpening, split_tag, IsGrowCommit, IsPlannedSplit, IsClosed, ◌≤◌}
 use Rattle.grow_hash.specs.SplitMeaning.{SettlesSplit, split_meaning, split_of}
 use Rattle.grow_hash.specs.SplitAttempts.{IsSplitDone, SplitTried}
 use Rattle.grow_hash.specs.declared.split_work.Looked.{Looked}

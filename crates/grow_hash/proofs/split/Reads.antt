@@ -1,7 +1,6 @@
 -- What a look at the bucket at the split place finds.
-use Rattle.std.proofs.Common.{◌≡◌, ◌≢◌, ◌+◌, ◌<◌, ◌≤◌}
 use Rattle.grow_hash.proofs.Terms.{ℕ, length, sym, ap, ◌∙◌, subst, arith, State, Writes, map_at, objects_of, IsLinked, level, split_place, buckets_at, IsGrown}
-use Rattle.grow_hash.proofs.Terms.{head_at, IsRead, ArePartedWrites, IsPath, IsPlannedSplit, most_buckets, most_level}
+use Rattle.grow_hash.proofs.Terms.{head_at, IsRead, ArePartedWrites, IsPath, IsPlannedSplit, most_buckets, most_level, ◌≡◌, ◌≢◌, ◌+◌, ◌<◌, ◌≤◌}
 use Rattle.grow_hash.specs.SplitCalls.{keys_at_place}
 use Rattle.grow_hash.proofs.Buckets.{few_buckets}
 use Rattle.grow_hash.proofs.split.ReadBuckets.{read_path}

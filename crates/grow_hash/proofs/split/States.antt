@@ -1,9 +1,9 @@
 -- A split keeps a grown state lawful, and leaves its set.
-use Rattle.std.proofs.Common.{◌≡◌, ◌≢◌, ◌+◌, ◌<◌, ◌≤◌, ◌⊎◌}
 use Rattle.grow_hash.proofs.Terms.{ℕ, zero, suc, inl, inr, List, [], length, set, refl, sym, ap, ◌∙◌, subst, arith, length-set, get_or-set_same}
 use Rattle.grow_hash.proofs.Terms.{get_or-set_other, cases_eq, cases_lt, State, written, words_at, length-written, empty, owner, key, link, value, head_words}
 use Rattle.grow_hash.proofs.Terms.{list_words, word, owned_in_range, IsIn, touches-in, IsNodeOf, IsLinked, level, split_place, buckets_at, bucket, next_table}
 use Rattle.grow_hash.proofs.Terms.{IsGrown, head_at, grown_map, grown_name, split_tag, IsGrowCommit, IsPath, new_bucket, split_bucket, first_to, split_writes}
+use Rattle.grow_hash.proofs.Terms.{most_buckets, most_level, first_grown, hash, ◌≡◌, ◌≢◌, ◌+◌, ◌<◌, ◌≤◌, ◌⊎◌}
 use Rattle.grow_hash.proofs.Buckets.{many_heads, twice_buckets, more_buckets, split_mod, split_to, bucket_present}
 use Rattle.grow_hash.proofs.KeptLists.{list_kept}
 use Rattle.grow_hash.proofs.GrownMaps.{grown_map-low}
@@ -12,7 +12,6 @@ use Rattle.grow_hash.proofs.Splitting.{bucket_apart, bucket_parted, table_splits
 use Rattle.grow_hash.proofs.split.Paths.{AreRising, rising_node, head_path_rises, head_path_has}
 use Rattle.grow_hash.proofs.split.PartedLists.{AreParted, parted_words, list_parted}
 use Rattle.grow_hash.proofs.split.PartedStates.{parted_objects, parted_out, parted_in, parted_map}
-use Rattle.grow_hash.proofs.Terms.{most_buckets, most_level, first_grown, hash}
 
 module _ (levels : ℕ) (s : State) (ns : List ℕ) (l : IsGrown levels s) (below : level s < most_level levels)
     (path : IsPath s (head_at (split_place s)) ns) where

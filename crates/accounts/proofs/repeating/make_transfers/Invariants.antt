@@ -1,5 +1,4 @@
-use Rattle.std.proofs.Common.{◌≡◌, ◌+◌, ◌≤◌}
-use Rattle.accounts.proofs.Terms.{length, Continues}
+use Rattle.accounts.proofs.Terms.{length, Continues, ◌≡◌, ◌+◌, ◌≤◌}
 use Rattle.accounts.proofs.repeating.make_transfers.Given as goal
 
 abbrev pub invariant-loop : goal.invariant-loop

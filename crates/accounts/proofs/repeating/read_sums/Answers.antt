@@ -1,6 +1,5 @@
 use Rattle.std.proofs.lemmas.List.Elements.{All-push}
-use Rattle.std.proofs.Common.{◌≡◌, ◌∷◌}
-use Rattle.accounts.proofs.Terms.{[], length, length-append, ap, ◌∙◌, arith, Continues-Continues, total}
+use Rattle.accounts.proofs.Terms.{[], length, length-append, ap, ◌∙◌, arith, Continues-Continues, total, ◌≡◌, ◌∷◌}
 use Rattle.accounts.proofs.Sums.{reads_more}
 use Rattle.accounts.proofs.repeating.read_sums.Goals as goal
 

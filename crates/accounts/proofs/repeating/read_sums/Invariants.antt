@@ -1,6 +1,5 @@
 use Rattle.std.specs.Vec.{vec_capacity}
-use Rattle.std.proofs.Common.{◌≡◌, ◌≤◌}
-use Rattle.accounts.proofs.Terms.{length, All, Continues, total, ReadsEach}
+use Rattle.accounts.proofs.Terms.{length, All, Continues, total, ReadsEach, ◌≡◌, ◌≤◌}
 use Rattle.accounts.proofs.repeating.read_sums.Given as goal
 
 abbrev pub invariant-loop-nth : goal.invariant-loop-nth

@@ -1,5 +1,4 @@
-use Rattle.std.proofs.Common.{◌≡◌}
-use Rattle.grow_hash.proofs.Terms.{ℕ, length, ap, refl, subst, sym, State, Command, Size, Count, grown_map, IsOfGrown, IsGrowFound, Settled}
+use Rattle.grow_hash.proofs.Terms.{ℕ, length, ap, refl, subst, sym, State, Command, Size, Count, grown_map, IsOfGrown, IsGrowFound, Settled, ◌≡◌}
 use Rattle.grow_hash.proofs.attempts.Found.{has_found}
 use Rattle.grow_hash.proofs.deciding.find_change.Goals as goal
 

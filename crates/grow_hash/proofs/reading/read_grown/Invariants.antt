@@ -1,7 +1,6 @@
-use Rattle.std.proofs.Common.{◌≤◌}
 use Rattle.grow_hash.proofs.CatalogueReads.{HasFrom}
 use Rattle.grow_hash.proofs.reading.read_grown.Given as goal
-use Rattle.grow_hash.proofs.Terms.{first_grown}
+use Rattle.grow_hash.proofs.Terms.{first_grown, ◌≤◌}
 
 -- the nodes from this one on were read
 abbrev pub invariant-loop-object : goal.invariant-loop-object

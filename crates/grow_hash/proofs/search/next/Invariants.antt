@@ -1,5 +1,4 @@
-use Rattle.std.proofs.Common.{◌≤◌}
-use Rattle.grow_hash.proofs.Terms.{buckets}
+use Rattle.grow_hash.proofs.Terms.{buckets, ◌≤◌}
 use Rattle.grow_hash.proofs.NextKeys.{LeastOf}
 use Rattle.grow_hash.proofs.search.next.Given as goal
 

@@ -1,5 +1,4 @@
-use Rattle.std.proofs.Common.{◌<◌, ◌≤◌}
-use Rattle.grow_hash.proofs.Terms.{ℕ, IsFree}
+use Rattle.grow_hash.proofs.Terms.{ℕ, IsFree, ◌<◌, ◌≤◌}
 use Rattle.grow_hash.proofs.search.vacant_between.Given as goal
 
 abbrev pub invariant-loop-object : goal.invariant-loop-object

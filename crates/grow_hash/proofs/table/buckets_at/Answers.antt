@@ -1,5 +1,4 @@
-use Rattle.std.proofs.Common.{◌≤◌}
-use Rattle.grow_hash.proofs.Terms.{arith, buckets_at}
+use Rattle.grow_hash.proofs.Terms.{arith, buckets_at, ◌≤◌}
 use Rattle.grow_hash.proofs.Buckets.{few_buckets}
 use Rattle.grow_hash.proofs.table.buckets_at.Goals as goal
 

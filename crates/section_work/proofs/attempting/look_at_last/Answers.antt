@@ -1,6 +1,5 @@
-use Rattle.std.proofs.Common.{◌==◌}
-use Rattle.section_work.proofs.Terms.{◌≤◌, length, inr, refl, sym, subst, ap, ◌∙◌, Seat, Leaves, call_trail}
-use Rattle.section_work.proofs.Terms.{Continues-itself, Continues-Continues, NamesNoCommit-NamesNoCommit}
+use Rattle.section_work.proofs.Terms.{◌≤◌, length, inr, refl, sym, subst, ap, ◌∙◌, Seat, Leaves, call_trail, Continues-itself, Continues-Continues}
+use Rattle.section_work.proofs.Terms.{NamesNoCommit-NamesNoCommit, ◌==◌}
 use Rattle.section_work.proofs.Exchanges.{leave_none}
 use Rattle.section_work.proofs.Entering.{worn_enters, worn_time, time_found}
 use Rattle.section_work.proofs.Outcomes.{read_at, noted_by}

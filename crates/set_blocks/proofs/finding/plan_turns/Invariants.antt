@@ -1,5 +1,4 @@
-use Rattle.std.proofs.Common.{◌≡◌, ◌*◌, ◌≤◌}
-use Rattle.set_blocks.proofs.Terms.{take, length, BlockPlan}
+use Rattle.set_blocks.proofs.Terms.{take, length, BlockPlan, ◌≡◌, ◌*◌, ◌≤◌}
 use Rattle.set_blocks.proofs.finding.plan_turns.Given as goal
 
 abbrev pub invariant-loop-command : goal.invariant-loop-command

@@ -1,5 +1,4 @@
-use Rattle.std.proofs.Common.{◌<◌}
-use Rattle.set_blocks.proofs.Terms.{ℕ, sym, subst, vacant_nodes}
+use Rattle.set_blocks.proofs.Terms.{ℕ, sym, subst, vacant_nodes, ◌<◌}
 use Rattle.set_blocks.proofs.Turning.{vacant_few}
 use Rattle.set_blocks.proofs.finding.read_alone.Goals as goal
 

@@ -1,5 +1,4 @@
-use Rattle.std.proofs.Common.{ap, sym, ◌∙◌, subst, arith}
-use Rattle.set_blocks.proofs.Terms.{State, words_at}
+use Rattle.set_blocks.proofs.Terms.{State, words_at, ap, sym, ◌∙◌, subst, arith}
 use Rattle.set_blocks.proofs.Telling.{list_held, root_held, leaf_held}
 use Rattle.set_blocks.proofs.Turning.{state_same, room_after, more_after}
 use Rattle.set_blocks.proofs.holds.hold_key.Goals as goal

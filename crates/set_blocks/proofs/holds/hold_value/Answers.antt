@@ -1,5 +1,4 @@
-use Rattle.std.proofs.Common.{◌≡◌, true, false, take, ap, sym, ◌∙◌, subst, rules, arith}
-use Rattle.set_blocks.proofs.Terms.{State, written, words_at, link}
+use Rattle.set_blocks.proofs.Terms.{State, written, words_at, link, ◌≡◌, true, false, take, ap, sym, ◌∙◌, subst, rules, arith}
 use Rattle.set_blocks.proofs.Telling.{list_held, node_held, root_held, leaf_held, entry_held}
 use Rattle.set_blocks.proofs.Turning.{state_same, room_after, more_after}
 use Rattle.set_blocks.proofs.holds.hold_value.Goals as goal

@@ -1,5 +1,4 @@
-use Rattle.std.proofs.Common.{◌≡◌}
-use Rattle.set_blocks.proofs.Terms.{false, take, touches}
+use Rattle.set_blocks.proofs.Terms.{false, take, touches, ◌≡◌}
 use Rattle.set_blocks.proofs.overlay.find.Given as goal
 
 abbrev pub invariant-loop-i : goal.invariant-loop-i

@@ -1,5 +1,4 @@
-use Rattle.std.proofs.Common.{◌<◌}
-use Rattle.set_blocks.proofs.Terms.{ℕ, take, arith, subst, sym, ◌∙◌, written, IsLawful}
+use Rattle.set_blocks.proofs.Terms.{ℕ, take, arith, subst, sym, ◌∙◌, written, IsLawful, ◌<◌}
 use Rattle.set_blocks.proofs.Turning.{moved_held, move_held, key_after, count_same, state_same}
 use Rattle.set_blocks.proofs.turns.hold_move.Goals as goal
 

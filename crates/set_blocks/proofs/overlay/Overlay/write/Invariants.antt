@@ -1,5 +1,4 @@
-use Rattle.std.proofs.Common.{◌≡◌, ◌+◌, ◌≤◌}
-use Rattle.set_blocks.proofs.Terms.{take, merged}
+use Rattle.set_blocks.proofs.Terms.{take, merged, ◌≡◌, ◌+◌, ◌≤◌}
 use Rattle.set_blocks.proofs.overlay.Overlay.write.Given as goal
 
 abbrev pub invariant-loop-change : goal.invariant-loop-change

@@ -36,8 +36,8 @@
 mod buckets;
 mod tables;
 
-pub use list_set;
 pub use buckets::bucket_of;
+pub use list_set;
 pub use tables::{
     add_in, del_in, get_in, get_near, has_in, has_near, next_in, next_near, put_in, size_in,
 };

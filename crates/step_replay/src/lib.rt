@@ -48,10 +48,9 @@ pub use drafts::parse_plan;
 pub use laws::replays_are_ruled;
 pub use machine::Machine;
 pub use places::{place_cell, place_number};
-pub use replay_text::replay_rules;
 pub use replay_text::replay_rules::{
     Access, Call, CallOf, MOST_STEPS, Plan, PlanFault, PlanKind, runs_are_ruled, turns_go_on,
     turns_make_one_step,
 };
+pub use replay_text::{replay_rules, write_step};
 pub use schedule::replay;
-pub use replay_text::write_step;

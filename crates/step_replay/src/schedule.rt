@@ -8,10 +8,10 @@ ghost use Rattle.step_replay.specs.Shown.{seats_of};
 ghost use Rattle.replay_text.specs.replay_rules.RuledRuns.{IsRuledPlan};
 
 use crate::machine::Machine;
-use replay_text::write_end;
 use crate::turns::{ReplaySeat, Tape, new_seat};
 use mv_layout::{SharedWord, clock_time};
 use replay_text::replay_rules::{CallOf, Plan};
+use replay_text::write_end;
 use std::alloc::{AllocError, Global};
 
 // So many seats that have made no call.

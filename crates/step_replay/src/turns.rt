@@ -15,9 +15,9 @@ use crate::learning::{edit_of, state_after};
 use crate::machine::Machine;
 use crate::notes::apply;
 use crate::places::{is_place, place_number};
-use replay_text::{write_answer, write_idle, write_skip, write_step};
 use mv_layout::{Config, SharedWord};
 use replay_text::replay_rules::{Access, Call, CallOf, NextStep, NotedVersion, State, Then};
+use replay_text::{write_answer, write_idle, write_skip, write_step};
 use std::alloc::{AllocError, Global};
 
 /// A seat of a replay: the versions of its log, what it is at, the step that comes next where a call is under way, and

@@ -52,9 +52,9 @@ mod plan;
 mod steps;
 mod way;
 
-pub use tree_set;
 pub use balance::{SHORT, plan_add};
 pub use laws::{adds_with_steps_are_fit, steps_after_an_add, steps_keep_the_tree};
 pub use plan::WritePlan;
 pub use steps::BalanceStep;
+pub use tree_set;
 pub use way::{MOST_REMEMBERED, Way, find_way};

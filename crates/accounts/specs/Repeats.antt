@@ -1,6 +1,7 @@
 -- What repeated transfers and sums leave.
 use Rattle.mv_history.specs.Calls.{Enters}
-use Rattle.accounts.specs.Terms.{ℕ, List, [], length, All, state_at, Seat, InSection, IsWorn, Continues, ◌≡◌, ◌+◌, ◌<◌, ◌≤◌, ◌∷◌}
+use Rattle.std.specs.Prelude.{◌≡◌, ◌+◌, ◌<◌, ◌≤◌, ◌∷◌}
+use Rattle.accounts.specs.Terms.{ℕ, List, [], length, All, state_at, Seat, InSection, IsWorn, Continues}
 use Rattle.accounts.specs.declared.reading.SumAt.{SumAt}
 use Rattle.accounts.specs.Rules.{total}
 

@@ -1,7 +1,8 @@
 -- That the rules are propositions, as a `Protocol` asks.
 use Rattle.std.proofs.Props.{props}
 use Rattle.mv_client.specs.Rules.{Writes-set}
-use Rattle.accounts.specs.Terms.{ℕ, List, length, ACCOUNTS, State, Writes, ◌≡◌, ◌≢◌, ◌^◌, ◌<◌, ◌≤◌}
+use Rattle.std.specs.Prelude.{◌≡◌, ◌≢◌, ◌^◌, ◌<◌, ◌≤◌}
+use Rattle.accounts.specs.Terms.{ℕ, List, length, ACCOUNTS, State, Writes}
 use Rattle.accounts.specs.Rules.{balance, total, IsOpening, from_of, to_of, amount_of, IsTransfer}
 
 pub IsOpening-prop : (s : State) → IsProp (IsOpening s)

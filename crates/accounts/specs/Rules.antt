@@ -1,5 +1,6 @@
 -- Which states the accounts open with, and which commits are transfers.
-use Rattle.accounts.specs.Terms.{ℕ, List, [], length, slice_index, sum_by, ACCOUNTS, State, Writes, words_at, ◌≡◌, ◌≢◌, ◌+◌, ◌-◌, ◌^◌, ◌<◌, ◌≤◌, ◌∷◌}
+use Rattle.std.specs.Prelude.{◌≡◌, ◌≢◌, ◌+◌, ◌-◌, ◌^◌, ◌<◌, ◌≤◌, ◌∷◌}
+use Rattle.accounts.specs.Terms.{ℕ, List, [], length, slice_index, sum_by, ACCOUNTS, State, Writes, words_at}
 use Rattle.accounts.specs.Layout.{words_of, account_in, account_of}
 
 -- the balance that the words of an account say

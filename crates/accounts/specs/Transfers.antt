@@ -1,6 +1,7 @@
 -- What a transfer means, as a unit of work.
 use Rattle.section_work.specs.Works.{Meaning}
-use Rattle.accounts.specs.Terms.{ℕ, true, Bool, List, [], State, Writes, written, ACCOUNTS, Funds, Enough, Late, ◌≡◌, ◌≢◌, ◌<◌, ◌≤◌, ◌∷◌}
+use Rattle.std.specs.Prelude.{◌≡◌, ◌≢◌, ◌<◌, ◌≤◌, ◌∷◌}
+use Rattle.accounts.specs.Terms.{ℕ, true, Bool, List, [], State, Writes, written, ACCOUNTS, Funds, Enough, Late}
 use Rattle.accounts.specs.declared.transfer_work.Funds.TheVariants.{Short}
 use Rattle.accounts.specs.Rules.{balance, from_of, amount_of, IsTransfer}
 

@@ -1,6 +1,7 @@
 -- What is read of a bucket, and what its split makes of that.
 use Rattle.section_work.specs.OwnWrites.{objects_of}
-use Rattle.grow_hash.specs.Terms.{ℕ, List, [], State, Writes, words_at, link, list_words, ◌≡◌, ◌≢◌, ◌∷◌}
+use Rattle.std.specs.Prelude.{◌≡◌, ◌≢◌, ◌∷◌}
+use Rattle.grow_hash.specs.Terms.{ℕ, List, [], State, Writes, words_at, link, list_words}
 use Rattle.grow_hash.specs.Tables.{level, split_place}
 use Rattle.grow_hash.specs.Grown.{IsGrown, head_at}
 use Rattle.grow_hash.specs.SplitPlans.{split_writes}

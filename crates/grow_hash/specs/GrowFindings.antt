@@ -2,7 +2,8 @@
 use Rattle.mv_history.specs.Drift.{IsFit}
 use Rattle.mv_history.specs.Legal.{are_distinct, AreWithin}
 use Rattle.set_model.specs.declared.commands.Reply.TheVariants.{Worn}
-use Rattle.grow_hash.specs.Terms.{Bool, true, false, length, State, Writes, tag_of, Command, Reply, ℕ, ◌≡◌}
+use Rattle.std.specs.Prelude.{◌≡◌}
+use Rattle.grow_hash.specs.Terms.{Bool, true, false, length, State, Writes, tag_of, Command, Reply, ℕ}
 use Rattle.grow_hash.specs.GrowRules.{IsGrowCommit}
 use Rattle.grow_hash.specs.GrowPlans.{GrowPlan, grow_locks}
 use Rattle.grow_hash.specs.GrowReplies.{reply_grown, changes_grown}

@@ -1,5 +1,6 @@
 -- What a command on a growing hash set means, as a work.
-use Rattle.grow_hash.specs.Terms.{ℕ, true, false, List, State, Writes, tag_of, Command, Reply, Yes, Meaning, ◌≡◌}
+use Rattle.std.specs.Prelude.{◌≡◌}
+use Rattle.grow_hash.specs.Terms.{ℕ, true, false, List, State, Writes, tag_of, Command, Reply, Yes, Meaning}
 use Rattle.grow_hash.specs.GrowRules.{MakesGrown}
 use Rattle.grow_hash.specs.GrowPlans.{GrowPlan, grow_locks}
 use Rattle.grow_hash.specs.GrowReplies.{reply_grown, changes_grown}

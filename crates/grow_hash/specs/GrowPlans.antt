@@ -1,6 +1,7 @@
 -- What a command on a growing hash set locks and writes in a state.
+use Rattle.std.specs.Prelude.{◌≡◌, ◌^◌, ◌<◌, ◌≤◌}
 use Rattle.grow_hash.specs.Terms.{ℕ, length, State, Writes, Command, Add, Put, Del, Has, Get, Move, Pair, Size, Next, owner, IsAddPlace, add_writes, IsDelPlace}
-use Rattle.grow_hash.specs.Terms.{del_writes, ◌≡◌, ◌^◌, ◌<◌, ◌≤◌}
+use Rattle.grow_hash.specs.Terms.{del_writes}
 use Rattle.grow_hash.specs.Tables.{bucket}
 use Rattle.grow_hash.specs.Grown.{first_grown, head_at, grown_name}
 

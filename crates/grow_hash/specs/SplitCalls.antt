@@ -1,5 +1,6 @@
 -- When the bucket at the split place can be split.
-use Rattle.grow_hash.specs.Terms.{ℕ, length, State, map_at, ◌<◌, ◌≤◌}
+use Rattle.std.specs.Prelude.{◌<◌, ◌≤◌}
+use Rattle.grow_hash.specs.Terms.{ℕ, length, State, map_at}
 use Rattle.grow_hash.specs.Tables.{level, split_place, most_level}
 use Rattle.grow_hash.specs.Grown.{head_at}
 

@@ -1,7 +1,8 @@
 -- What the split of a bucket means, as a work.
 use Rattle.section_work.specs.declared.place.Place.TheVariants.{Commit as AtCommit, Read}
+use Rattle.std.specs.Prelude.{◌≡◌}
 use Rattle.grow_hash.specs.Terms.{ℕ, true, Bool, List, ⊤, State, Writes, Meaning, Attempt, WorkDone, WorkAgain, Looked, Splits, Whole, Long, Worn, Split, Done}
-use Rattle.grow_hash.specs.Terms.{AllSplit, TooLong, TooLate, Again, ◌≡◌}
+use Rattle.grow_hash.specs.Terms.{AllSplit, TooLong, TooLate, Again}
 use Rattle.grow_hash.specs.Tables.{split_place}
 use Rattle.grow_hash.specs.GrowRules.{split_tag}
 use Rattle.grow_hash.specs.SplitPlans.{SplitPlan}

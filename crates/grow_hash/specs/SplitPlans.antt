@@ -1,5 +1,6 @@
 -- What the split of a bucket locks and writes in a state.
-use Rattle.grow_hash.specs.Terms.{ℕ, suc, List, [], State, Writes, key, link, value, head_words, list_words, ◌≡◌, ◌≢◌, ◌+◌, ◌%◌, ◌<◌, ◌==◌, if◌then◌else◌, ◌∷◌}
+use Rattle.std.specs.Prelude.{◌≡◌, ◌≢◌, ◌+◌, ◌%◌, ◌<◌, ◌==◌, if◌then◌else◌, ◌∷◌}
+use Rattle.grow_hash.specs.Terms.{ℕ, suc, List, [], State, Writes, key, link, value, head_words, list_words}
 use Rattle.grow_hash.specs.Tables.{hash, level, split_place, most_level, buckets_at, next_table}
 use Rattle.grow_hash.specs.Grown.{head_at}
 

@@ -1,5 +1,6 @@
 -- What a look at the bucket at the split place comes to.
-use Rattle.grow_hash.specs.Terms.{ℕ, State, Writes, Looked, Splits, Whole, Long, Worn, ◌≡◌, ◌<◌}
+use Rattle.std.specs.Prelude.{◌≡◌, ◌<◌}
+use Rattle.grow_hash.specs.Terms.{ℕ, State, Writes, Looked, Splits, Whole, Long, Worn}
 use Rattle.grow_hash.specs.Tables.{level, split_place, most_level}
 use Rattle.grow_hash.specs.SplitPlans.{SplitPlan}
 use Rattle.grow_hash.specs.SplitCalls.{keys_at_place, most_split, IsSplittable}

@@ -1,5 +1,6 @@
 -- The table of a growing hash set, object 0: which bucket has which keys. The set grows up to 2^levels buckets.
-use Rattle.grow_hash.specs.Terms.{ℕ, suc, nat_lt, List, [], State, words_at, key, link, ◌≡◌, ◌+◌, ◌-◌, ◌*◌, ◌%◌, ◌^◌, ◌<◌, ◌≤◌, ◌==◌, if◌then◌else◌, ◌∷◌}
+use Rattle.std.specs.Prelude.{◌≡◌, ◌+◌, ◌-◌, ◌*◌, ◌%◌, ◌^◌, ◌<◌, ◌≤◌, ◌==◌, if◌then◌else◌, ◌∷◌}
+use Rattle.grow_hash.specs.Terms.{ℕ, suc, nat_lt, List, [], State, words_at, key, link}
 use Rattle.grow_hash.specs.Mixing.{mixed}
 
 -- the program's set grows up to 2^10 buckets, and no set has fewer

@@ -1,9 +1,10 @@
 -- What an attempt of a work leaves, by its answer.
 use Rattle.mv_history.specs.declared.history.Commit.{Commit}
 use Rattle.mv_history.specs.declared.history.Entry.TheVariants.{Change}
+use Rattle.std.specs.Prelude.{◌≡◌, ◌+◌, ◌-◌, ◌<◌, ◌≤◌, ◌⊎◌, ◌==◌, ◌∷◌, ◌++◌}
 use Rattle.section_work.specs.Terms.{ℕ, true, List, [], length, State, Writes, touches, state_at, Holder, Seat, InSection, Holds, snapshot_of, state_of_time}
 use Rattle.section_work.specs.Terms.{commit_exchanges, IsOneLost, call_trail, Continues, IsAsBefore, GoesOn, Prepares, Leaves, IsEntryAt, Overtakes, AtCommit}
-use Rattle.section_work.specs.Terms.{Read, Refusal, Lock, Rival, LogFull, Attempt, Done, Again, ◌≡◌, ◌+◌, ◌-◌, ◌<◌, ◌≤◌, ◌⊎◌, ◌==◌, ◌∷◌, ◌++◌}
+use Rattle.section_work.specs.Terms.{Read, Refusal, Lock, Rival, LogFull, Attempt, Done, Again}
 use Rattle.section_work.specs.declared.causes.Cause.{Cause}
 use Rattle.section_work.specs.Causes.{Causes}
 use Rattle.section_work.specs.Sections.{IsEntered}

@@ -1,5 +1,6 @@
 -- What a block comes to in a state, before anything is locked.
-use Rattle.set_blocks.specs.Terms.{Bool, true, false, List, State, Writes, Command, ◌≡◌, if◌then◌else◌}
+use Rattle.std.specs.Prelude.{◌≡◌, if◌then◌else◌}
+use Rattle.set_blocks.specs.Terms.{Bool, true, false, List, State, Writes, Command}
 use Rattle.set_blocks.specs.BlockMeaning.{replies_in, block_changes_in}
 use Rattle.set_blocks.specs.BlockPlans.{BlockPlan}
 use Rattle.set_blocks.specs.declared.finding.BlockFinding.{BlockFinding}

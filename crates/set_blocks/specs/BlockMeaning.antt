@@ -1,7 +1,8 @@
 -- What a block means, as a work.
 use Rattle.mv_history.specs.Drift.{Drifts}
 use Rattle.section_work.specs.Works.{Meaning}
-use Rattle.set_blocks.specs.Terms.{ℕ, Bool, true, false, List, length, State, Writes, written, Command, Reply, catalogue_of, capacity, ◌≡◌, ◌*◌}
+use Rattle.std.specs.Prelude.{◌≡◌, ◌*◌}
+use Rattle.set_blocks.specs.Terms.{ℕ, Bool, true, false, List, length, State, Writes, written, Command, Reply, catalogue_of, capacity}
 use Rattle.set_blocks.specs.BlockPlans.{BlockPlan}
 use Rattle.set_blocks.specs.BlockReplies.{block_replies, block_changes, block_next}
 use Rattle.set_blocks.specs.BlockRules.{IsBlockCommit, block_tag}

@@ -3,8 +3,9 @@ use Rattle.list_set.specs.Places.{IsAddPlace, IsDelPlace}
 use Rattle.tree_set.specs.Places.{IsLeaf}
 use Rattle.set_catalog.specs.Needs.{first_tree}
 use Rattle.set_catalog.specs.Plans.{head_of, PlanOf}
+use Rattle.std.specs.Prelude.{◌≡◌, ◌≢◌, ◌<◌, ◌≤◌, ◌||◌, ◌∷◌, ◌++◌}
 use Rattle.set_blocks.specs.Terms.{ℕ, Bool, true, false, List, [], State, Writes, written, words_at, Command, Add, Put, Del, Has, Get, Move, Pair, Reply, Yes}
-use Rattle.set_blocks.specs.Terms.{No, Both, NoKey, Value, key, link, value, EndsAt, IsInRange, merged, changes_in, ◌≡◌, ◌≢◌, ◌<◌, ◌≤◌, ◌||◌, ◌∷◌, ◌++◌}
+use Rattle.set_blocks.specs.Terms.{No, Both, NoKey, Value, key, link, value, EndsAt, IsInRange, merged, changes_in}
 
 -- The set of the name lacks the key, as these objects show while they are held: in a list the last node before the key, or
 -- the head; in a tree the leaf where the search ends, or the root of an empty tree.

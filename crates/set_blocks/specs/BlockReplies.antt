@@ -1,7 +1,8 @@
 -- What the commands of a block reply on a catalogue, and what the block leaves there.
 use Rattle.set_model.specs.Catalogue.{Maps}
 use Rattle.set_model.specs.Replies.{reply, changes, next}
-use Rattle.set_blocks.specs.Terms.{ℕ, Bool, true, false, not, List, [], length, replicate, list_any, Command, Reply, Full, Worn, ◌&&◌, ◌||◌, ◌∷◌, if◌then◌else◌}
+use Rattle.std.specs.Prelude.{◌&&◌, ◌||◌, ◌∷◌, if◌then◌else◌}
+use Rattle.set_blocks.specs.Terms.{ℕ, Bool, true, false, not, List, [], length, replicate, list_any, Command, Reply, Full, Worn}
 
 -- the replies of commands one after another, as if not at the last time
 abbrev pub turn_replies : List Command → Maps → ℕ → List Reply

@@ -2,7 +2,8 @@
 use Rattle.std.proofs.Props.{props}
 use Rattle.set_model.specs.TreeLaws.{EndsAt-prop}
 use Rattle.set_model.specs.LawfulLaws.{IsLawful-prop}
-use Rattle.set_blocks.specs.Terms.{ℕ, false, List, [], State, Writes, written, touches, first_node, first_root, key, link, EndsAt, ◌≡◌, ◌<◌, ◌≤◌, ◌∷◌}
+use Rattle.std.specs.Prelude.{◌≡◌, ◌<◌, ◌≤◌, ◌∷◌}
+use Rattle.set_blocks.specs.Terms.{ℕ, false, List, [], State, Writes, written, touches, first_node, first_root, key, link, EndsAt}
 use Rattle.set_blocks.specs.BlockRules.{IsBlockTag, IsOfLists, IsBlockCommit}
 
 IsBlockTag-prop : (tag : List ℕ) → IsProp (IsBlockTag tag)

@@ -1,5 +1,6 @@
 -- Which commands are a block.
-use Rattle.set_blocks.specs.Terms.{Bool, true, false, List, length, list_any, Command, Size, Next, MOST_IN_BLOCK, ◌≡◌, ◌<◌, ◌≤◌}
+use Rattle.std.specs.Prelude.{◌≡◌, ◌<◌, ◌≤◌}
+use Rattle.set_blocks.specs.Terms.{Bool, true, false, List, length, list_any, Command, Size, Next, MOST_IN_BLOCK}
 
 -- whether the command reads a whole set, and so is alone
 abbrev pub stands_alone : Command → Bool

@@ -1,5 +1,6 @@
 -- What is held of a set for a key, over what is planned.
-use Rattle.set_blocks.specs.Terms.{ℕ, Bool, List, Option, None, Some, State, Writes, merged, ◌≡◌}
+use Rattle.std.specs.Prelude.{◌≡◌}
+use Rattle.set_blocks.specs.Terms.{ℕ, Bool, List, Option, None, Some, State, Writes, merged}
 use Rattle.set_blocks.specs.BlockPlans.{LacksAt, ValueAt, TellsAt, holding}
 
 -- Objects are held, with the words that they have, that show whether the set of the name has the key.

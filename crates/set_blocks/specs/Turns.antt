@@ -1,5 +1,6 @@
 -- What a command of a block comes to at its turn.
-use Rattle.set_blocks.specs.Terms.{ℕ, false, List, Option, None, Some, State, Writes, Command, Reply, Full, merged, reply_in, ◌≡◌}
+use Rattle.std.specs.Prelude.{◌≡◌}
+use Rattle.set_blocks.specs.Terms.{ℕ, false, List, Option, None, Some, State, Writes, Command, Reply, Full, merged, reply_in}
 use Rattle.set_blocks.specs.BlockPlans.{HoldPlan, StepPlan, holding}
 use Rattle.set_blocks.specs.declared.turns.TurnReply.{TurnReply}
 

@@ -120,7 +120,8 @@ pub fn read_master_pair<P: Protocol, L: Ledger>(
     (first, shared.load_master(pass, object, place + 1, steps))
 }
 
-/// Reads four words of the version, from this place on, of the six that `read_version` reads, on the same condition. It makes four steps; the pass stands there still.
+/// Reads four words of the version, from this place on, of the six that `read_version` reads, on the
+/// same condition. It makes four steps; the pass stands there still.
 #[inline(always)]
 pub fn read_version_four<P: Protocol, L: Ledger>(
     shared: &Shared<P>,

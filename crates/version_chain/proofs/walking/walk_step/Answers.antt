@@ -176,4 +176,5 @@ returns-clause-answers g c =
     c.load_first-first.ensures.view (view c.load_stamp-stamp.new.pass) c.load_stamp-stamp.result c.load_stamp-stamp.ensures.view
     c.load_stamp-stamp.ensures.says c.args.walk (record { link = c.args.walk.link; slot = c.slot_linked-slot.result }) refl refl
     c.if-link-eq0.false c.time.result (c.time.ensures (section_in (view c.load_stamp-stamp.new.pass)) may.phase) c.if-stamp-time.false
-    (is_time _ c.if-is_unset.ensures.1) c.args.steps.now c.load_first-first.new.steps c.load_stamp-stamp.new.steps c.load_first-first.ensures.step c.load_stamp-stamp.ensures.step
+    (is_time _ c.if-is_unset.ensures.1) c.args.steps.now c.load_first-first.new.steps c.load_stamp-stamp.new.steps
+    c.load_first-first.ensures.step c.load_stamp-stamp.ensures.step

@@ -1,9 +1,7 @@
 // What tables ask: commands by the indices of their sets, questions of one set, and the words of objects.
-use crate::comparing::{assert_read, assert_row, must};
-use mv_history::{Store, View, Words};
-use section_work::Place;
-use set_catalog::{CommandAttempt, Hints, attempt_with};
-use set_model::{Command, Name, Reply, SetRules};
+use crate::comparing::{assert_same, must};
+use mv_history::{View, Words};
+use set_model::{Command, Name};
 use std::alloc::{AllocError, Global};
 use std::process::Abort;
 
@@ -70,35 +68,6 @@ pub(crate) fn command(rt: &impl Abort, ask: Ask) -> Command {
     }
 }
 
-// Attempts one command, which locks five objects at most, with hints.
-pub(crate) fn attempt_hinting<S: Store<Rules = SetRules>>(
-    rt: &impl Abort,
-    store: S,
-    hints: &mut Hints,
-    command: &Command,
-) -> (S, CommandAttempt) {
-    must(rt, store.write_max() >= 5, "a write set of five objects");
-    attempt_with(store, hints, command)
-}
-
-// Looks that a command was done at this place, with this reply.
-pub(crate) fn expect_attempt(
-    rt: &impl Abort,
-    answer: CommandAttempt,
-    reply: Reply,
-    place: Place,
-    name: &str,
-    row: usize,
-) {
-    assert_row(
-        rt,
-        &answer,
-        &CommandAttempt::Done { reply, place },
-        name,
-        row,
-    );
-}
-
 // The commands, in their order.
 pub(crate) fn commands_of(
     rt: &impl Abort,
@@ -121,7 +90,7 @@ pub(crate) fn expect_commands(
     text: &[u8],
 ) -> Result<(), AllocError> {
     let want = commands_of(rt, alloc, asks)?;
-    assert_read(rt, &found, &want.as_slice(), text);
+    assert_same(rt, &found, &want.as_slice(), &text);
     Ok(())
 }
 
@@ -141,6 +110,6 @@ pub(crate) type Object = (u32, Words);
 pub(crate) fn expect_words<V: View>(rt: &impl Abort, view: &mut V, rows: &[Object]) {
     for (row, (object, words)) in rows.iter().enumerate() {
         must(rt, *object < view.objects(), "an object of the view");
-        assert_row(rt, &view.read(*object), words, "words of an object", row);
+        assert_same(rt, &view.read(*object), words, &("words of an object", row));
     }
 }

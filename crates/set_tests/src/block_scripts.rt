@@ -1,7 +1,7 @@
 // Scripts of blocks that are accepted, and those that are refused, with their line and their fault; and which commands are a block.
 use crate::asked::Ask::{Add, Put, Size};
 use crate::asked::{Ask, commands_of, expect_commands};
-use crate::comparing::{assert_read, assert_row, assert_same, must};
+use crate::comparing::{assert_same, must};
 use block_parser::{BlockFault, BlockKind, parse_blocks};
 use script_parser::FaultKind;
 use set_blocks::Block;
@@ -49,14 +49,14 @@ fn accepts(
     blocks: &[&[Ask]],
 ) -> Result<(), AllocError> {
     let answer = parsed(rt, alloc, text).ok().expect(rt, "a script");
-    assert_read(rt, &answer.len(), &blocks.len(), text);
+    assert_same(rt, &answer.len(), &blocks.len(), &text);
     expect_blocks(rt, alloc, &answer, blocks, text)
 }
 
 // Looks that the text has its first fault on this line.
 fn refuses(rt: &impl Abort, alloc: Global, text: &[u8], line: u32, kind: BlockKind) {
     let fault = parsed(rt, alloc, text).err().expect(rt, "a fault");
-    assert_read(rt, &fault, &BlockFault::At { line, kind }, text);
+    assert_same(rt, &fault, &BlockFault::At { line, kind }, &text);
 }
 
 fn refuses_all(rt: &impl Abort, alloc: Global, rows: &[Broken]) {
@@ -211,7 +211,7 @@ fn refuses_behind(
 fn the_commands_of_all_blocks_are_counted(rt: HostRuntime) -> Result<(), Fail> {
     let text = most_blocks(rt.alloc())?;
     let count = count_blocks(&rt, rt.alloc(), &text);
-    assert_same(&rt, &count, &8_192, "blocks");
+    assert_same(&rt, &count, &8_192, &"blocks");
     Ok(refuses_behind(&rt, rt.alloc(), text, &BEHIND_MOST)?)
 }
 
@@ -236,7 +236,7 @@ fn too_many_comes_before_too_long(rt: HostRuntime) -> Result<(), Fail> {
         65_538,
         BlockKind::Line(FaultKind::Many),
     );
-    assert_same(&rt, &MOST_COMMANDS, &65_536, "commands");
+    assert_same(&rt, &MOST_COMMANDS, &65_536, &"commands");
     Ok(())
 }
 
@@ -287,7 +287,7 @@ fn is_block(rt: &impl Abort, alloc: Global, asks: &[Ask]) -> Result<bool, AllocE
 fn which_commands_are_a_block(rt: HostRuntime) -> Result<(), Fail> {
     for (row, (asks, whether)) in MADE.iter().enumerate() {
         let found = is_block(&rt, rt.alloc(), asks)?;
-        assert_row(&rt, &found, whether, "commands of a block", row);
+        assert_same(&rt, &found, whether, &("commands of a block", row));
     }
     Ok(())
 }

@@ -1,5 +1,5 @@
 // A catalogue in memory: keys with their values, by name.
-use crate::comparing::{assert_row, must};
+use crate::comparing::{assert_same, must};
 use set_model::Catalogue;
 use std::alloc::AllocError;
 use std::process::Abort;
@@ -19,7 +19,7 @@ fn insert_all(rt: &impl Abort, catalogue: &mut Catalogue) -> Result<(), AllocErr
     for (row, (name, key, value, added)) in INSERTS.iter().enumerate() {
         must(rt, *name < 30, "a set");
         let found = catalogue.insert(*name, *key, *value)?;
-        assert_row(rt, &found, added, "inserts", row);
+        assert_same(rt, &found, added, &("inserts", row));
     }
     Ok(())
 }
@@ -30,7 +30,7 @@ static REMOVES: [(u32, u32, bool); 3] = [(0, 4, true), (0, 4, false), (1, 5, fal
 fn remove_all(rt: &impl Abort, catalogue: &mut Catalogue) {
     for (row, (name, key, taken)) in REMOVES.iter().enumerate() {
         must(rt, *name < 30, "a set");
-        assert_row(rt, &catalogue.remove(*name, *key), taken, "removes", row);
+        assert_same(rt, &catalogue.remove(*name, *key), taken, &("removes", row));
     }
 }
 
@@ -44,8 +44,8 @@ static LEFT: [(u32, &[u32], &[u64]); 3] = [
 fn expect_all(rt: &impl Abort, catalogue: &Catalogue) {
     for (row, (name, keys, values)) in LEFT.iter().enumerate() {
         must(rt, *name < 30, "a set");
-        assert_row(rt, &catalogue.keys(*name), keys, "keys that are left", row);
-        assert_row(rt, &catalogue.values(*name), values, "their values", row);
+        assert_same(rt, &catalogue.keys(*name), keys, &("keys that are left", row));
+        assert_same(rt, &catalogue.values(*name), values, &("their values", row));
     }
 }
 

@@ -1,13 +1,15 @@
 // Commands over the plain store, row by row.
+use crate::asked::Ask;
 use crate::asked::Ask::{Add, Del, Get, Has, Move, Next, Put, Size};
-use crate::asked::{Ask, attempt_hinting, command, expect_attempt};
-use crate::comparing::{assert_same, must};
-use crate::opening::open_sets;
+use crate::attempts::{Attempts, Bare, Hinting, expect};
+use crate::comparing::assert_same;
+use crate::counted::Reads;
+use crate::looks::{Look, look_at_new};
 use mv_history::{Section, Store};
 use section_work::Place;
 use section_work::Place::{Commit, Read};
-use set_catalog::{CommandAttempt, Hints, attempt, read_all};
-use set_model::{Catalogue, Command, Reply, SetRules};
+use set_catalog::{Hints, read_all};
+use set_model::{Catalogue, Reply, SetRules};
 use std::alloc::{AllocError, Global};
 use std::process::Abort;
 use std::test::Fail;
@@ -19,7 +21,7 @@ type Row = (Ask, Reply, Place);
 type Keys = (u32, &'static [u32]);
 
 // What a new store is asked.
-struct Case {
+pub(crate) struct Case {
     // What it shows.
     name: &'static str,
     objects: u32,
@@ -31,7 +33,7 @@ struct Case {
 }
 
 // The same with hints.
-struct Hinted {
+pub(crate) struct Hinted {
     case: Case,
     // How many objects they have room for.
     room: u32,
@@ -41,43 +43,16 @@ struct Hinted {
     left: u32,
 }
 
-// Attempts one command, which locks five objects at most.
-fn attempt_one<S: Store<Rules = SetRules>>(
-    rt: &impl Abort,
-    store: S,
-    command: &Command,
-) -> (S, CommandAttempt) {
-    must(rt, store.write_max() >= 5, "a write set of five objects");
-    attempt(store, command)
-}
-
 // Attempts the commands, one after another, and looks at their replies and their places.
-fn play<S: Store<Rules = SetRules>>(rt: &impl Abort, mut store: S, case: &Case) -> S {
-    for (row, (ask, reply, place)) in case.rows.iter().enumerate() {
-        let (after, answer) = attempt_one(rt, store, &command(rt, *ask));
-        expect_attempt(rt, answer, *reply, *place, case.name, row);
-        store = after;
+fn play<A: Attempts>(rt: &impl Abort, mut asking: A, case: &Case) -> A {
+    for (row, wanted) in case.rows.iter().enumerate() {
+        asking = expect(rt, asking, *wanted, case.name, row);
     }
-    store
-}
-
-// The same, with hints.
-fn play_with<S: Store<Rules = SetRules>>(
-    rt: &impl Abort,
-    mut store: S,
-    hints: &mut Hints,
-    case: &Case,
-) -> S {
-    for (row, (ask, reply, place)) in case.rows.iter().enumerate() {
-        let (after, answer) = attempt_hinting(rt, store, hints, &command(rt, *ask));
-        expect_attempt(rt, answer, *reply, *place, case.name, row);
-        store = after;
-    }
-    store
+    asking
 }
 
 // The catalogue that a store has come to.
-fn read_end<S: Store<Rules = SetRules>>(
+pub(crate) fn read_end<S: Store<Rules = SetRules>>(
     alloc: Global,
     store: S,
 ) -> (S, Result<Catalogue, AllocError>) {
@@ -100,7 +75,7 @@ fn keys_in(rows: &[Keys], index: u32) -> &'static [u32] {
 fn expect_keys(rt: &impl Abort, all: &Catalogue, case: &Case) {
     for index in 0..30 {
         let wanted = keys_in(case.end, index);
-        assert_same(rt, &(index, all.keys(index)), &(index, wanted), case.name);
+        assert_same(rt, &(index, all.keys(index)), &(index, wanted), &case.name);
     }
 }
 
@@ -116,23 +91,32 @@ fn expect_end<S: Store<Rules = SetRules> + Drop>(
     Ok(())
 }
 
-// Plays a case in a new store.
-fn play_case(rt: &impl Abort, alloc: Global, case: &Case) -> Result<(), AllocError> {
-    let store = open_sets(rt, alloc, case.objects, case.room)?;
-    expect_end(rt, alloc, play(rt, store, case), case)
+// Plays a case without hints.
+pub(crate) fn play_bare<S: Store<Rules = SetRules> + Reads + Drop>(
+    rt: &impl Abort,
+    alloc: Global,
+    store: S,
+    case: &Case,
+) -> Result<(), AllocError> {
+    let Bare { store } = play(rt, Bare { store }, case);
+    expect_end(rt, alloc, store, case)
 }
 
-// The same, with hints.
-fn play_hinted(rt: &impl Abort, alloc: Global, hinted: &Hinted) -> Result<(), AllocError> {
-    let case = &hinted.case;
-    let mut hints = Hints::new(alloc, hinted.room)?;
+// Plays a case with these hints.
+pub(crate) fn play_hinted<S: Store<Rules = SetRules> + Reads + Drop>(
+    rt: &impl Abort,
+    alloc: Global,
+    store: S,
+    mut hints: Hints,
+    hinted: &Hinted,
+) -> Result<(), AllocError> {
     let (first, end) = hinted.noted;
     for object in first..end {
         hints.note(object);
     }
-    let store = open_sets(rt, alloc, case.objects, case.room)?;
-    let store = play_with(rt, store, &mut hints, case);
-    assert_same(rt, &hints.len(), &hinted.left, case.name);
+    let case = &hinted.case;
+    let Hinting { store, hints } = play(rt, Hinting { store, hints }, case);
+    assert_same(rt, &hints.len(), &hinted.left, &case.name);
     expect_end(rt, alloc, store, case)
 }
 
@@ -223,7 +207,8 @@ static CASES: [Case; 4] = [
 #[test]
 fn each_command_has_its_reply_and_its_place(rt: HostRuntime) -> Result<(), Fail> {
     for case in &CASES {
-        play_case(&rt, rt.alloc(), case)?;
+        let look = Look::Commands(case);
+        look_at_new(&rt, rt.alloc(), case.objects, case.room, 0, look)?;
     }
     Ok(())
 }
@@ -258,7 +243,8 @@ static HINTED: [Hinted; 2] = [
 #[test]
 fn commands_note_what_they_free(rt: HostRuntime) -> Result<(), Fail> {
     for hinted in &HINTED {
-        play_hinted(&rt, rt.alloc(), hinted)?;
+        let (case, look) = (&hinted.case, Look::Hinted(hinted));
+        look_at_new(&rt, rt.alloc(), case.objects, case.room, hinted.room, look)?;
     }
     Ok(())
 }

@@ -1,171 +1,124 @@
 // How many reads of objects it takes to count the keys of a set, to read the whole catalogue, and to
 // answer that a store is full.
+use crate::asked::Ask;
 use crate::asked::Ask::{Add, Del, Has, Move, Next, Put, Size};
-use crate::asked::{Ask, attempt_hinting, command, expect_attempt};
-use crate::comparing::{assert_row, assert_same, must};
-use crate::counted::Counted;
-use crate::opening::open_sets;
-use mv_history::{Section, Store};
+use crate::attempts::{Attempts, Bare, Hinting, expect};
+use crate::commands::read_end;
+use crate::comparing::assert_same;
+use crate::counted::Reads;
+use crate::filling::{Filling, Order, fill};
+use crate::looks::{Look, look_at_new};
+use mv_history::Store;
 use section_work::Place;
 use section_work::Place::{Commit, Read};
-use set_catalog::{CommandAttempt, HintedStore, Hints, Memo, read_all};
-use set_model::{Catalogue, Command, Reply, SetRules};
+use set_catalog::{HintedStore, Hints, Memo};
+use set_model::{Reply, SetRules};
 use std::alloc::{AllocError, Global};
 use std::process::Abort;
 use std::test::Fail;
 
-// Adds a key to the set of this index.
-pub(crate) fn add<S: Store<Rules = SetRules>>(
-    rt: &impl Abort,
-    store: S,
-    hints: &mut Hints,
-    index: u32,
-    key: u32,
-) -> S {
-    attempt_hinting(rt, store, hints, &command(rt, Add(index, key))).0
-}
+// A command, its reply, its place, and how many reads it takes.
+type Row = (Ask, Reply, Place, u32);
 
-// What a command is answered, and how many reads it took.
-fn count_reads<S: Store<Rules = SetRules>>(
-    rt: &impl Abort,
-    store: S,
-    hints: &mut Hints,
-    ask: Ask,
-) -> (S, CommandAttempt, u32) {
-    let counted = Counted {
-        view: store,
-        reads: 0,
-    };
-    let (Counted { view, reads }, answer) = attempt_hinting(rt, counted, hints, &command(rt, ask));
-    (view, answer, reads)
-}
-
-// Looks that `size` of each set, with as many reads, counts so many keys at this time.
-fn expect_sizes<S: Store<Rules = SetRules>>(
-    rt: &impl Abort,
-    mut store: S,
-    hints: &mut Hints,
-    sizes: &[(u32, u32)],
-    count: u64,
-    time: u64,
-) -> S {
-    for (row, (index, most)) in sizes.iter().enumerate() {
-        let (after, answer, reads) = count_reads(rt, store, hints, Size(*index));
-        expect_attempt(rt, answer, Reply::Count { count }, Read(time), "sizes", row);
-        assert_row(rt, &reads, most, "reads of a size", row);
-        store = after;
+// Attempts the commands, one after another, and looks at their replies, their places and their reads.
+fn play<A: Attempts>(rt: &impl Abort, mut asking: A, rows: &[Row], name: &str) -> A {
+    for (row, (ask, reply, place, reads)) in rows.iter().enumerate() {
+        let before = asking.reads();
+        asking = expect(rt, asking, (*ask, *reply, *place), name, row);
+        let more = asking.reads().saturating_sub(before);
+        assert_same(rt, &more, reads, &(name, row));
     }
-    store
+    asking
+}
+
+// What a new store is filled with, and what it is asked then.
+pub(crate) struct Sizes {
+    // What it shows.
+    name: &'static str,
+    filling: Filling,
+    rows: &'static [Row],
 }
 
 // The head and 200 nodes; 16 heads and 200 nodes.
-static LIST_AND_TABLE: [(u32, u32); 2] = [(3, 201), (13, 216)];
-
-// Adds 200 keys to a list and to a table.
-fn fill_two<S: Store<Rules = SetRules>>(rt: &impl Abort, mut store: S, hints: &mut Hints) -> S {
-    for i in 0..200 {
-        store = add(rt, store, hints, 3, 200 - i);
-        store = add(rt, store, hints, 13, i);
-    }
-    store
-}
+const LIST_AND_TABLE: [Row; 2] = [
+    (Size(3), Reply::Count { count: 200 }, Read(400), 201),
+    (Size(13), Reply::Count { count: 200 }, Read(400), 216),
+];
 
 // The root and 259 nodes, and one node twice where more than 64 links are pending.
-static TREES: [(u32, u32); 3] = [(20, 260), (21, 261), (22, 260)];
+const TREES: [Row; 3] = [
+    (Size(20), Reply::Count { count: 130 }, Read(780), 260),
+    (Size(21), Reply::Count { count: 130 }, Read(780), 261),
+    (Size(22), Reply::Count { count: 130 }, Read(780), 260),
+];
 
-// Adds a key to the list `l0`, and moves it to the tree of this index: a move turns nothing.
-fn move_in<S: Store<Rules = SetRules>>(
+static SIZES: [Sizes; 2] = [
+    Sizes {
+        name: "sizes of a list and of a table",
+        filling: Filling::ListAndTable,
+        rows: &LIST_AND_TABLE,
+    },
+    Sizes {
+        name: "sizes of trees",
+        filling: Filling::Trees,
+        rows: &TREES,
+    },
+];
+
+// Fills sets, and looks at their sizes.
+pub(crate) fn look_at_sizes<S: Store<Rules = SetRules> + Reads + Drop>(
     rt: &impl Abort,
     store: S,
-    hints: &mut Hints,
-    index: u32,
-    key: u32,
-) -> S {
-    let store = add(rt, store, hints, 0, key);
-    attempt_hinting(rt, store, hints, &command(rt, Move(0, index, key))).0
-}
-
-// Moves 130 keys into each of three trees: a chain to the right, a chain to the left, and a tree without long branches.
-fn fill_trees<S: Store<Rules = SetRules>>(rt: &impl Abort, mut store: S, hints: &mut Hints) -> S {
-    for i in 0..130 {
-        store = move_in(rt, store, hints, 20, i);
-        store = move_in(rt, store, hints, 21, 130 - i);
-        store = move_in(rt, store, hints, 22, i * 81 % 131);
-    }
-    store
-}
-
-// Fills sets, and looks at the sizes of a list and a table, or of three trees.
-fn look_at_sizes<S: Store<Rules = SetRules>>(
-    rt: &impl Abort,
-    store: S,
-    hints: &mut Hints,
-    are_trees: bool,
-) -> S {
-    if are_trees {
-        let store = fill_trees(rt, store, hints);
-        return expect_sizes(rt, store, hints, &TREES, 130, 780);
-    }
-    let store = fill_two(rt, store, hints);
-    expect_sizes(rt, store, hints, &LIST_AND_TABLE, 200, 400)
+    hints: Hints,
+    sizes: &Sizes,
+) {
+    let filled = fill(rt, Hinting { store, hints }, sizes.filling);
+    let Hinting { store: _store, hints: _ } = play(rt, filled, sizes.rows, sizes.name);
 }
 
 #[test]
 fn a_set_is_read_once_whatever_its_form(rt: HostRuntime) -> Result<(), Fail> {
-    for are_trees in [false, true] {
-        let mut hints = Hints::new(rt.alloc(), 1)?;
-        let store = open_sets(&rt, rt.alloc(), 1000, 1000)?;
-        let _store = look_at_sizes(&rt, store, &mut hints, are_trees);
+    for sizes in &SIZES {
+        look_at_new(&rt, rt.alloc(), 1000, 1000, 1, Look::Sizes(sizes))?;
     }
     Ok(())
 }
 
-// The whole catalogue, and how many reads it took.
-fn counted_catalogue<S: Store<Rules = SetRules>>(
-    alloc: Global,
-    store: S,
-) -> (S, Result<Catalogue, AllocError>, u32) {
-    let mut view = Counted {
-        view: store.enter(),
-        reads: 0,
-    };
-    let all = read_all(alloc, &mut view);
-    let Counted { view, reads } = view;
-    (view.leave(), all, reads)
-}
+// The keys of the tree 20.
+static TREE: Filling = Filling::Keys {
+    set: 20,
+    first: 0,
+    count: 130,
+    order: Order::Rising,
+};
 
-// Adds 130 keys to the tree 20, and reads the whole catalogue.
-fn look_at_tree<S: Store<Rules = SetRules> + Drop>(
+// Fills a tree, and reads the whole catalogue.
+pub(crate) fn look_at_catalogue<S: Store<Rules = SetRules> + Reads + Drop>(
     rt: &impl Abort,
     alloc: Global,
-    mut store: S,
-    hints: &mut Hints,
+    store: S,
+    hints: Hints,
 ) -> Result<(), AllocError> {
-    for i in 0..130 {
-        store = add(rt, store, hints, 20, i);
-    }
-    let (_store, all, reads) = counted_catalogue(alloc, store);
-    assert_same(rt, &all?.keys(20).len(), &130, "keys of the tree");
+    let Hinting { store, hints: _ } = fill(rt, Hinting { store, hints }, TREE);
+    let before = store.reads();
+    let (store, all) = read_end(alloc, store);
+    let more = store.reads().saturating_sub(before);
+    assert_same(rt, &all?.keys(20).len(), &130, &"keys of the tree");
     // The heads and the 259 nodes of the tree.
-    assert_same(rt, &reads, &(180 + 259), "reads of the catalogue");
+    assert_same(rt, &more, &(180 + 259), &"reads of the catalogue");
     Ok(())
 }
 
 #[test]
 fn a_catalogue_is_read_once(rt: HostRuntime) -> Result<(), Fail> {
-    let mut hints = Hints::new(rt.alloc(), 1)?;
-    let store = open_sets(&rt, rt.alloc(), 1000, 1000)?;
-    Ok(look_at_tree(&rt, rt.alloc(), store, &mut hints)?)
+    Ok(look_at_new(&rt, rt.alloc(), 1000, 1000, 1, Look::Catalogue)?)
 }
-
-// A command, its reply, its place, and how many reads it takes.
-type Row = (Ask, Reply, Place, u32);
 
 // A set, and how many keys are added to it, from 1 on.
 type Keys = (u32, u32);
 
 // What a new store is asked, whose reads are counted.
-struct Case {
+pub(crate) struct Case {
     // What it shows.
     name: &'static str,
     objects: u32,
@@ -176,6 +129,31 @@ struct Case {
     // Those that are added then, in rising order, with them.
     then: Keys,
     rows: &'static [Row],
+}
+
+// Adds of these keys, in this order.
+fn adds(keys: Keys, order: Order) -> Filling {
+    let (set, count) = keys;
+    Filling::Keys {
+        set,
+        first: 1,
+        count,
+        order,
+    }
+}
+
+// Plays a case in a new store. A plain store has one seat, so no commit of another one comes between. Falling keys are added
+// at the head, where no walk is long.
+pub(crate) fn play_case<S: Store<Rules = SetRules> + Reads + Drop>(
+    rt: &impl Abort,
+    store: S,
+    memo: Box<Memo>,
+    case: &Case,
+) {
+    let Bare { store } = fill(rt, Bare { store }, adds(case.before, Order::Falling));
+    let hinted = HintedStore::new(store, memo);
+    let filled = fill(rt, hinted, adds(case.then, Order::Rising));
+    let _store = play(rt, filled, case.rows, case.name).into_store();
 }
 
 // What a store of ten nodes is asked that has the keys 1 to 10 in `l3`.
@@ -203,72 +181,6 @@ const FULL: [Row; 16] = [
     (Add(20, 6), Reply::Full, Read(17), 2),
     (Add(3, 4), Reply::Yes, Commit(18), 15),
 ];
-
-// A store with hints, whose reads are counted.
-fn counted<S: Store<Rules = SetRules>>(view: S, memo: Box<Memo>) -> HintedStore<Counted<S>> {
-    HintedStore::new(Counted { view, reads: 0 }, memo)
-}
-
-// Attempts one command, which locks five objects at most, on a store with hints.
-fn attempt_hinted<S: Store<Rules = SetRules>>(
-    rt: &impl Abort,
-    store: HintedStore<S>,
-    command: &Command,
-) -> (HintedStore<S>, CommandAttempt) {
-    let most = store.store().write_max();
-    must(rt, most >= 5, "a write set of five objects");
-    store.attempt(command)
-}
-
-// Attempts the commands, one after another, and gives the store back.
-fn play<S: Store<Rules = SetRules>>(
-    rt: &impl Abort,
-    mut store: HintedStore<Counted<S>>,
-    case: &Case,
-) -> S {
-    for (row, (ask, reply, place, reads)) in case.rows.iter().enumerate() {
-        let before = store.store().reads;
-        let (after, answer) = attempt_hinted(rt, store, &command(rt, *ask));
-        expect_attempt(rt, answer, *reply, *place, case.name, row);
-        let more = after.store().reads.saturating_sub(before);
-        assert_row(rt, &more, reads, case.name, row);
-        store = after;
-    }
-    let Counted { view, reads: _ } = store.into_store();
-    view
-}
-
-// Adds keys without hints and fingers. Falling ones are added at the head, where no walk is long.
-fn fill<S: Store<Rules = SetRules>>(rt: &impl Abort, mut store: S, keys: Keys) -> S {
-    let (index, count) = keys;
-    let mut hints = Hints::none();
-    for i in 0..count {
-        store = add(rt, store, &mut hints, index, count - i);
-    }
-    store
-}
-
-// Adds keys with them.
-fn fill_hinted<S: Store<Rules = SetRules>>(
-    rt: &impl Abort,
-    mut store: HintedStore<S>,
-    keys: Keys,
-) -> HintedStore<S> {
-    let (index, count) = keys;
-    for i in 0..count {
-        store = attempt_hinted(rt, store, &command(rt, Add(index, i + 1))).0;
-    }
-    store
-}
-
-// Plays a case in a new store. A plain store has one seat, so no commit of another one comes between.
-fn play_case(rt: &impl Abort, alloc: Global, case: &Case) -> Result<(), AllocError> {
-    let store = fill(rt, open_sets(rt, alloc, case.objects, 1000)?, case.before);
-    let memo = Memo::new(alloc, case.memo)?;
-    let store = fill_hinted(rt, counted(store, memo), case.then);
-    let _store = play(rt, store, case);
-    Ok(())
-}
 
 // What a store is asked that has the keys 1 to 100 in `l3`, and no finger yet.
 //
@@ -341,7 +253,7 @@ static CASES: [Case; 3] = [
 #[test]
 fn each_command_takes_so_many_reads(rt: HostRuntime) -> Result<(), Fail> {
     for case in &CASES {
-        play_case(&rt, rt.alloc(), case)?;
+        look_at_new(&rt, rt.alloc(), case.objects, 1000, case.memo, Look::Reads(case))?;
     }
     Ok(())
 }

@@ -2,9 +2,21 @@
 use mv_history::{CommitAnswer, LockAnswer, Room, Section, Store, Tag, View, Words};
 
 // A view that counts its reads, a section that does, or a store whose sections do.
+#[derive(Drop)]
 pub struct Counted<V> {
     pub view: V,
     pub reads: u32,
+}
+
+// What tells how many reads went through it.
+pub trait Reads {
+    fn reads(&self) -> u32;
+}
+
+impl<V> Reads for Counted<V> {
+    fn reads(&self) -> u32 {
+        self.reads
+    }
 }
 
 impl<V: View> View for Counted<V> {

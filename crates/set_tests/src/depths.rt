@@ -1,37 +1,14 @@
 // How deep a tree gets whose keys are added one after another, each by a command of its own.
+use crate::attempts::Hinting;
 use crate::comparing::must;
-use crate::costs::add;
-use crate::opening::open_sets;
+use crate::counted::Reads;
+use crate::filling::{Filling, Order, fill};
+use crate::looks::{Look, look_at_new};
 use mv_history::{Section, Store, View};
 use set_catalog::Hints;
 use set_model::SetRules;
 use std::process::Abort;
 use std::test::Fail;
-
-// The order in which the keys from 0 on are added.
-#[derive(Clone, Copy)]
-enum Order {
-    Rising,
-    Falling,
-    FromBothEndsInwards,
-}
-
-// The key that is added at this place, of so many.
-fn key_at(order: Order, count: u32, place: u32) -> u32 {
-    let last = count.saturating_sub(1);
-    match order {
-        Order::Rising => place,
-        Order::Falling => last.saturating_sub(place),
-        Order::FromBothEndsInwards => {
-            let half = place / 2;
-            if place % 2 == 0 {
-                half
-            } else {
-                last.saturating_sub(half)
-            }
-        }
-    }
-}
 
 // The inner nodes above the leaf where the search for the key ends, in the tree of this root.
 fn depth<V: View>(view: &mut V, root: u32, key: u32) -> u32 {
@@ -64,23 +41,11 @@ fn deepest<S: Store<Rules = SetRules>>(store: S, count: u32) -> (S, u32) {
     (section.abort(), most)
 }
 
-// Adds so many keys to `t0` in this order.
-fn add_all<S: Store<Rules = SetRules>>(
-    rt: &impl Abort,
-    mut store: S,
-    hints: &mut Hints,
-    order: Order,
-    count: u32,
-) -> S {
-    for place in 0..count {
-        store = add(rt, store, hints, 20, key_at(order, count, place));
-    }
-    store
-}
-
-// An order by its name, how many keys are added in it, and how deep the tree may be then: an AVL tree of so many
+// An order by its name, how many keys are added to `t0` in it, and how deep the tree may be then: an AVL tree of so many
 // leaves is at most so deep, since one of depth d + 2 has at least the leaves of one of d and of one of d + 1.
-static ORDERS: [(&str, Order, u32, u32); 3] = [
+pub(crate) type Row = (&'static str, Order, u32, u32);
+
+static ORDERS: [Row; 3] = [
     ("rising keys", Order::Rising, 376, 11),
     ("falling keys", Order::Falling, 376, 11),
     (
@@ -91,14 +56,29 @@ static ORDERS: [(&str, Order, u32, u32); 3] = [
     ),
 ];
 
+// Adds the keys of a row, and looks how deep the tree is.
+pub(crate) fn look_at_depth<S: Store<Rules = SetRules> + Reads + Drop>(
+    rt: &impl Abort,
+    store: S,
+    hints: Hints,
+    row: &Row,
+) {
+    let (name, order, count, most) = *row;
+    let filling = Filling::Keys {
+        set: 20,
+        first: 0,
+        count,
+        order,
+    };
+    let Hinting { store, hints: _ } = fill(rt, Hinting { store, hints }, filling);
+    let (_store, deep) = deepest(store, count);
+    must(rt, deep <= most, name);
+}
+
 #[test]
 fn a_tree_stays_short_whatever_the_order_of_its_keys(rt: HostRuntime) -> Result<(), Fail> {
-    for (name, order, count, most) in &ORDERS {
-        let mut hints = Hints::new(rt.alloc(), 1)?;
-        let store = open_sets(&rt, rt.alloc(), 1000, 1000)?;
-        let store = add_all(&rt, store, &mut hints, *order, *count);
-        let (_store, deep) = deepest(store, *count);
-        must(&rt, deep <= *most, name);
+    for row in &ORDERS {
+        look_at_new(&rt, rt.alloc(), 1000, 1000, 1, Look::Depth(row))?;
     }
     Ok(())
 }

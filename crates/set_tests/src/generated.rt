@@ -1,7 +1,7 @@
 // Generated scripts, whose words were computed apart, by the C code of the generator's paper, and what a command is for given words.
 use crate::asked::Ask::{Add, Del, Get, Has, Move, Next, Pair, Put, Size};
 use crate::asked::{Ask, command, commands_of};
-use crate::comparing::{assert_row, assert_same, must};
+use crate::comparing::{assert_same, must};
 use script_gen::{COMMANDS, DrawnWords, commands, text, write_line};
 use std::test::Fail;
 
@@ -62,7 +62,7 @@ fn the_texts_of_scripts(rt: HostRuntime) -> Result<(), Fail> {
         let ends = (script.starts_with(first), script.ends_with(last));
         let found = (ends, script.len(), lines);
         let wanted = ((true, true), *length, 2000);
-        assert_row(&rt, &found, &wanted, "texts of scripts", row);
+        assert_same(&rt, &found, &wanted, &("texts of scripts", row));
     }
     Ok(())
 }
@@ -75,7 +75,7 @@ static LAST: [Ask; 1] = [Has(18, 71)];
 #[test]
 fn the_commands_of_a_script(rt: HostRuntime) -> Result<(), Fail> {
     let script = commands(rt.alloc(), 1, 3)?;
-    assert_same(&rt, &script.len(), &COMMANDS, "commands");
+    assert_same(&rt, &script.len(), &COMMANDS, &"commands");
     let first = commands_of(&rt, rt.alloc(), &FIRST)?;
     must(&rt, script.starts_with(&first), "the first commands");
     let last = commands_of(&rt, rt.alloc(), &LAST)?;
@@ -112,7 +112,7 @@ fn the_commands_of_words(rt: HostRuntime) {
             key: *key,
         };
         let found = words.command(*seat);
-        assert_row(&rt, &found, &command(&rt, *ask), "words", row);
+        assert_same(&rt, &found, &command(&rt, *ask), &("words", row));
     }
 }
 
@@ -137,7 +137,7 @@ fn every_command_has_its_line(rt: HostRuntime) -> Result<(), Fail> {
     for (row, (ask, wanted)) in LINES.iter().enumerate() {
         let mut line = String::new(rt.alloc());
         write_line(&mut line, command(&rt, *ask))?;
-        assert_row(&rt, &line.as_str(), wanted, "lines", row);
+        assert_same(&rt, &line.as_str(), wanted, &("lines", row));
     }
     Ok(())
 }

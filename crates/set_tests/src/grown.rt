@@ -5,8 +5,8 @@ ghost use Rattle.grow_hash.specs.Grown.{first_grown};
 ghost use Rattle.grow_hash.specs.GrowPlans.{IsOfGrown};
 ghost use Rattle.set_model.specs.Objects.{most_objects};
 
-use crate::comparing::{assert_row, must};
-use crate::counted::Counted;
+use crate::comparing::{assert_same, must};
+use crate::counted::{Counted, Reads};
 use grow_hash::{GROW_LEVELS, GrowRules, GrowStep, GrowingRules, attempt_grow};
 use mv_history::{Store, View, WORDS};
 use plain_store::PlainStore;
@@ -49,19 +49,14 @@ fn command(ask: Ask) -> Command
     }
 }
 
-// What a command, which locks two objects at most, is answered, and how many reads it took.
-fn count_reads<const LEVELS: u32, R: GrowingRules<LEVELS>, S: Store<Rules = R>>(
+// Attempts one command, which locks two objects at most.
+fn attempt<const LEVELS: u32, R: GrowingRules<LEVELS>, S: Store<Rules = R>>(
     rt: &impl Abort,
     store: S,
     ask: Ask,
-) -> (S, GrowStep, u32) {
+) -> (S, GrowStep) {
     must(rt, store.write_max() >= 2, "a write set of two objects");
-    let counted = Counted {
-        view: store,
-        reads: 0,
-    };
-    let (Counted { view, reads }, answer) = attempt_grow(counted, &command(ask));
-    (view, answer, reads)
+    attempt_grow(store, &command(ask))
 }
 
 // A command, its reply, its place, and how many reads it takes.
@@ -88,45 +83,46 @@ static ROWS: [Row; 12] = [
 ];
 
 // Attempts the commands, one after another.
-fn play<const LEVELS: u32, R: GrowingRules<LEVELS>, S: Store<Rules = R>>(
+fn play<const LEVELS: u32, R: GrowingRules<LEVELS>, S: Store<Rules = R> + Reads>(
     rt: &impl Abort,
     mut store: S,
     rows: &[Row],
     name: &str,
 ) -> S {
     for (row, (ask, reply, place, most)) in rows.iter().enumerate() {
-        let (after, answer, reads) = count_reads(rt, store, *ask);
+        let before = store.reads();
+        let (after, answer) = attempt(rt, store, *ask);
         let (reply, place) = (*reply, *place);
-        assert_row(rt, &answer, &GrowStep::Done { reply, place }, name, row);
-        assert_row(rt, &reads, most, name, row);
+        assert_same(rt, &answer, &GrowStep::Done { reply, place }, &(name, row));
+        let reads = after.reads().saturating_sub(before);
+        assert_same(rt, &reads, most, &(name, row));
         store = after;
     }
     store
 }
 
-// A store of so many objects of zeros.
-fn open<const LEVELS: u32>(
+// Plays the rows in a new store of so many objects of zeros.
+fn play_new<const LEVELS: u32>(
+    rt: &impl Abort,
     alloc: Global,
     count: u32,
-) -> Result<PlainStore<GrowRules<LEVELS>>, AllocError>
+    rows: &[Row],
+    name: &str,
+) -> Result<(), AllocError>
     requires least { grow_levels ≤ LEVELS }
     requires most { LEVELS ≤ most_levels }
     requires some { first_grown LEVELS < count }
     requires few { count ≤ most_objects }
 {
     let zeros = vec![in alloc; [0; WORDS]; count as usize]?;
-    PlainStore::new(alloc, &zeros, 0, 8)
+    let view = PlainStore::<GrowRules<LEVELS>>::new(alloc, &zeros, 0, 8)?;
+    let _store = play(rt, Counted { view, reads: 0 }, rows, name);
+    Ok(())
 }
 
 #[test]
 fn one_walk_of_one_bucket(rt: HostRuntime) -> Result<(), Fail> {
-    let _store = play(
-        &rt,
-        open::<GROW_LEVELS>(rt.alloc(), 4096)?,
-        &ROWS,
-        "one walk",
-    );
-    Ok(())
+    Ok(play_new::<GROW_LEVELS>(&rt, rt.alloc(), 4096, &ROWS, "one walk")?)
 }
 
 // Multiples of 4,096, in a set that mixes its keys: they stand in three of the first sixteen buckets.
@@ -146,6 +142,5 @@ static MIXED: [Row; 7] = [
 
 #[test]
 fn mixed_keys_stand_apart(rt: HostRuntime) -> Result<(), Fail> {
-    let _store = play(&rt, open::<11>(rt.alloc(), 4096)?, &MIXED, "mixed keys");
-    Ok(())
+    Ok(play_new::<11>(&rt, rt.alloc(), 4096, &MIXED, "mixed keys")?)
 }

@@ -3,7 +3,8 @@
 //! reads; what a command on a growing hash set costs; and of the plain store itself.
 //!
 //! **The model.** A case is a row of a table: what is done, and the answer, place or number of reads that is
-//! wanted. `Counted` is a view, a section and a store that counts the reads which go through it.
+//! wanted. `Counted` is a view, a section and a store that counts the reads which go through it. What a case does in a
+//! new store of the sets is a `Look`, so that one function alone opens such a store (`looks.rt`).
 //!
 //! **The contract.** That each call here is allowed is proved; what it answers is compared at run time.
 //!
@@ -13,6 +14,8 @@
 
 #[cfg(test)]
 mod asked;
+#[cfg(test)]
+mod attempts;
 #[cfg(test)]
 mod block_scripts;
 #[cfg(test)]
@@ -30,11 +33,15 @@ mod counted;
 #[cfg(test)]
 mod depths;
 #[cfg(test)]
+mod filling;
+#[cfg(test)]
 mod generated;
 #[cfg(test)]
 mod grown;
 #[cfg(test)]
 mod lists;
+#[cfg(test)]
+mod looks;
 #[cfg(test)]
 mod opening;
 #[cfg(test)]

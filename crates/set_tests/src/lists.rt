@@ -7,7 +7,7 @@ ghost use Rattle.list_set.specs.declared.answers.Removed.TheVariants.{Took, Abse
 
 use crate::asked::Asked::{Get, Has, Next, Size};
 use crate::asked::{Asked, Object, expect_words};
-use crate::comparing::{assert_row, must};
+use crate::comparing::{assert_same, must};
 use crate::opening::open_lists;
 use list_set::{Removed, SetStep};
 use mv_history::{Section, View};
@@ -112,25 +112,39 @@ fn add<S: Section>(section: &mut S, kind: Kind, key: u32, value: u64, filled: u3
     }
 }
 
-// Gives a key this value, if the key is there.
+// Gives a key of the list this value, if the key is there.
+fn put_list<S: Section>(section: &mut S, key: u32, value: u64) -> Option<SetStep>
+    requires filled { IsFilled (S.section section.old) 3 }
+    ensures no { result ≡ Some No → IsFilled (S.section section.new) 3 }
+    ensures yes { result ≡ Some Yes → IsFilled (S.section section.new) 4 }
+{
+    if !list_set::has_in(section, 1, key) {
+        return None;
+    }
+    Some(list_set::put_in(section, 1, key, value))
+}
+
+// The same of the table.
+fn put_table<S: Section>(section: &mut S, key: u32, value: u64) -> Option<SetStep>
+    requires filled { IsFilled (S.section section.old) 3 }
+    ensures no { result ≡ Some No → IsFilled (S.section section.new) 3 }
+    ensures yes { result ≡ Some Yes → IsFilled (S.section section.new) 4 }
+{
+    if !hash_set::has_in(section, 1, key) {
+        return None;
+    }
+    Some(hash_set::put_in(section, 1, key, value))
+}
+
+// The same of either.
 fn put<S: Section>(section: &mut S, kind: Kind, key: u32, value: u64) -> Option<SetStep>
     requires filled { IsFilled (S.section section.old) 3 }
     ensures no { result ≡ Some No → IsFilled (S.section section.new) 3 }
     ensures yes { result ≡ Some Yes → IsFilled (S.section section.new) 4 }
 {
     match kind {
-        Kind::List => {
-            if !list_set::has_in(section, 1, key) {
-                return None;
-            }
-            Some(list_set::put_in(section, 1, key, value))
-        }
-        Kind::Table => {
-            if !hash_set::has_in(section, 1, key) {
-                return None;
-            }
-            Some(hash_set::put_in(section, 1, key, value))
-        }
+        Kind::List => put_list(section, key, value),
+        Kind::Table => put_table(section, key, value),
     }
 }
 
@@ -146,34 +160,75 @@ fn del<S: Section>(section: &mut S, kind: Kind, key: u32) -> Removed
     }
 }
 
+// Adds the keys of a case. Whether each call answers as it should.
+fn add_all<S: Section>(section: &mut S, kind: Kind, keys: &[u32; 3]) -> bool
+    requires filled { IsFilled (S.section section.old) 0 }
+    ensures { result ≡ true → IsFilled (S.section section.new) 3 }
+{
+    for i in 0..3 {
+        let key = keys[i];
+        let SetStep::Yes = add(section, kind, key, key as u64 * 10, i as u32) else {
+            return false;
+        };
+    }
+    true
+}
+
+// Gives a key the value that it has, and then another one. Whether each call answers as it should.
+fn put_both<S: Section>(section: &mut S, kind: Kind, put_case: (u32, u64, u64)) -> bool
+    requires filled { IsFilled (S.section section.old) 3 }
+    ensures { result ≡ true → IsFilled (S.section section.new) 4 }
+{
+    let (key, old, new) = put_case;
+    let Some(SetStep::No) = put(section, kind, key, old) else {
+        return false;
+    };
+    let Some(SetStep::Yes) = put(section, kind, key, new) else {
+        return false;
+    };
+    true
+}
+
+// Tries to add a key that is there, and to take one out that isn't. Whether each call answers as it should.
+fn change_nothing<S: Section>(section: &mut S, kind: Kind, again: u32, absent: u32) -> bool
+    requires filled { IsFilled (S.section section.old) 4 }
+    ensures { result ≡ true → IsFilled (S.section section.new) 4 }
+{
+    let SetStep::No = add(section, kind, again, 7, 4) else {
+        return false;
+    };
+    let Removed::Absent = del(section, kind, absent) else {
+        return false;
+    };
+    true
+}
+
+// Takes a key out. Whether this node is vacant then.
+fn take_out<S: Section>(section: &mut S, kind: Kind, key: u32, vacant: u32) -> bool
+    requires filled { IsFilled (S.section section.old) 4 }
+    ensures { result ≡ true → IsLawful (S.state section.new) }
+{
+    let Removed::Took { node, inner: 0 } = del(section, kind, key) else {
+        return false;
+    };
+    node == vacant
+}
+
 // Makes the changes of a case. Whether each call answers as it should.
 fn change<S: Section>(section: &mut S, case: &Case) -> bool
     requires filled { IsFilled (S.section section.old) 0 }
     ensures { result ≡ true → IsLawful (S.state section.new) }
 {
-    for i in 0..3 {
-        let key = case.added[i];
-        let SetStep::Yes = add(section, case.kind, key, key as u64 * 10, i as u32) else {
-            return false;
-        };
+    if !add_all(section, case.kind, &case.added) {
+        return false;
     }
-    let (key, old, new) = case.put;
-    let Some(SetStep::No) = put(section, case.kind, key, old) else {
+    if !put_both(section, case.kind, case.put) {
         return false;
-    };
-    let Some(SetStep::Yes) = put(section, case.kind, key, new) else {
+    }
+    if !change_nothing(section, case.kind, case.again, case.absent) {
         return false;
-    };
-    let SetStep::No = add(section, case.kind, case.again, 7, 4) else {
-        return false;
-    };
-    let Removed::Absent = del(section, case.kind, case.absent) else {
-        return false;
-    };
-    let Removed::Took { node, inner: 0 } = del(section, case.kind, case.taken.0) else {
-        return false;
-    };
-    node == case.taken.1
+    }
+    take_out(section, case.kind, case.taken.0, case.taken.1)
 }
 
 // Asks a list one question. Whether its answer is the one that is wanted.
@@ -227,7 +282,7 @@ fn ask_all<V: View>(rt: &impl Abort, view: &mut V, case: &Case)
 {
     for (row, (set, asked)) in case.asked.iter().enumerate() {
         let answers = ask(rt, view, case.kind, *set, *asked);
-        assert_row(rt, &answers, &true, case.name, row);
+        assert_same(rt, &answers, &true, &(case.name, row));
     }
 }
 

@@ -1,8 +1,8 @@
 // Which objects are picked, and how many reads that takes.
 use crate::comparing::{assert_same, must};
-use crate::counted::Counted;
+use crate::counted::{Counted, Reads};
 use mv_history::{AnyRules, Section, Store, View, WORDS, Words};
-use plain_store::{PlainSection, PlainStore};
+use plain_store::PlainStore;
 use set_catalog::{Hints, Picked, pick};
 use set_model::MOST_OBJECTS;
 use std::alloc::{AllocError, Global};
@@ -46,20 +46,6 @@ fn taken_to(alloc: Global, count: u32, end: u32) -> Result<Vec<Words>, AllocErro
     Ok(words)
 }
 
-// A section over the objects of a case.
-fn open(rt: &impl Abort, alloc: Global, case: &Case) -> Result<PlainSection<AnyRules>, AllocError> {
-    let words = taken_to(alloc, case.objects, case.taken)?;
-    let count = words.len();
-    must(rt, count > 0, "an object");
-    must(
-        rt,
-        count <= MOST_OBJECTS as usize,
-        "no more objects than sets take",
-    );
-    assert_same(rt, &count, &(case.objects as usize), case.name);
-    Ok(PlainStore::<AnyRules>::new(alloc, &words, 0, 1)?.enter())
-}
-
 // Makes an object not vacant, in the section alone: it has an owner.
 fn occupy<S: Section>(rt: &impl Abort, section: &mut S, object: u32) {
     must(rt, object < section.objects(), "an object of the section");
@@ -91,26 +77,28 @@ fn fits(picked: Option<Picked>, wanted: Wanted) -> bool {
 }
 
 // Looks for one vacant object, as the case says.
-fn look<S: Section>(rt: &impl Abort, mut section: S, hints: &mut Hints, case: &Case) -> S::Back {
+fn look<S: Section + Reads>(
+    rt: &impl Abort,
+    mut section: S,
+    hints: &mut Hints,
+    case: &Case,
+) -> S::Back {
     for object in case.noted {
         hints.note(*object);
     }
     for object in case.occupied {
         occupy(rt, &mut section, *object);
     }
-    let mut view = Counted {
-        view: section,
-        reads: 0,
-    };
-    let picked = pick_one(rt, &mut view, hints);
+    let before = section.reads();
+    let picked = pick_one(rt, &mut section, hints);
     must(rt, fits(picked, case.wanted), case.name);
-    let Counted { view, reads } = view;
+    let reads = section.reads().saturating_sub(before);
     let (least, most) = case.reads;
     must(rt, least <= reads && reads <= most, case.name);
     if let Some(left) = case.left {
-        assert_same(rt, &hints.len(), &left, case.name);
+        assert_same(rt, &hints.len(), &left, &case.name);
     }
-    view.abort()
+    section.abort()
 }
 
 static CASES: [Case; 4] = [
@@ -156,11 +144,28 @@ static CASES: [Case; 4] = [
     },
 ];
 
+// Looks in a new section over the objects of a case.
+fn look_at_new(rt: &impl Abort, alloc: Global, case: &Case) -> Result<(), AllocError> {
+    let mut hints = Hints::new(alloc, 8)?;
+    let words = taken_to(alloc, case.objects, case.taken)?;
+    let count = words.len();
+    must(rt, count > 0, "an object");
+    must(
+        rt,
+        count <= MOST_OBJECTS as usize,
+        "no more objects than sets take",
+    );
+    assert_same(rt, &count, &(case.objects as usize), &case.name);
+    let view = PlainStore::<AnyRules>::new(alloc, &words, 0, 1)?;
+    let store = Counted { view, reads: 0 };
+    let _store = look(rt, store.enter(), &mut hints, case);
+    Ok(())
+}
+
 #[test]
 fn vacant_objects_are_picked(rt: HostRuntime) -> Result<(), Fail> {
     for case in &CASES {
-        let mut hints = Hints::new(rt.alloc(), 8)?;
-        let _store = look(&rt, open(&rt, rt.alloc(), case)?, &mut hints, case);
+        look_at_new(&rt, rt.alloc(), case)?;
     }
     Ok(())
 }

@@ -1,7 +1,7 @@
 // Scripts that are accepted, and scripts that are refused, with their line and their fault.
 use crate::asked::Ask::{Add, Del, Get, Has, Move, Next, Pair, Put, Size};
 use crate::asked::{Ask, command, expect_commands, name};
-use crate::comparing::{assert_read, assert_same, must};
+use crate::comparing::{assert_same, must};
 use script_parser::{FaultKind, Format, ScriptFault, parse, parse_line};
 use set_model::{Command, MOST_COMMANDS, Name};
 use std::alloc::{AllocError, Global};
@@ -44,7 +44,7 @@ fn accepts_all(rt: &impl Abort, alloc: Global, rows: &[Good]) -> Result<(), Allo
 // Looks that the text has its first fault on this line.
 fn refuses(rt: &impl Abort, alloc: Global, text: &[u8], line: u32, kind: FaultKind) {
     let fault = parsed(rt, alloc, text).err().expect(rt, "a fault");
-    assert_read(rt, &fault, &ScriptFault::At { line, kind }, text);
+    assert_same(rt, &fault, &ScriptFault::At { line, kind }, &text);
 }
 
 fn refuses_all(rt: &impl Abort, alloc: Global, rows: &[Broken]) {
@@ -209,7 +209,7 @@ fn count_commands(rt: &impl Abort, alloc: Global, text: &[u8]) -> usize {
 fn one_command_too_many(rt: HostRuntime) -> Result<(), Fail> {
     let mut text = most_commands(rt.alloc())?;
     let count = count_commands(&rt, rt.alloc(), &text);
-    assert_same(&rt, &(count, MOST_COMMANDS), &(65_536, 65_536), "commands");
+    assert_same(&rt, &(count, MOST_COMMANDS), &(65_536, 65_536), &"commands");
     text.extend_from_slice(b"\nhas l0 1\nADD")?;
     refuses(&rt, rt.alloc(), &text, 65_539, FaultKind::Many);
     Ok(())
@@ -242,7 +242,7 @@ fn wanted(
 // Looks that the line is read as this in the format of this number.
 fn expect_line(rt: &impl Abort, text: &[u8], number: u32, line: Result<Option<Ask>, FaultKind>) {
     let found = parse_line(text, &format(rt, number));
-    assert_read(rt, &found, &wanted(rt, line), text);
+    assert_same(rt, &found, &wanted(rt, line), &text);
 }
 
 #[test]
@@ -254,9 +254,9 @@ fn a_line_is_read_in_its_format(rt: HostRuntime) {
 
 #[test]
 fn numbers_of_names_and_formats(rt: HostRuntime) {
-    assert_same(&rt, &name(&rt, 29).index(), &29, "the last name");
+    assert_same(&rt, &name(&rt, 29).index(), &29, &"the last name");
     must(&rt, Name::new(30).is_none(), "no further name");
     let none = Format::new(0).is_none() && Format::new(3).is_none();
     must(&rt, none, "no formats but 1 and 2");
-    assert_same(&rt, &Format::new(2), &Some(format(&rt, 2)), "format 2");
+    assert_same(&rt, &Format::new(2), &Some(format(&rt, 2)), &"format 2");
 }

@@ -1,11 +1,11 @@
 // What the plain store does when it runs.
-ghost use Rattle.std.specs.Prelude.{◌≡◌, ◌<◌, ◌≤◌, length, IfOk};
-ghost use Rattle.plain_store.specs.Meaning.{seat_of};
+ghost use Rattle.std.specs.Prelude.{◌≡◌, ◌<◌, length};
 ghost use Rattle.mv_history.specs.Calls.{GoesOn};
 
+use crate::asked::Object;
 use crate::comparing::{assert_same, must};
 use mv_history::{AnyRules, CommitAnswer, LockAnswer, Room, Section, Store, View, WORDS, Words};
-use plain_store::{PlainSection, PlainStore};
+use plain_store::PlainStore;
 use std::alloc::{AllocError, Global};
 use std::process::Abort;
 use std::test::Fail;
@@ -17,23 +17,17 @@ enum CommitEnd {
     End,
 }
 
-// A store of so many objects of zeros, with room for so many commits.
-fn open(alloc: Global, count: u32, base: u64, room: u32) -> Result<PlainStore<AnyRules>, AllocError>
-    requires some { 0 < count }
-    requires few { count ≤ 16777216 }
-    requires early { base < 100 }
-    ensures { IfOk result (λ store. length (seat_of store).start ≡ count) }
-{
-    let zeros = vec![in alloc; [0; WORDS]; count as usize]?;
-    PlainStore::new(alloc, &zeros, base, room)
-}
-
 // Commits one object, in any store without rules.
-fn commit_one<S: Store<Rules = AnyRules>>(store: S, object: u32, words: Words) -> (S, CommitEnd)
-    requires in_range { object < length (S.seat_of store).start }
+fn commit_one<S: Store<Rules = AnyRules>>(
+    rt: &impl Abort,
+    store: S,
+    object: u32,
+    words: Words,
+) -> (S, CommitEnd)
     ensures start { (S.seat_of result.0).start ≡ (S.seat_of store).start }
 {
     let mut section = store.enter();
+    must(rt, object < section.objects(), "an object of the store");
     let LockAnswer::Held = section.try_lock(object) else {
         return (section.abort(), CommitEnd::Refused);
     };
@@ -45,35 +39,30 @@ fn commit_one<S: Store<Rules = AnyRules>>(store: S, object: u32, words: Words) -
     }
 }
 
-#[test]
-fn plain_store_end(rt: HostRuntime) -> Result<(), Fail> {
-    let store = open(rt.alloc(), 182, 40, 1)?;
-    let (store, first) = commit_one(store, 181, [1, 2, 3, 4, 5, 6]);
-    let (store, second) = commit_one(store, 180, [7; 6]);
+// Commits two objects where there is time for one commit.
+fn commit_two<S: Store<Rules = AnyRules>>(rt: &impl Abort, store: S) -> S
+    ensures start { (S.seat_of result).start ≡ (S.seat_of store).start }
+{
+    let (store, first) = commit_one(rt, store, 181, [1, 2, 3, 4, 5, 6]);
+    let (store, second) = commit_one(rt, store, 180, [7; 6]);
     let ended = (CommitEnd::Done(41), CommitEnd::End);
-    assert_same(&rt, &(first, second), &ended, "two commits");
-    let states = (store.state(181), store.state(180));
-    assert_same(&rt, &states, &([1, 2, 3, 4, 5, 6], [0; 6]), "states");
-    Ok(())
+    assert_same(rt, &(first, second), &ended, &"two commits");
+    store
 }
 
 // Looks at a store of 182 objects, in which nothing was done, and at a section in it.
-fn look_at_new<S: Store>(rt: &impl Abort, mut store: S) -> S {
+fn look_at_new<S: Store>(rt: &impl Abort, mut store: S) -> S
+    ensures start { (S.seat_of result).start ≡ (S.seat_of store).start }
+{
     let (seat, most) = (store.seat(), store.write_max());
-    assert_same(rt, &(seat, most), &(0, 16), "the seat");
-    assert_same(rt, &store.prepare(), &Room::Enough, "room");
+    assert_same(rt, &(seat, most), &(0, 16), &"the seat");
+    assert_same(rt, &store.prepare(), &Room::Enough, &"room");
     let section = store.enter();
     let times = (section.at(), section.last());
-    assert_same(rt, &times, &(0, 4_294_967_295), "times");
+    assert_same(rt, &times, &(0, 4_294_967_295), &"times");
     let (most, objects) = (section.write_max(), section.objects());
-    assert_same(rt, &(most, objects), &(16, 182), "the section");
+    assert_same(rt, &(most, objects), &(16, 182), &"the section");
     section.leave()
-}
-
-#[test]
-fn a_new_store_has_room(rt: HostRuntime) -> Result<(), Fail> {
-    let _store = look_at_new(&rt, open(rt.alloc(), 182, 0, 4_294_967_295)?);
-    Ok(())
 }
 
 // The words of an object.
@@ -89,7 +78,7 @@ fn write_one<S: Section>(rt: &impl Abort, section: &mut S)
     ensures { GoesOn (S.section section.old) (S.section section.new) }
 {
     must(rt, 3 < section.objects(), "an object of the section");
-    assert_same(rt, &section.try_lock(3), &LockAnswer::Held, "a lock");
+    assert_same(rt, &section.try_lock(3), &LockAnswer::Held, &"a lock");
     must(rt, section.has_lock(3), "an object that is held");
     section.write(3, [9; 6]);
 }
@@ -99,9 +88,9 @@ fn write_and_look<S: Section>(rt: &impl Abort, section: &mut S)
     ensures { GoesOn (S.section section.old) (S.section section.new) }
 {
     write_one(rt, section);
-    assert_same(rt, &words_of(rt, section, 3), &[9; 6], "what is written");
-    assert_same(rt, &words_of(rt, section, 4), &[0; 6], "the next object");
-    assert_same(rt, &section.held(), &1, "how many are held");
+    assert_same(rt, &words_of(rt, section, 3), &[9; 6], &"what is written");
+    assert_same(rt, &words_of(rt, section, 4), &[0; 6], &"the next object");
+    assert_same(rt, &section.held(), &1, &"how many are held");
 }
 
 // Does so in a new section, and aborts it.
@@ -114,41 +103,24 @@ fn write_and_abort<S: Store>(rt: &impl Abort, store: S) -> S
 }
 
 // Looks that a new section holds nothing.
-fn look_at_entered<S: Store>(rt: &impl Abort, store: S) -> S {
+fn look_at_entered<S: Store>(rt: &impl Abort, store: S) -> S
+    ensures start { (S.seat_of result).start ≡ (S.seat_of store).start }
+{
     let section = store.enter();
     let found = (section.at(), section.held());
-    assert_same(rt, &found, &(0, 0), "a new section");
+    assert_same(rt, &found, &(0, 0), &"a new section");
     section.leave()
 }
 
-#[test]
-fn an_abort_leaves_nothing(rt: HostRuntime) -> Result<(), Fail> {
-    let store = open(rt.alloc(), 182, 0, 4_294_967_295)?;
-    let store = write_and_abort(&rt, store);
-    assert_same(&rt, &store.state(3), &[0; 6], "the state");
-    let _store = look_at_entered(&rt, store);
-    Ok(())
-}
-
-// Locks an object, and looks at its words.
-fn lock_and_look<S: Section>(rt: &impl Abort, section: &mut S, object: u32, words: Words) {
-    assert!(rt; object < section.objects());
-    assert_eq!(rt; section.try_lock(object), LockAnswer::Held);
-    assert_eq!(rt; words_of(rt, section, object), words);
-}
-
-#[test]
-fn a_lock_has_the_words_of_its_object(rt: HostRuntime) -> Result<(), Fail> {
-    let two = [[1; WORDS], [2; WORDS]];
-    let mut section = PlainStore::<AnyRules>::new(rt.alloc(), &two, 0, 1)?.enter();
-    lock_and_look(&rt, &mut section, 1, [2; WORDS]);
-    let _store = section.abort();
-    Ok(())
-}
-
-// A section over one object of these words.
-fn enter_one(alloc: Global, words: Words) -> Result<PlainSection<AnyRules>, AllocError> {
-    Ok(PlainStore::new(alloc, &[words], 0, 1)?.enter())
+// Locks the second object of a new section, and looks at its words.
+fn lock_and_look<S: Store>(rt: &impl Abort, store: S) -> S
+    ensures start { (S.seat_of result).start ≡ (S.seat_of store).start }
+{
+    let mut section = store.enter();
+    must(rt, 1 < section.objects(), "an object of the section");
+    assert_same(rt, &section.try_lock(1), &LockAnswer::Held, &"a lock");
+    assert_same(rt, &words_of(rt, &mut section, 1), &[2; WORDS], &"its words");
+    section.abort()
 }
 
 // Looks at the words of object 0 from this place on, two and four.
@@ -156,18 +128,21 @@ fn expect_two<V: View>(rt: &impl Abort, view: &mut V, place: u32, want: (u64, u6
     requires { place < 5 }
 {
     must(rt, 0 < view.objects(), "an object of the view");
-    assert_same(rt, &view.read_pair(0, place), &want, "a pair");
+    assert_same(rt, &view.read_pair(0, place), &want, &"a pair");
 }
 
 fn expect_four<V: View>(rt: &impl Abort, view: &mut V, place: u32, want: [u64; 4])
     requires { place < 3 }
 {
     must(rt, 0 < view.objects(), "an object of the view");
-    assert_same(rt, &view.read_four(0, place), &want, "four words");
+    assert_same(rt, &view.read_four(0, place), &want, &"four words");
 }
 
 // Reads words next to each other.
-fn look_at_parts<S: Section>(rt: &impl Abort, mut section: S) -> S::Back {
+fn look_at_parts<S: Store>(rt: &impl Abort, store: S) -> S
+    ensures start { (S.seat_of result).start ≡ (S.seat_of store).start }
+{
+    let mut section = store.enter();
     expect_two(rt, &mut section, 0, (1, 2));
     expect_two(rt, &mut section, 2, (3, 4));
     expect_two(rt, &mut section, 4, (5, 6));
@@ -176,9 +151,77 @@ fn look_at_parts<S: Section>(rt: &impl Abort, mut section: S) -> S::Back {
     section.abort()
 }
 
+// What is done with a new store.
+#[derive(Clone, Copy)]
+enum Look {
+    Commits,
+    New,
+    Aborts,
+    Locks,
+    Parts,
+}
+
+fn look_at<S: Store<Rules = AnyRules>>(rt: &impl Abort, store: S, look: Look) -> S
+    ensures start { (S.seat_of result).start ≡ (S.seat_of store).start }
+{
+    match look {
+        Look::Commits => commit_two(rt, store),
+        Look::New => look_at_new(rt, store),
+        Look::Aborts => look_at_entered(rt, write_and_abort(rt, store)),
+        Look::Locks => lock_and_look(rt, store),
+        Look::Parts => look_at_parts(rt, store),
+    }
+}
+
+// Opens a store of these objects at this time, with room for so many commits, has such a look, and then looks at the states.
+fn open_and_look(
+    rt: &impl Abort,
+    alloc: Global,
+    objects: &[Words],
+    times: (u64, u32),
+    look: Look,
+    states: &[Object],
+) -> Result<(), AllocError> {
+    let (base, room) = times;
+    let count = objects.len();
+    must(rt, 0 < count && count <= 182, "objects");
+    must(rt, base < 100, "a time");
+    let store = PlainStore::new(alloc, objects, base, room)?;
+    let store = look_at(rt, store, look);
+    for (object, words) in states {
+        must(rt, (*object as usize) < count, "an object of the store");
+        assert_same(rt, &store.state(*object), words, &("the state", *object));
+    }
+    Ok(())
+}
+
+#[test]
+fn plain_store_end(rt: HostRuntime) -> Result<(), Fail> {
+    let states = [(181, [1, 2, 3, 4, 5, 6]), (180, [0; 6])];
+    Ok(open_and_look(&rt, rt.alloc(), &[[0; WORDS]; 182], (40, 1), Look::Commits, &states)?)
+}
+
+#[test]
+fn a_new_store_has_room(rt: HostRuntime) -> Result<(), Fail> {
+    let times = (0, 4_294_967_295);
+    Ok(open_and_look(&rt, rt.alloc(), &[[0; WORDS]; 182], times, Look::New, &[])?)
+}
+
+#[test]
+fn an_abort_leaves_nothing(rt: HostRuntime) -> Result<(), Fail> {
+    let times = (0, 4_294_967_295);
+    let states = [(3, [0; 6])];
+    Ok(open_and_look(&rt, rt.alloc(), &[[0; WORDS]; 182], times, Look::Aborts, &states)?)
+}
+
+#[test]
+fn a_lock_has_the_words_of_its_object(rt: HostRuntime) -> Result<(), Fail> {
+    let two = [[1; WORDS], [2; WORDS]];
+    Ok(open_and_look(&rt, rt.alloc(), &two, (0, 1), Look::Locks, &[])?)
+}
+
 #[test]
 fn a_pair_and_four_words_stand_next_to_each_other(rt: HostRuntime) -> Result<(), Fail> {
-    let section = enter_one(rt.alloc(), [1, 2, 3, 4, 5, 6])?;
-    let _store = look_at_parts(&rt, section);
-    Ok(())
+    let one = [[1, 2, 3, 4, 5, 6]];
+    Ok(open_and_look(&rt, rt.alloc(), &one, (0, 1), Look::Parts, &[])?)
 }

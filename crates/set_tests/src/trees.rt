@@ -5,9 +5,11 @@ ghost use Rattle.tree_set.specs.Filling.{IsFilled};
 
 use crate::asked::Asked::{Get, Has, Next, Size};
 use crate::asked::{Asked, Object, expect_words};
+use crate::comparing::{assert_same, must};
 use crate::opening::open_trees;
 use list_set::{Removed, SetStep};
 use mv_history::{Section, View};
+use std::alloc::{AllocError, Global};
 use std::process::Abort;
 use std::test::*;
 use tree_set::{add_in, del_in, empty_in, get_in, has_in, next_in, put_in, size_in};
@@ -78,52 +80,47 @@ fn take_out<S: Section>(section: &mut S, root: u32, key: u32, leaf: u32, above: 
     node == leaf && inner == above
 }
 
-// Adds four keys and gives one of them another value. Whether each call answers as it should.
-fn fill<S: Section>(section: &mut S, root: u32) -> bool
-    requires root_from { 170 ≤ root }
-    requires root_in { root < 180 }
-    requires filled { IsFilled (S.section section.old) root 0 }
-    ensures { result ≡ true → IsLawful (S.state section.new) }
-{
-    if !add_all(section, root, &[20, 40, 10, 30]) {
-        return false;
-    }
-    if !put_value(section, root, 30, 300, 7) {
-        return false;
-    }
-    add_again(section, root, 30)
+// A change of a tree of four keys.
+#[derive(Clone, Copy)]
+enum Change {
+    // The key has the first value, and is given the second one.
+    Puts(u32, u64, u64),
+    // The key is there, and isn't added again.
+    Again(u32),
+    // The key is taken out, and isn't there then. Its leaf and an inner node, if any, are vacant then.
+    Takes(u32, u32, u32),
 }
 
-// Adds four keys and takes two of them out. Whether each call answers as it should.
-fn thin<S: Section>(section: &mut S, root: u32) -> bool
+// Makes one change. Whether each call answers as it should.
+fn make_change<S: Section>(section: &mut S, root: u32, change: Change) -> bool
     requires root_from { 170 ≤ root }
     requires root_in { root < 180 }
-    requires filled { IsFilled (S.section section.old) root 0 }
+    requires filled { IsFilled (S.section section.old) root 4 }
     ensures { result ≡ true → IsFilled (S.section section.new) root 4 }
 {
-    if !add_all(section, root, &[20, 40, 10, 30]) {
-        return false;
+    match change {
+        Change::Puts(key, old, new) => put_value(section, root, key, old, new),
+        Change::Again(key) => add_again(section, root, key),
+        Change::Takes(key, leaf, above) => take_out(section, root, key, leaf, above),
     }
-    if !take_out(section, root, 30, 186, 187) {
-        return false;
-    }
-    take_out(section, root, 40, 182, 183)
 }
 
-// Adds four keys and takes all of them out. Whether each call answers as it should.
-fn clear<S: Section>(section: &mut S, root: u32) -> bool
+// Adds four keys and makes the changes. Whether each call answers as it should.
+fn change_all<S: Section>(section: &mut S, root: u32, changes: &[Change]) -> bool
     requires root_from { 170 ≤ root }
     requires root_in { root < 180 }
     requires filled { IsFilled (S.section section.old) root 0 }
     ensures { result ≡ true → IsLawful (S.state section.new) }
 {
-    if !thin(section, root) {
+    if !add_all(section, root, &[20, 40, 10, 30]) {
         return false;
     }
-    if !take_out(section, root, 10, 184, 185) {
-        return false;
+    for one in changes {
+        if !make_change(section, root, *one) {
+            return false;
+        }
     }
-    take_out(section, root, 20, 180, 0)
+    true
 }
 
 // Asks one question. Whether its answer is the one that is wanted.
@@ -141,94 +138,103 @@ fn ask<V: View>(view: &mut V, root: u32, asked: Asked) -> bool
     }
 }
 
-// Asks the questions, one after another.
-fn ask_all<V: View>(rt: &impl Abort, view: &mut V, root: u32, rows: &[Asked])
+// A case: what is done to a tree of the keys 20, 40, 10 and 30, in this order, and what is found then.
+struct Case {
+    name: &'static str,
+    changes: &'static [Change],
+    asked: &'static [Asked],
+    is_empty: bool,
+    left: &'static [Object],
+}
+
+// Asks the questions of a case, one after another.
+fn ask_all<V: View>(rt: &impl Abort, view: &mut V, root: u32, case: &Case)
     requires root_from { 170 ≤ root }
     requires root_in { root < 180 }
     requires lawful { IsLawful (V.state view.old) }
 {
-    for (row, asked) in rows.iter().enumerate() {
-        assert!(rt; ask(view, root, *asked), "row {row}");
+    for (row, asked) in case.asked.iter().enumerate() {
+        let answers = ask(view, root, *asked);
+        assert_same(rt, &answers, &true, &(case.name, row));
     }
+    assert_same(rt, &empty_in(view, root), &case.is_empty, &case.name);
 }
 
-static ASKED: [Asked; 5] = [
-    Get(30, Some(7)),
-    Next(11, Some(20)),
-    Next(31, Some(40)),
-    Next(41, None),
-    Size(4),
-];
+static FILLED: Case = Case {
+    name: "four keys",
+    changes: &[Change::Puts(30, 300, 7), Change::Again(30)],
+    asked: &[
+        Get(30, Some(7)),
+        Next(11, Some(20)),
+        Next(31, Some(40)),
+        Next(41, None),
+        Size(4),
+    ],
+    is_empty: false,
+    // The root, the inner nodes, and the leaf of 30.
+    left: &[
+        (171, [0, 0, 0, 183, 0, 0]),
+        (183, [172, 2, 40, 185, 182, 0]),
+        (185, [172, 2, 20, 184, 187, 0]),
+        (187, [172, 2, 30, 180, 186, 0]),
+        (186, [172, 1, 30, 0, 0, 7]),
+    ],
+};
 
-// The root, the inner nodes, and the leaf of 30.
-static FILLED: [Object; 5] = [
-    (171, [0, 0, 0, 183, 0, 0]),
-    (183, [172, 2, 40, 185, 182, 0]),
-    (185, [172, 2, 20, 184, 187, 0]),
-    (187, [172, 2, 30, 180, 186, 0]),
-    (186, [172, 1, 30, 0, 0, 7]),
-];
+static THIN: Case = Case {
+    name: "two keys are taken out",
+    changes: &[Change::Takes(30, 186, 187), Change::Takes(40, 182, 183)],
+    asked: &[],
+    is_empty: false,
+    // The root, the inner node that is left, and the nodes of 30.
+    left: &[
+        (171, [0, 0, 0, 185, 0, 0]),
+        (185, [172, 2, 20, 184, 180, 0]),
+        (187, [0; 6]),
+        (186, [0; 6]),
+    ],
+};
 
-// Fills the tree of the root 171, and looks at what it has.
-fn look_at_filled<S: Section>(rt: &impl Abort, mut section: S) -> S::Back
+static EMPTIED: Case = Case {
+    name: "all keys are taken out",
+    changes: &[
+        Change::Takes(30, 186, 187),
+        Change::Takes(40, 182, 183),
+        Change::Takes(10, 184, 185),
+        Change::Takes(20, 180, 0),
+    ],
+    asked: &[],
+    is_empty: true,
+    // The root, and the leaf of the last key.
+    left: &[(171, [0; 6]), (180, [0; 6])],
+};
+
+// Plays a case in a new section, in the tree of the root 171.
+fn play<S: Section>(rt: &impl Abort, mut section: S, case: &Case) -> S::Back
     requires filled { IsFilled (S.section section) 171 0 }
 {
-    if !fill(&mut section, 171) {
-        panic!(rt; "another answer");
-    }
-    ask_all(rt, &mut section, 171, &ASKED);
-    expect_words(rt, &mut section, &FILLED);
+    must(rt, change_all(&mut section, 171, case.changes), case.name);
+    ask_all(rt, &mut section, 171, case);
+    expect_words(rt, &mut section, case.left);
     section.abort()
+}
+
+fn play_case(rt: &impl Abort, alloc: Global, case: &Case) -> Result<(), AllocError> {
+    let _store = play(rt, open_trees(alloc, 200)?, case);
+    Ok(())
 }
 
 #[test]
 fn a_tree_of_four_keys(rt: HostRuntime) -> Result<(), Fail> {
-    let _store = look_at_filled(&rt, open_trees(rt.alloc(), 200)?);
-    Ok(())
-}
-
-// The root, the inner node that is left, and the nodes of 30.
-static THIN: [Object; 4] = [
-    (171, [0, 0, 0, 185, 0, 0]),
-    (185, [172, 2, 20, 184, 180, 0]),
-    (187, [0; 6]),
-    (186, [0; 6]),
-];
-
-// Fills the tree and takes two of its keys out, and looks at what is left.
-fn look_at_thin<S: Section>(rt: &impl Abort, mut section: S) -> S::Back
-    requires filled { IsFilled (S.section section) 171 0 }
-{
-    if !thin(&mut section, 171) {
-        panic!(rt; "another answer");
-    }
-    expect_words(rt, &mut section, &THIN);
-    section.abort()
+    Ok(play_case(&rt, rt.alloc(), &FILLED)?)
 }
 
 #[test]
 fn a_sibling_moves_up(rt: HostRuntime) -> Result<(), Fail> {
-    let _store = look_at_thin(&rt, open_trees(rt.alloc(), 200)?);
-    Ok(())
-}
-
-// The root, and the leaf of the last key.
-static EMPTIED: [Object; 2] = [(171, [0; 6]), (180, [0; 6])];
-
-// Fills the tree and empties it, and looks at what is left.
-fn look_at_emptied<S: Section>(rt: &impl Abort, mut section: S) -> S::Back
-    requires filled { IsFilled (S.section section) 171 0 }
-{
-    if !clear(&mut section, 171) {
-        panic!(rt; "another answer");
-    }
-    assert!(rt; empty_in(&mut section, 171));
-    expect_words(rt, &mut section, &EMPTIED);
-    section.abort()
+    Ok(play_case(&rt, rt.alloc(), &THIN)?)
 }
 
 #[test]
 fn a_tree_is_emptied(rt: HostRuntime) -> Result<(), Fail> {
-    let _store = look_at_emptied(&rt, open_trees(rt.alloc(), 200)?);
-    Ok(())
+    Ok(play_case(&rt, rt.alloc(), &EMPTIED)?)
 }

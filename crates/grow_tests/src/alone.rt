@@ -19,7 +19,7 @@ pub(crate) type List = (u32, &'static [u64]);
 // Looks that these are the words of a node of this list, with this key. Its link is the answer.
 fn link_of(rt: &impl Abort, words: Words, head: u32, key: u64) -> u64 {
     let wanted = [head as u64 + 1, 0, key, words[3], 0, 0];
-    assert_same(rt, &words, &wanted, "a node of a list");
+    assert_same(rt, &words, &wanted, &"a node of a list");
     words[3]
 }
 
@@ -31,7 +31,7 @@ fn expect_list<V: View>(rt: &impl Abort, view: &mut V, head: u32, keys: &[u64]) 
         must(rt, node < view.objects() as u64, "a link of a list");
         node = link_of(rt, view.read(node as u32), head, *key);
     }
-    assert_same(rt, &node, &0, "the end of a list");
+    assert_same(rt, &node, &0, &"the end of a list");
 }
 
 // Lets the one seat of a domain make the steps.

@@ -4,24 +4,14 @@ ghost use Rattle.std.specs.Prelude.{◌≡◌, true};
 use std::fmt::Debug;
 use std::process::Abort;
 
-// Ends the test where the two differ.
+// Ends the test where the two differ. It tells where: a name, a name and a row of its table, or a text.
 pub(crate) fn assert_same<T: Debug + PartialEq>(
     rt: &impl Abort,
     found: &T,
     wanted: &T,
-    name: &str,
+    at: &impl Debug,
 ) {
-    assert_eq!(rt; *found, *wanted, "{name}");
-}
-
-// The same of what a text is read as.
-pub(crate) fn assert_read<T: Debug + PartialEq>(
-    rt: &impl Abort,
-    found: &T,
-    wanted: &T,
-    text: &[u8],
-) {
-    assert_eq!(rt; *found, *wanted, "of {text:?}");
+    assert_eq!(rt; *found, *wanted, "{at:?}");
 }
 
 // Ends the test where this is false.

@@ -68,6 +68,6 @@ static TEXT: &[u8] = b"0.1 c1 yes\n0.2 c2 yes\n0.3 c4 yes\n0.4 c5 yes\n0.5 r6 ye
 #[test]
 fn the_buckets_stand_ahead_of_the_tables(rt: HostRuntime) -> Result<(), Fail> {
     let text = text_of(rt.alloc(), &BACKWARDS, &KEYS)?;
-    assert_same(&rt, &text.as_slice(), &TEXT, "the text");
+    assert_same(&rt, &text.as_slice(), &TEXT, &"the text");
     Ok(())
 }

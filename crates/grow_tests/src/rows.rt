@@ -279,7 +279,7 @@ fn play_row(rt: &impl Abort, alloc: Global, row: &Row) -> Result<(), Fail> {
     must(rt, 1025 < row.objects, "an object behind the heads");
     must(rt, row.objects < 65536, "few objects");
     let time = play_alone(rt, alloc, row.objects, row.base, row.steps, row.lists)?;
-    assert_same(rt, &time, &row.time.unwrap_or(time), row.name);
+    assert_same(rt, &time, &row.time.unwrap_or(time), &row.name);
     Ok(())
 }
 

@@ -1,5 +1,5 @@
 // Scripts of a growing hash set that are accepted, and ones that are refused, with their line and their fault.
-use crate::comparing::{assert_read, assert_same, must};
+use crate::comparing::{assert_same, must};
 use crate::steps::{Ask, command};
 use grow_script::parse_grow;
 use script_parser::{FaultKind, ScriptFault};
@@ -34,7 +34,7 @@ static ASKED: [Ask; 5] = [
 
 // Looks that these are the commands.
 fn expect_commands(rt: &impl Abort, found: &[Command], asks: &[Ask]) {
-    assert_same(rt, &found.len(), &asks.len(), "commands");
+    assert_same(rt, &found.len(), &asks.len(), &"commands");
     for (index, ask) in asks.iter().enumerate() {
         let wanted = (index, Some(command(*ask)));
         assert_same(
@@ -91,7 +91,7 @@ static BROKEN: [Broken; 24] = [
 // Looks that the text has its first fault on this line.
 fn refuses(rt: &impl Abort, alloc: Global, text: &[u8], line: u32, kind: FaultKind) {
     let fault = parsed(rt, alloc, text).err().expect(rt, "a fault");
-    assert_read(rt, &fault, &ScriptFault::At { line, kind }, text);
+    assert_same(rt, &fault, &ScriptFault::At { line, kind }, &text);
 }
 
 #[test]
@@ -114,7 +114,7 @@ fn most_commands(alloc: Global) -> Result<Vec<u8>, AllocError> {
 fn as_many_commands_as_in_a_script(rt: HostRuntime) -> Result<(), Fail> {
     let mut text = most_commands(rt.alloc())?;
     let most = accepted(&rt, rt.alloc(), &text).len();
-    assert_same(&rt, &most, &MOST_COMMANDS, "commands");
+    assert_same(&rt, &most, &MOST_COMMANDS, &"commands");
     text.extend_from_slice(b"has h0 1")?;
     refuses(&rt, rt.alloc(), &text, 65_537, FaultKind::Many);
     Ok(())

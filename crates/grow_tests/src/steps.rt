@@ -56,6 +56,17 @@ impl Keys {
     }
 }
 
+impl Step {
+    // How many calls it makes.
+    fn count(self) -> u32 {
+        match self {
+            Step::Adds(keys, _) => keys.count,
+            Step::Splits(count) => count,
+            _ => 1,
+        }
+    }
+}
+
 // The name `h0`.
 pub(crate) fn h0() -> Name
     ensures { result ≡ 10 }
@@ -100,25 +111,17 @@ fn attempt<S: Store<Rules = GrowRules<GROW_LEVELS>>>(
     ensures { Continues (S.seat_of store) (S.seat_of result) }
 {
     let (after, step) = answer_of(store, ask);
-    assert_same(rt, &step, &GrowStep::Done { reply, place }, "a command");
+    assert_same(rt, &step, &GrowStep::Done { reply, place }, &"a command");
     after
 }
 
-// Adds new keys.
-fn add_all<S: Store<Rules = GrowRules<GROW_LEVELS>>>(
-    rt: &impl Abort,
-    mut store: S,
-    keys: Keys,
-    from: u64,
-) -> S
-    requires most { most_writes ≤ (S.seat_of store).write_max }
-    ensures { Continues (S.seat_of store) (S.seat_of result) }
-{
-    for index in 0..keys.count {
-        let place = Place::Commit(from.saturating_add(index as u64));
-        store = attempt(rt, store, Ask::Add(keys.at(index)), Reply::Yes, place);
+// Looks at what a split answered, the one at this place of those in a row.
+fn expect_split(rt: &impl Abort, found: Split, split: Option<Split>, index: u32) {
+    let is_done = matches!(found, Split::Done { .. });
+    match split {
+        Some(split) => assert_same(rt, &found, &split, &"a split"),
+        None => assert_same(rt, &is_done, &true, &("a split in a row", index)),
     }
-    store
 }
 
 // Tries a split once. Of what it ensures, its callers need only that the seat goes on.
@@ -129,36 +132,19 @@ fn split_of<S: Store<Rules = GrowRules<GROW_LEVELS>>>(store: S) -> (S, Split)
     try_split(store)
 }
 
-// Tries a split once, and looks at its answer.
+// Tries a split once, and looks at its answer. Where none is said, it is to be done.
 fn split_once<S: Store<Rules = GrowRules<GROW_LEVELS>>>(
     rt: &impl Abort,
     store: S,
-    split: Split,
+    split: Option<Split>,
+    index: u32,
 ) -> S
     requires most { most_writes ≤ (S.seat_of store).write_max }
     ensures { Continues (S.seat_of store) (S.seat_of result) }
 {
     let (after, found) = split_of(store);
-    assert_same(rt, &found, &split, "a split");
+    expect_split(rt, found, split, index);
     after
-}
-
-// Splits so many buckets.
-fn split_all<S: Store<Rules = GrowRules<GROW_LEVELS>>>(
-    rt: &impl Abort,
-    mut store: S,
-    count: u32,
-) -> S
-    requires most { most_writes ≤ (S.seat_of store).write_max }
-    ensures { Continues (S.seat_of store) (S.seat_of result) }
-{
-    for number in 0..count {
-        let (after, split) = split_of(store);
-        let done = matches!(split, Split::Done { .. });
-        assert_same(rt, &(number, done), &(number, true), "a split in a row");
-        store = after;
-    }
-    store
 }
 
 // The level and the split place.
@@ -185,16 +171,16 @@ fn read_all<S: Store<Rules = GrowRules<GROW_LEVELS>>>(
 // Looks that the catalogue has exactly these keys in `h0`, each with the value 0, and nothing else.
 fn expect_keys(rt: &impl Abort, all: &Catalogue, keys: Keys) {
     let found = all.keys(10);
-    assert_same(rt, &found.len(), &(keys.count as usize), "keys");
+    assert_same(rt, &found.len(), &(keys.count as usize), &"keys");
     for index in 0..keys.count {
         let key = found.get(index as usize).copied();
         let value = all.values(10).get(index as usize).copied();
         let wanted = (Some(keys.at(index)), Some(0));
-        assert_same(rt, &(key, value), &wanted, "a key and its value");
+        assert_same(rt, &(key, value), &wanted, &"a key and its value");
     }
     for name in 0..30 {
         let found = (name, name == 10 || all.keys(name).is_empty());
-        assert_same(rt, &found, &(name, true), "no key elsewhere");
+        assert_same(rt, &found, &(name, true), &"no key elsewhere");
     }
 }
 
@@ -208,7 +194,7 @@ fn expect_table<S: Store<Rules = GrowRules<GROW_LEVELS>>>(
     ensures { Continues (S.seat_of store) (S.seat_of result) }
 {
     let (after, table) = read_table(store);
-    assert_same(rt, &table, &(level, place), "the level and the split place");
+    assert_same(rt, &table, &(level, place), &"the level and the split place");
     after
 }
 
@@ -225,24 +211,49 @@ fn expect_held<S: Store<Rules = GrowRules<GROW_LEVELS>>>(
     (after, all.map(|all| expect_keys(rt, &all, keys)))
 }
 
-// Makes one step. The error is want of memory for the keys.
+// Makes the call at this place of a step. The error is want of memory for the keys.
 fn make<S: Store<Rules = GrowRules<GROW_LEVELS>>>(
     rt: &impl Abort,
     alloc: Global,
     store: S,
     step: Step,
+    index: u32,
 ) -> (S, Result<(), AllocError>)
     requires most { most_writes ≤ (S.seat_of store).write_max }
     ensures { Continues (S.seat_of store) (S.seat_of result.0) }
 {
     match step {
         Step::Does(ask, reply, place) => (attempt(rt, store, ask, reply, place), Ok(())),
-        Step::Adds(keys, from) => (add_all(rt, store, keys, from), Ok(())),
-        Step::Tries(split) => (split_once(rt, store, split), Ok(())),
-        Step::Splits(count) => (split_all(rt, store, count), Ok(())),
+        Step::Adds(keys, from) => {
+            let place = Place::Commit(from.saturating_add(index as u64));
+            let ask = Ask::Add(keys.at(index));
+            (attempt(rt, store, ask, Reply::Yes, place), Ok(()))
+        }
+        Step::Tries(split) => (split_once(rt, store, Some(split), index), Ok(())),
+        Step::Splits(_) => (split_once(rt, store, None, index), Ok(())),
         Step::Finds(level, place) => (expect_table(rt, store, level, place), Ok(())),
         Step::Holds(keys) => expect_held(rt, alloc, store, keys),
     }
+}
+
+// Makes a step. The error is want of memory, and comes at the call that found it.
+fn make_all<S: Store<Rules = GrowRules<GROW_LEVELS>>>(
+    rt: &impl Abort,
+    alloc: Global,
+    mut store: S,
+    step: Step,
+) -> (S, Result<(), AllocError>)
+    requires most { most_writes ≤ (S.seat_of store).write_max }
+    ensures { Continues (S.seat_of store) (S.seat_of result.0) }
+{
+    for index in 0..step.count() {
+        let (after, made) = make(rt, alloc, store, step, index);
+        store = after;
+        if made.is_err() {
+            return (store, made);
+        }
+    }
+    (store, Ok(()))
 }
 
 // Makes the steps, one after another. The error is want of memory, and comes at the step that found it.
@@ -256,7 +267,7 @@ pub(crate) fn play<S: Store<Rules = GrowRules<GROW_LEVELS>>>(
     ensures { Continues (S.seat_of store) (S.seat_of result.0) }
 {
     for step in steps {
-        let (after, made) = make(rt, alloc, store, *step);
+        let (after, made) = make_all(rt, alloc, store, *step);
         store = after;
         if made.is_err() {
             return (store, made);

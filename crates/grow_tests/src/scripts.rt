@@ -37,12 +37,8 @@ fn expect_commands(rt: &impl Abort, found: &[Command], asks: &[Ask]) {
     assert_same(rt, &found.len(), &asks.len(), &"commands");
     for (index, ask) in asks.iter().enumerate() {
         let wanted = (index, Some(command(*ask)));
-        assert_same(
-            rt,
-            &(index, found.get(index).copied()),
-            &wanted,
-            "a command",
-        );
+        let found = (index, found.get(index).copied());
+        assert_same(rt, &found, &wanted, &"a command");
     }
 }
 

@@ -194,7 +194,12 @@ fn expect_table<S: Store<Rules = GrowRules<GROW_LEVELS>>>(
     ensures { Continues (S.seat_of store) (S.seat_of result) }
 {
     let (after, table) = read_table(store);
-    assert_same(rt, &table, &(level, place), &"the level and the split place");
+    assert_same(
+        rt,
+        &table,
+        &(level, place),
+        &"the level and the split place",
+    );
     after
 }
 

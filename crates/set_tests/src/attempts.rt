@@ -84,6 +84,11 @@ pub(crate) fn expect<A: Attempts>(
 ) -> A {
     let (ask, reply, place) = wanted;
     let (after, answer) = asking.attempt_once(rt, &command(rt, ask));
-    assert_same(rt, &answer, &CommandAttempt::Done { reply, place }, &(name, row));
+    assert_same(
+        rt,
+        &answer,
+        &CommandAttempt::Done { reply, place },
+        &(name, row),
+    );
     after
 }

@@ -44,7 +44,12 @@ static LEFT: [(u32, &[u32], &[u64]); 3] = [
 fn expect_all(rt: &impl Abort, catalogue: &Catalogue) {
     for (row, (name, keys, values)) in LEFT.iter().enumerate() {
         must(rt, *name < 30, "a set");
-        assert_same(rt, &catalogue.keys(*name), keys, &("keys that are left", row));
+        assert_same(
+            rt,
+            &catalogue.keys(*name),
+            keys,
+            &("keys that are left", row),
+        );
         assert_same(rt, &catalogue.values(*name), values, &("their values", row));
     }
 }

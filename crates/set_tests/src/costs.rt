@@ -73,7 +73,10 @@ pub(crate) fn look_at_sizes<S: Store<Rules = SetRules> + Reads + Drop>(
     sizes: &Sizes,
 ) {
     let filled = fill(rt, Hinting { store, hints }, sizes.filling);
-    let Hinting { store: _store, hints: _ } = play(rt, filled, sizes.rows, sizes.name);
+    let Hinting {
+        store: _store,
+        hints: _,
+    } = play(rt, filled, sizes.rows, sizes.name);
 }
 
 #[test]
@@ -253,7 +256,14 @@ static CASES: [Case; 3] = [
 #[test]
 fn each_command_takes_so_many_reads(rt: HostRuntime) -> Result<(), Fail> {
     for case in &CASES {
-        look_at_new(&rt, rt.alloc(), case.objects, 1000, case.memo, Look::Reads(case))?;
+        look_at_new(
+            &rt,
+            rt.alloc(),
+            case.objects,
+            1000,
+            case.memo,
+            Look::Reads(case),
+        )?;
     }
     Ok(())
 }

@@ -119,7 +119,12 @@ fn lock_and_look<S: Store>(rt: &impl Abort, store: S) -> S
     let mut section = store.enter();
     must(rt, 1 < section.objects(), "an object of the section");
     assert_same(rt, &section.try_lock(1), &LockAnswer::Held, &"a lock");
-    assert_same(rt, &words_of(rt, &mut section, 1), &[2; WORDS], &"its words");
+    assert_same(
+        rt,
+        &words_of(rt, &mut section, 1),
+        &[2; WORDS],
+        &"its words",
+    );
     section.abort()
 }
 
@@ -198,7 +203,14 @@ fn open_and_look(
 #[test]
 fn plain_store_end(rt: HostRuntime) -> Result<(), Fail> {
     let states = [(181, [1, 2, 3, 4, 5, 6]), (180, [0; 6])];
-    Ok(open_and_look(&rt, rt.alloc(), &[[0; WORDS]; 182], (40, 1), Look::Commits, &states)?)
+    Ok(open_and_look(
+        &rt,
+        rt.alloc(),
+        &[[0; WORDS]; 182],
+        (40, 1),
+        Look::Commits,
+        &states,
+    )?)
 }
 
 #[test]
@@ -211,7 +223,14 @@ fn a_new_store_has_room(rt: HostRuntime) -> Result<(), Fail> {
 fn an_abort_leaves_nothing(rt: HostRuntime) -> Result<(), Fail> {
     let times = (0, 4_294_967_295);
     let states = [(3, [0; 6])];
-    Ok(open_and_look(&rt, rt.alloc(), &[[0; WORDS]; 182], times, Look::Aborts, &states)?)
+    Ok(open_and_look(
+        &rt,
+        rt.alloc(),
+        &[[0; WORDS]; 182],
+        times,
+        Look::Aborts,
+        &states,
+    )?)
 }
 
 #[test]

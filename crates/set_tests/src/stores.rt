@@ -131,6 +131,7 @@ fn lock_and_look<S: Store>(rt: &impl Abort, store: S) -> S
 // Looks at the words of object 0 from this place on, two and four.
 fn expect_two<V: View>(rt: &impl Abort, view: &mut V, place: u32, want: (u64, u64))
     requires { place < 5 }
+    ensures { V.as_before view.old view.new }
 {
     must(rt, 0 < view.objects(), "an object of the view");
     assert_same(rt, &view.read_pair(0, place), &want, &"a pair");
@@ -138,21 +139,29 @@ fn expect_two<V: View>(rt: &impl Abort, view: &mut V, place: u32, want: (u64, u6
 
 fn expect_four<V: View>(rt: &impl Abort, view: &mut V, place: u32, want: [u64; 4])
     requires { place < 3 }
+    ensures { V.as_before view.old view.new }
 {
     must(rt, 0 < view.objects(), "an object of the view");
     assert_same(rt, &view.read_four(0, place), &want, &"four words");
 }
 
 // Reads words next to each other.
+fn expect_parts<S: Section>(rt: &impl Abort, section: &mut S)
+    ensures { GoesOn (S.section section.old) (S.section section.new) }
+{
+    expect_two(rt, section, 0, (1, 2));
+    expect_two(rt, section, 2, (3, 4));
+    expect_two(rt, section, 4, (5, 6));
+    expect_four(rt, section, 0, [1, 2, 3, 4]);
+    expect_four(rt, section, 2, [3, 4, 5, 6]);
+}
+
+// Does so in a new section.
 fn look_at_parts<S: Store>(rt: &impl Abort, store: S) -> S
     ensures start { (S.seat_of result).start ≡ (S.seat_of store).start }
 {
     let mut section = store.enter();
-    expect_two(rt, &mut section, 0, (1, 2));
-    expect_two(rt, &mut section, 2, (3, 4));
-    expect_two(rt, &mut section, 4, (5, 6));
-    expect_four(rt, &mut section, 0, [1, 2, 3, 4]);
-    expect_four(rt, &mut section, 2, [3, 4, 5, 6]);
+    expect_parts(rt, &mut section);
     section.abort()
 }
 

@@ -8,14 +8,14 @@ put_in-requires-clause-room g c node _ =
     filled_room_one _ _ node (filled_same _ _ _ (g.met.S.Section.lawful _).at (g.met.S.Section.others_stay _ _ c.has_in.ensures.as_before) c.requires.filled)
     (omega arith)
 
-pub returns-else-not-has_in-clause-no : goal.returns-else-not-has_in-clause-no
-returns-else-not-has_in-clause-no g c e =
+pub returns-clause-no : goal.returns-clause-no
+returns-clause-no g c e =
     let no : c.put_in.result ≡ No = cc in
     let same = g.met.S.View.as_long_before _ _ _ c.has_in.ensures.as_before (c.put_in.ensures.unchanged no) in
     filled_same _ _ _ (g.met.S.Section.lawful _).at (g.met.S.Section.others_stay _ _ same) c.requires.filled
 
-pub returns-else-not-has_in-clause-yes : goal.returns-else-not-has_in-clause-yes
-returns-else-not-has_in-clause-yes g c e =
+pub returns-clause-yes : goal.returns-clause-yes
+returns-clause-yes g c e =
     let yes : c.put_in.result ≡ Yes = cc in
     filled_put _ _ _ _ _ _ _
     (filled_same _ _ _ (g.met.S.Section.lawful _).at (g.met.S.Section.others_stay _ _ c.has_in.ensures.as_before) c.requires.filled) refl

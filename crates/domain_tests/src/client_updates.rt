@@ -5,12 +5,13 @@ ghost use Rattle.mv_history.specs.Calls.{Continues};
 ghost use Rattle.section_work.specs.Attempts.{HasSpace};
 ghost use Rattle.mv_client.specs.Updates.{Filled};
 
-use crate::comparing::{assert_same, must};
+use crate::comparing::assert_same;
 use mv_client::{Outcome, begin, lock_all, put, read, update, update_at_most, update_until};
 use mv_history::{AnyRules, Section, Store, Tag, View, Words};
 use plain_store::PlainStore;
 use section_work::{Cause, Decision, Place, Refusal};
 use std::alloc::{AllocError, Global};
+use std::process::Abort;
 use std::sync::Wait;
 use std::test::Fail;
 
@@ -101,16 +102,15 @@ fn count_once<S: Store<Rules = AnyRules>>(store: S, most: u64) -> (S, Outcome<u6
     )
 }
 
-// Updates that count, so often at most.
-fn count_at_most<S: Store<Rules = AnyRules>>(store: S, tries: u32, most: u64) -> (S, Outcome<u64>)
-    requires some { 0 < tries }
+// Updates that count, three at most.
+fn count_at_most<S: Store<Rules = AnyRules>>(store: S, most: u64) -> (S, Outcome<u64>)
     requires object { 0 < length (S.seat_of store).start }
     requires write_max { 1 ≤ (S.seat_of store).write_max }
     ensures continues { Continues (S.seat_of store) (S.seat_of result.0) }
 {
     update_at_most(
         store,
-        tries,
+        3,
         |section: &mut S::Open|
             requires object { 0 < length (S.Open.state section.old) }
             requires space { HasSpace 1 (S.Open.section section.old) }
@@ -140,15 +140,14 @@ fn count_until<R: Wait, S: Store<Rules = AnyRules>>(
     )
 }
 
-// Updates, so often at most, whose closure gives each section up.
-fn give_up<S: Store<Rules = AnyRules>>(store: S, tries: u32, refusal: Refusal) -> (S, Outcome<u64>)
-    requires some { 0 < tries }
+// Three updates at most, whose closure gives each section up.
+fn give_up<S: Store<Rules = AnyRules>>(store: S, refusal: Refusal) -> (S, Outcome<u64>)
     requires object { 0 < length (S.seat_of store).start }
     ensures continues { Continues (S.seat_of store) (S.seat_of result.0) }
 {
     update_at_most(
         store,
-        tries,
+        3,
         |section: &mut S::Open|
             requires object { 0 < length (S.Open.state section.old) }
             ensures filled { Filled (λ tag before writes. ⊤) (S.Open.section section.old) (S.Open.section section.new) result }
@@ -156,11 +155,91 @@ fn give_up<S: Store<Rules = AnyRules>>(store: S, tries: u32, refusal: Refusal) -
     )
 }
 
+// A call that updates a store.
+#[derive(Clone, Copy)]
+enum Update {
+    // One update that counts up to this.
+    Once(u64),
+    // Three at most.
+    AtMost(u64),
+    // As many as it takes.
+    Until(u64),
+    // Three at most, each of which is given up for this.
+    GiveUp(Refusal),
+}
+
+// The reply and the place of an update, or why there is none.
+#[derive(Clone, Copy, Debug, PartialEq, Eq)]
+enum UpdateAnswer {
+    Done(u64, Place),
+    Again(Cause),
+    End,
+}
+
+fn answer_of(outcome: Outcome<u64>) -> UpdateAnswer {
+    match outcome {
+        Outcome::Done { reply, place } => UpdateAnswer::Done(reply, place),
+        Outcome::Again(cause) => UpdateAnswer::Again(cause),
+        Outcome::End => UpdateAnswer::End,
+    }
+}
+
+// The same of updates that go on until one is done.
+fn answer_until(done: Option<(u64, Place)>) -> UpdateAnswer {
+    match done {
+        Some((reply, place)) => UpdateAnswer::Done(reply, place),
+        None => UpdateAnswer::End,
+    }
+}
+
+// Updates a store.
+fn make<R: Wait, S: Store<Rules = AnyRules>>(rt: &R, store: S, next: Update) -> (S, UpdateAnswer)
+    requires object { 0 < length (S.seat_of store).start }
+    requires write_max { 1 ≤ (S.seat_of store).write_max }
+    ensures continues { Continues (S.seat_of store) (S.seat_of result.0) }
+{
+    match next {
+        Update::Once(most) => {
+            let (store, outcome) = count_once(store, most);
+            (store, answer_of(outcome))
+        }
+        Update::AtMost(most) => {
+            let (store, outcome) = count_at_most(store, most);
+            (store, answer_of(outcome))
+        }
+        Update::Until(most) => {
+            let (store, done) = count_until(rt, store, most);
+            (store, answer_until(done))
+        }
+        Update::GiveUp(refusal) => {
+            let (store, outcome) = give_up(store, refusal);
+            (store, answer_of(outcome))
+        }
+    }
+}
+
+// Updates a new store with room for so many commits, and compares the answers, and what is read then.
+fn expect_updates<R: Abort + Wait>(
+    rt: &R,
+    alloc: Global,
+    room: u32,
+    updates: &[(Update, UpdateAnswer)],
+    last: u64,
+) -> Result<(), Fail> {
+    let mut store = open(alloc, room)?;
+    for (at, (next, wanted)) in updates.iter().enumerate() {
+        let (after, answer) = make(rt, store, *next);
+        assert_same(rt, &(at, answer), &(at, *wanted), "an answer");
+        store = after;
+    }
+    let (_store, words) = look(store);
+    assert_same(rt, &words, &counted(last), "the words");
+    Ok(())
+}
+
 #[test]
 fn a_read_has_the_opening_words(rt: HostRuntime) -> Result<(), Fail> {
-    let (_store, words) = look(open(rt.alloc(), 1)?);
-    assert_same(&rt, &words, &counted(7), "the words");
-    Ok(())
+    expect_updates(&rt, rt.alloc(), 1, &[], 7)
 }
 
 #[test]
@@ -171,133 +250,69 @@ fn a_lock_holds_an_object_once_and_keeps_its_words(rt: HostRuntime) -> Result<()
     Ok(())
 }
 
+static TWO_UPDATES: [(Update, UpdateAnswer); 2] = [
+    (Update::Once(100), UpdateAnswer::Done(7, Place::Commit(41))),
+    (Update::Once(100), UpdateAnswer::Done(8, Place::Commit(42))),
+];
+
 #[test]
 fn an_update_is_one_commit_and_is_read(rt: HostRuntime) -> Result<(), Fail> {
-    let (store, done) = count_once(open(rt.alloc(), 2)?, 100);
-    must(
-        &rt,
-        matches!(
-            done,
-            Outcome::Done {
-                reply: 7,
-                place: Place::Commit(41)
-            }
-        ),
-        "the first answer",
-    );
-    let (store, done) = count_once(store, 100);
-    must(
-        &rt,
-        matches!(
-            done,
-            Outcome::Done {
-                reply: 8,
-                place: Place::Commit(42)
-            }
-        ),
-        "the second answer",
-    );
-    let (_store, words) = look(store);
-    assert_same(&rt, &words, &counted(9), "the words");
-    Ok(())
+    expect_updates(&rt, rt.alloc(), 2, &TWO_UPDATES, 9)
 }
+
+static SETTLED: [(Update, UpdateAnswer); 1] = [(
+    Update::Once(7),
+    UpdateAnswer::Done(7, Place::Read(40)),
+)];
 
 #[test]
 fn nothing_to_commit_is_a_read(rt: HostRuntime) -> Result<(), Fail> {
-    let (store, done) = count_once(open(rt.alloc(), 2)?, 7);
-    must(
-        &rt,
-        matches!(
-            done,
-            Outcome::Done {
-                reply: 7,
-                place: Place::Read(40)
-            }
-        ),
-        "the first answer",
-    );
-    let (_store, words) = look(store);
-    assert_same(&rt, &words, &counted(7), "the words");
-    Ok(())
+    expect_updates(&rt, rt.alloc(), 2, &SETTLED, 7)
 }
+
+static NO_TIME: [(Update, UpdateAnswer); 2] = [
+    (Update::Once(100), UpdateAnswer::Done(7, Place::Commit(41))),
+    (Update::Once(100), UpdateAnswer::End),
+];
 
 #[test]
 fn no_time_is_left_for_a_commit(rt: HostRuntime) -> Result<(), Fail> {
-    let (store, _done) = count_once(open(rt.alloc(), 1)?, 100);
-    let (store, end) = count_once(store, 100);
-    must(&rt, matches!(end, Outcome::End), "the first answer");
-    let (_store, words) = look(store);
-    assert_same(&rt, &words, &counted(8), "the words");
-    Ok(())
+    expect_updates(&rt, rt.alloc(), 1, &NO_TIME, 8)
 }
+
+static AT_MOST: [(Update, UpdateAnswer); 3] = [
+    (
+        Update::AtMost(100),
+        UpdateAnswer::Done(7, Place::Commit(41)),
+    ),
+    (Update::AtMost(8), UpdateAnswer::Done(8, Place::Read(41))),
+    (Update::AtMost(100), UpdateAnswer::End),
+];
 
 #[test]
 fn at_most_so_many_tries_are_done_at_the_first(rt: HostRuntime) -> Result<(), Fail> {
-    let (store, done) = count_at_most(open(rt.alloc(), 1)?, 3, 100);
-    must(
-        &rt,
-        matches!(
-            done,
-            Outcome::Done {
-                reply: 7,
-                place: Place::Commit(41)
-            }
-        ),
-        "the first answer",
-    );
-    let (store, settled) = count_at_most(store, 3, 8);
-    must(
-        &rt,
-        matches!(
-            settled,
-            Outcome::Done {
-                reply: 8,
-                place: Place::Read(41)
-            }
-        ),
-        "the second answer",
-    );
-    let (store, end) = count_at_most(store, 3, 100);
-    must(&rt, matches!(end, Outcome::End), "the third answer");
-    let (_store, words) = look(store);
-    assert_same(&rt, &words, &counted(8), "the words");
-    Ok(())
+    expect_updates(&rt, rt.alloc(), 1, &AT_MOST, 8)
 }
+
+const BUSY: Refusal = Refusal::Busy { object: 0, seat: 3 };
+
+static REFUSED: [(Update, UpdateAnswer); 1] = [(
+    Update::GiveUp(BUSY),
+    UpdateAnswer::Again(Cause::Lock(BUSY)),
+)];
 
 #[test]
 fn a_refused_lock_is_the_last_answer(rt: HostRuntime) -> Result<(), Fail> {
-    let refusal = Refusal::Busy { object: 0, seat: 3 };
-    let (store, again) = give_up(open(rt.alloc(), 1)?, 3, refusal);
-    must(
-        &rt,
-        matches!(
-            again,
-            Outcome::Again(Cause::Lock(Refusal::Busy { object: 0, seat: 3 }))
-        ),
-        "the first answer",
-    );
-    let (_store, words) = look(store);
-    assert_same(&rt, &words, &counted(7), "the words");
-    Ok(())
+    expect_updates(&rt, rt.alloc(), 1, &REFUSED, 7)
 }
+
+static UNTIL: [(Update, UpdateAnswer); 3] = [
+    (Update::Until(100), UpdateAnswer::Done(7, Place::Commit(41))),
+    (Update::Until(8), UpdateAnswer::Done(8, Place::Read(41))),
+    (Update::Until(100), UpdateAnswer::End),
+];
 
 #[test]
 fn until_it_is_done(rt: HostRuntime) -> Result<(), Fail> {
-    let (store, done) = count_until(&rt, open(rt.alloc(), 1)?, 100);
-    must(
-        &rt,
-        matches!(done, Some((7, Place::Commit(41)))),
-        "the first answer",
-    );
-    let (store, settled) = count_until(&rt, store, 8);
-    must(
-        &rt,
-        matches!(settled, Some((8, Place::Read(41)))),
-        "the second answer",
-    );
-    let (store, none) = count_until(&rt, store, 100);
-    must(&rt, none.is_none(), "the third answer");
-    let (_store, words) = look(store);
-    assert_same(&rt, &words, &counted(8), "the words");
-    Ok(())
+    expect_updates(&rt, rt.alloc(), 1, &UNTIL, 8)
 }

@@ -1,6 +1,6 @@
 // Scripts of blocks: the text that they give, and what is no script of blocks.
 use crate::comparing::must;
-use crate::row::{PLAIN, REFUSED, Row, expect_print, run_refused, run_row, run_rows};
+use crate::row::{PLAIN, REFUSED, Row, Script, expect_print, refuse_scripts, run_row, run_rows};
 use mvrlu_run::LeftDomain;
 use std::test::Fail;
 
@@ -54,10 +54,7 @@ fn a_block_is_one_entry_or_one_read(rt: HostRuntime) -> Result<(), Fail> {
     run_rows(&rt, rt.alloc(), &BLOCKS)
 }
 
-// A script that is refused, and the line on standard error.
-type Refused = (&'static [u8], &'static [u8]);
-
-static BROKEN: [Refused; 15] = [
+static BROKEN: [Script; 15] = [
     (
         b"begin\nsize l0\nend\n",
         b"script 0 line 2: not in a block\n",
@@ -121,17 +118,14 @@ const OUTSIDE: Row<'static> = Row {
 
 #[test]
 fn what_is_no_script_of_blocks_is_refused(rt: HostRuntime) -> Result<(), Fail> {
-    for (script, err) in &BROKEN {
-        run_refused(
-            &rt,
-            rt.alloc(),
-            "a broken block",
-            &["block", "a"],
-            script,
-            3,
-            err,
-        )?;
-    }
+    refuse_scripts(
+        &rt,
+        rt.alloc(),
+        "a broken block",
+        &["block", "a"],
+        b"",
+        &BROKEN,
+    )?;
     run_row(&rt, rt.alloc(), &OUTSIDE)
 }
 
@@ -140,6 +134,7 @@ fn the_second_file_of_blocks_is_read_too(rt: HostRuntime) -> Result<(), Fail> {
     let _closed = expect_print(
         &rt,
         rt.alloc(),
+        "no second file of blocks",
         &["block", "a", "b"],
         &[("a", b"begin\nadd h0 1\nadd t0 1\nend\n")],
         5,
@@ -159,6 +154,7 @@ fn two_seats_leave_the_domain_of_their_blocks(rt: HostRuntime) -> Result<(), Fai
     let closed = expect_print(
         &rt,
         rt.alloc(),
+        "two files of blocks",
         &["block", "a", "b"],
         &[("a", b"begin\nadd h0 1\nadd t0 1\nend\n"), ("b", b"")],
         0,

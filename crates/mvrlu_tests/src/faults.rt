@@ -73,7 +73,7 @@ static FAULTY: [Text<'static>; 3] = [
 fn the_first_faulty_file_is_told(rt: HostRuntime) -> Result<(), Fail> {
     for run in ["run", "block", "grow"] {
         let words = [run, "good", "key", "word", "none"];
-        let _closed = expect_print(&rt, rt.alloc(), &words, &FAULTY, 3, b"", FIRST_FAULT)?;
+        let _closed = expect_print(&rt, rt.alloc(), run, &words, &FAULTY, 3, b"", FIRST_FAULT)?;
     }
     Ok(())
 }

@@ -1,123 +1,158 @@
-// Gates: one is called around each command, and others hold one seat for another.
+// The gates of the tests, and the tests in which one seat waits for another.
 use crate::comparing::{assert_same, must};
-use crate::row::{PLAIN, Text, print_texts, run_text};
+use crate::row::{PLAIN, Printed, Text, print_texts, run_text};
 use crate::texts::has_no_worn_of_8000;
 use host_io::Gate;
 use std::alloc::Global;
 use std::process::Abort;
-use std::sync::atomic::{AtomicU64, Ordering};
 use std::sync::{Mutex, Wait};
 use std::test::Fail;
 use std::thread::Threads;
 
-// The calls so far, a decimal digit for each: 1 and 2 around command 1, 3 and 4 around command 2.
-#[derive(Drop)]
-struct Digits {
-    calls: AtomicU64,
+/// What a gate does.
+#[derive(Clone, Copy)]
+pub enum Rule {
+    /// Nothing.
+    Open,
+    /// It notes its calls.
+    Note,
+    /// It holds the first command of seat `held` until that of seat `other` is done.
+    HoldSeat { held: u32, other: u32 },
+    /// It holds the command of this number until four others are done.
+    HoldCommand(u32),
 }
 
-impl Digits {
-    fn note(&self, seat: u32, digit: u64) {
-        let calls = self.calls.load(Ordering::SeqCst);
-        let next = calls
-            .wrapping_mul(10)
-            .wrapping_add(digit)
-            .wrapping_add(seat as u64);
-        self.calls.store(next, Ordering::SeqCst);
+impl Rule {
+    // How many commands are to be done before this one of this seat; None where it isn't held.
+    fn wanted(self, seat: u32, number: u32) -> Option<u32> {
+        match self {
+            Rule::HoldSeat { held, .. } if seat == held && number == 1 => Some(1),
+            Rule::HoldCommand(held) if number == held => Some(4),
+            _ => None,
+        }
+    }
+
+    // Whether the held command waits for this one of this seat.
+    fn counts(self, seat: u32, number: u32) -> bool {
+        match self {
+            Rule::HoldSeat { other, .. } => seat == other && number == 1,
+            Rule::HoldCommand(held) => number != held,
+            _ => false,
+        }
     }
 }
 
-impl Gate for Digits {
-    fn before(&self, seat: u32, number: u32) {
-        self.note(seat, (number as u64).wrapping_mul(2).wrapping_sub(1));
-    }
-
-    fn after(&self, seat: u32, number: u32) {
-        self.note(seat, (number as u64).wrapping_mul(2));
-    }
-}
-
-#[test]
-fn the_gate_is_called_around_each_command(rt: HostRuntime) -> Result<(), Fail> {
-    let gate = Digits {
-        calls: AtomicU64::new(0),
-    };
-    run_text(&rt, rt.alloc(), &PLAIN, PLAIN.script, &gate)?;
-    let calls = gate.calls.load(Ordering::SeqCst);
-    assert_same(&rt, &calls, &1234, "calls of the gate");
-    Ok(())
-}
-
-// How often a held seat looks whether the other is done.
-const TURNS: u32 = 1_000_000;
-
+// What a gate has seen.
 #[derive(Drop)]
 struct Seen {
-    other_is_done: bool,
+    // The calls so far, a decimal digit for each: 1 and 2 around command 1, 3 and 4 around command 2.
+    digits: u64,
+    // How many of the commands are done for which the held one waits.
+    done: u32,
     ran_out: bool,
 }
 
-// It holds one seat's first command until the other seat's is done.
+/// A gate of this rule.
 #[derive(Drop)]
-struct HoldGate<'r, R: Wait> {
+pub struct TestGate<'r, R: Wait> {
     rt: &'r R,
-    held: u32,
-    other: u32,
+    rule: Rule,
     seen: Mutex<Seen>,
 }
 
-impl<'r, R: Wait + Sync> Gate for HoldGate<'r, R> {
-    fn before(&self, seat: u32, number: u32) {
-        if seat != self.held || number != 1 {
-            return;
+// How often a held command looks whether those before it are done.
+const TURNS: u32 = 1_000_000;
+
+impl<'r, R: Wait> TestGate<'r, R> {
+    /// A gate that has seen nothing.
+    pub fn new(rt: &'r R, rule: Rule) -> TestGate<'r, R> {
+        TestGate {
+            rt,
+            rule,
+            seen: Mutex::new(Seen {
+                digits: 0,
+                done: 0,
+                ran_out: false,
+            }),
         }
+    }
+
+    fn note(&self, seat: u32, digit: u32) {
+        let mut seen = self.seen.lock(self.rt);
+        seen.digits = seen
+            .digits
+            .wrapping_mul(10)
+            .wrapping_add(digit as u64)
+            .wrapping_add(seat as u64);
+    }
+
+    // Waits until so many are done.
+    fn wait(&self, wanted: u32) {
         for _ in 0..TURNS {
-            if self.seen.lock(self.rt).other_is_done {
+            if self.seen.lock(self.rt).done == wanted {
                 return;
             }
         }
         self.seen.lock(self.rt).ran_out = true;
     }
 
+    /// The digits of the calls that were noted.
+    pub fn digits(&self) -> u64 {
+        self.seen.lock(self.rt).digits
+    }
+
+    /// Whether no command was held to the end of its turns.
+    pub fn all_waited(&self) -> bool {
+        !self.seen.lock(self.rt).ran_out
+    }
+}
+
+impl<'r, R: Wait + Sync> Gate for TestGate<'r, R> {
+    fn before(&self, seat: u32, number: u32) {
+        if matches!(self.rule, Rule::Note) {
+            self.note(seat, number.wrapping_mul(2).wrapping_sub(1));
+        }
+        if let Some(wanted) = self.rule.wanted(seat, number) {
+            self.wait(wanted);
+        }
+    }
+
     fn after(&self, seat: u32, number: u32) {
-        if seat == self.other && number == 1 {
-            self.seen.lock(self.rt).other_is_done = true;
+        if matches!(self.rule, Rule::Note) {
+            self.note(seat, number.wrapping_mul(2));
+        }
+        if self.rule.counts(seat, number) {
+            let mut seen = self.seen.lock(self.rt);
+            seen.done = seen.done.wrapping_add(1);
         }
     }
 }
 
-// The text of these words over these texts, where seat `held` waits for seat `other`.
-fn print_held<R: Threads + Wait + Abort + Sync>(
+#[test]
+fn the_gate_is_called_around_each_command(rt: HostRuntime) -> Result<(), Fail> {
+    let gate = TestGate::new(&rt, Rule::Note);
+    run_text(&rt, rt.alloc(), &PLAIN, PLAIN.script, &gate)?;
+    assert_same(&rt, &gate.digits(), &1234, "calls of the gate");
+    Ok(())
+}
+
+/// Runs the words over these texts, where a gate of this rule holds a command, and looks that it ends well.
+pub fn print_held<R: Abort + Threads + Wait + Sync>(
     rt: &R,
     alloc: Global,
-    held: u32,
+    rule: Rule,
     words: &[&str],
     texts: &[Text<'_>],
-) -> Result<Vec<u8>, Fail> {
-    let gate = HoldGate {
-        rt,
-        held,
-        other: 1u32.saturating_sub(held),
-        seen: Mutex::new(Seen {
-            other_is_done: false,
-            ran_out: false,
-        }),
-    };
+) -> Result<Printed, Fail> {
+    let gate = TestGate::new(rt, rule);
     let printed = print_texts(rt, alloc, words, texts, &gate)?;
     assert_same(rt, &printed.status, &0, "the status");
-    let HoldGate {
-        rt: _,
-        held: _,
-        other: _,
-        seen,
-    } = gate;
-    let waited = !seen.into_inner().ran_out;
-    must(rt, waited, "the seats run at once");
-    Ok(printed.out.bytes().to_vec(alloc)?)
+    must(rt, gate.all_waited(), "no command waits in vain");
+    Ok(printed)
 }
 
 // Runs the words over these texts, where either of two seats waits for the other, and compares how the texts begin.
-fn expect_held<R: Threads + Wait + Abort + Sync>(
+fn expect_held<R: Abort + Threads + Wait + Sync>(
     rt: &R,
     alloc: Global,
     words: &[&str],
@@ -125,15 +160,23 @@ fn expect_held<R: Threads + Wait + Abort + Sync>(
     starts: &[(u32, &[u8])],
 ) -> Result<(), Fail> {
     for (held, start) in starts {
-        let text = print_held(rt, alloc, *held, words, texts)?;
+        let printed = print_held(rt, alloc, hold_seat(*held), words, texts)?;
         assert_same(
             rt,
-            &(*held, text.starts_with(start)),
+            &(*held, printed.out.bytes().starts_with(start)),
             &(*held, true),
             "the seat that waits",
         );
     }
     Ok(())
+}
+
+// Of the seats 0 and 1, this one is held until the other is done.
+fn hold_seat(held: u32) -> Rule {
+    Rule::HoldSeat {
+        held,
+        other: 1u32.saturating_sub(held),
+    }
 }
 
 static SCRIPTS: [Text<'static>; 2] = [("a", b"add l0 1\n"), ("b", b"add l1 1\n")];
@@ -172,12 +215,13 @@ fn either_of_two_files_of_blocks_waits_for_the_other(rt: HostRuntime) -> Result<
 
 #[test]
 fn generated_work_gives_one_text(rt: HostRuntime) -> Result<(), Fail> {
-    let first = print_held(&rt, rt.alloc(), 0, &["work", "1"], &[])?;
-    let second = print_held(&rt, rt.alloc(), 1, &["work", "1"], &[])?;
-    assert_same(&rt, &first, &second, "two texts of one work");
+    let first = print_held(&rt, rt.alloc(), hold_seat(0), &["work", "1"], &[])?;
+    let second = print_held(&rt, rt.alloc(), hold_seat(1), &["work", "1"], &[])?;
+    let texts = (first.out.bytes(), second.out.bytes());
+    assert_same(&rt, &texts.0, &texts.1, "two texts of one work");
     must(
         &rt,
-        has_no_worn_of_8000(&first),
+        has_no_worn_of_8000(texts.0),
         "8,000 replies, none of them worn",
     );
     Ok(())

@@ -1,6 +1,6 @@
 // Scripts on a growing set: the text that they give, and what is no such script.
 use crate::comparing::must;
-use crate::row::{PLAIN, Row, expect_print, run_refused, run_rows};
+use crate::row::{PLAIN, Row, Script, expect_print, refuse_scripts, run_rows};
 use mvrlu_run::LeftDomain;
 use std::test::Fail;
 
@@ -39,10 +39,7 @@ fn two_splits(rt: HostRuntime) -> Result<(), Fail> {
     run_rows(&rt, rt.alloc(), &SPLITS)
 }
 
-// A script that is refused, and the line on standard error.
-type Refused = (&'static [u8], &'static [u8]);
-
-static BROKEN: [Refused; 7] = [
+static BROKEN: [Script; 7] = [
     (b"add l0 1\n", b"script 0 line 1: unknown name\n"),
     (b"has h0 1\nadd h1 1\n", b"script 0 line 2: unknown name\n"),
     (b"add l0 x\n", b"script 0 line 1: unknown name\n"),
@@ -57,18 +54,14 @@ static BROKEN: [Refused; 7] = [
 
 #[test]
 fn list_name_in_grow(rt: HostRuntime) -> Result<(), Fail> {
-    for (script, err) in &BROKEN {
-        run_refused(
-            &rt,
-            rt.alloc(),
-            "no script of a growing set",
-            &["grow", "a"],
-            script,
-            3,
-            err,
-        )?;
-    }
-    Ok(())
+    refuse_scripts(
+        &rt,
+        rt.alloc(),
+        "no script of a growing set",
+        &["grow", "a"],
+        b"",
+        &BROKEN,
+    )
 }
 
 // What two seats print, of which one has no commands.
@@ -81,6 +74,7 @@ fn two_seats_leave_the_domain_of_their_growing_set(rt: HostRuntime) -> Result<()
     let closed = expect_print(
         &rt,
         rt.alloc(),
+        "two files of a growing set",
         &["grow", "a", "b"],
         &[("a", b"add h0 1\n"), ("b", b"")],
         0,

@@ -1,7 +1,6 @@
 // The limits of words, bytes and commands.
 use crate::comparing::assert_same;
-use crate::row::{PLAIN, Row, ZERO, owned, print, run_refused, run_text};
-use host_io::OpenGate;
+use crate::row::{PLAIN, Row, Words, ZERO, print, refuse_words, run_refused, run_script};
 use std::alloc::{AllocError, Global};
 use std::test::Fail;
 
@@ -56,11 +55,9 @@ fn words_out_of_form_show_the_usage(rt: HostRuntime) -> Result<(), Fail> {
     Ok(())
 }
 
-// Words in form with a number out of its range, and the line on standard error.
-type Beyond = (&'static [&'static str], &'static [u8]);
-
-static BEYOND: [Beyond; 10] = [
-    (&["run", "--objects", "180", "a"], b"limit: objects\n"),
+// Words in form with a number out of its range.
+static BEYOND: [Words; 10] = [
+    (&["run", "--objects", "180", "a"], 4, b"limit: objects\n"),
     (
         &[
             "run",
@@ -70,42 +67,33 @@ static BEYOND: [Beyond; 10] = [
             "65536",
             "a",
         ],
+        4,
         b"limit: objects\n",
     ),
-    (&["run", "--slots", "63", "b"], b"limit: slots\n"),
-    (&["run", "--slots", "4097", "a"], b"limit: slots\n"),
-    (&["run", "--base", "35184372088832", "a"], b"limit: base\n"),
-    (&["gen", "1", "4"], b"limit: seat\n"),
-    (&["gen", "0", "99999999999999999999"], b"limit: seat\n"),
-    (&["gen", "18446744073709551616", "4"], b"limit: number\n"),
-    (&["work", "18446744073709551616"], b"limit: number\n"),
-    (&["work", "99999999999999999999"], b"limit: number\n"),
+    (&["run", "--slots", "63", "b"], 4, b"limit: slots\n"),
+    (&["run", "--slots", "4097", "a"], 4, b"limit: slots\n"),
+    (
+        &["run", "--base", "35184372088832", "a"],
+        4,
+        b"limit: base\n",
+    ),
+    (&["gen", "1", "4"], 4, b"limit: seat\n"),
+    (&["gen", "0", "99999999999999999999"], 4, b"limit: seat\n"),
+    (&["gen", "18446744073709551616", "4"], 4, b"limit: number\n"),
+    (&["work", "18446744073709551616"], 4, b"limit: number\n"),
+    (&["work", "99999999999999999999"], 4, b"limit: number\n"),
 ];
 
 #[test]
 fn numbers_of_the_words_are_limited(rt: HostRuntime) -> Result<(), Fail> {
-    for (words, err) in &BEYOND {
-        run_refused(
-            &rt,
-            rt.alloc(),
-            "beyond a limit",
-            words,
-            PLAIN.script,
-            4,
-            err,
-        )?;
-    }
-    Ok(())
+    refuse_words(&rt, rt.alloc(), "beyond a limit", &BEYOND)
 }
 
 #[test]
 fn files_are_limited(rt: HostRuntime) -> Result<(), Fail> {
-    let alloc = rt.alloc();
-    let mut words = owned(alloc, &["run"])?;
-    for _ in 0..65 {
-        words.push(String::from_str(alloc, "b")?)?;
-    }
-    let printed = print(&rt, alloc, &words, Vec::new(alloc), &OpenGate)?;
+    let mut words = vec![in rt.alloc(); "b"; 66]?;
+    words[0] = "run";
+    let printed = print(&rt, rt.alloc(), &words, &[])?;
     let found = (printed.status, printed.err.bytes());
     assert_same(&rt, &found, &(4, b"limit: files\n".as_slice()), "65 files");
     Ok(())
@@ -135,21 +123,9 @@ const MORE_BYTES: Row<'static> = Row {
 
 #[test]
 fn the_bytes_of_a_script_are_limited(rt: HostRuntime) -> Result<(), Fail> {
-    let alloc = rt.alloc();
-    run_text(
-        &rt,
-        alloc,
-        &MOST_BYTES,
-        &line_ends(alloc, 1_048_576)?,
-        &OpenGate,
-    )?;
-    run_text(
-        &rt,
-        alloc,
-        &MORE_BYTES,
-        &line_ends(alloc, 1_048_577)?,
-        &OpenGate,
-    )
+    let bytes = line_ends(rt.alloc(), 1_048_577)?;
+    run_script(&rt, rt.alloc(), &MOST_BYTES, &bytes[1..])?;
+    run_script(&rt, rt.alloc(), &MORE_BYTES, &bytes)
 }
 
 // So many lines that ask for a key.
@@ -182,8 +158,7 @@ const MORE_BLOCKS: Row<'static> = Row {
 
 #[test]
 fn the_commands_of_a_script_are_limited(rt: HostRuntime) -> Result<(), Fail> {
-    let alloc = rt.alloc();
-    let questions = questions(alloc, 65_537)?;
-    run_text(&rt, alloc, &MORE_COMMANDS, &questions, &OpenGate)?;
-    run_text(&rt, alloc, &MORE_BLOCKS, &questions, &OpenGate)
+    let questions = questions(rt.alloc(), 65_537)?;
+    run_script(&rt, rt.alloc(), &MORE_COMMANDS, &questions)?;
+    run_script(&rt, rt.alloc(), &MORE_BLOCKS, &questions)
 }

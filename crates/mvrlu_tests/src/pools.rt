@@ -1,16 +1,14 @@
 // Pools: one file, whose commands any of several seats takes.
 use crate::comparing::{assert_same, must};
+use crate::gates::{Rule, print_held};
 use crate::limits::USAGE;
-use crate::row::{PLAIN, REFUSED, Row, print_texts, run_refused, run_row};
+use crate::row::{PLAIN, REFUSED, Row, Words, print_well, refuse_words, run_row};
 use crate::texts::{count_ends, count_starts, number_in, sum_after};
-use host_io::{Gate, OpenGate};
 use mvrlu_run::LeftDomain;
 use std::alloc::Global;
 use std::fmt::Write;
 use std::process::Abort;
-use std::sync::{Mutex, Wait};
 use std::test::Fail;
-use std::thread::Threads;
 
 // A pool of one seat.
 const ONE_SEAT: Row<'static> = Row {
@@ -26,10 +24,8 @@ fn a_pool_of_one_seat_does_all_in_order(rt: HostRuntime) -> Result<(), Fail> {
     run_row(&rt, rt.alloc(), &ONE_SEAT)
 }
 
-// Words of a pool that are refused, with the status and the line.
-type Refused = (&'static [&'static str], u8, &'static [u8]);
-
-static POOLS: [Refused; 9] = [
+// Words of a pool that are refused.
+static POOLS: [Words; 9] = [
     (&["pool", "0", "a"], 4, b"limit: seats\n"),
     (&["pool", "9", "b"], 4, b"limit: seats\n"),
     (&["pool", "99999999999999999999", "b"], 4, b"limit: seats\n"),
@@ -52,17 +48,7 @@ const BROKEN: Row<'static> = Row {
 
 #[test]
 fn bad_words_of_a_pool_are_refused(rt: HostRuntime) -> Result<(), Fail> {
-    for (words, status, err) in &POOLS {
-        run_refused(
-            &rt,
-            rt.alloc(),
-            "a refused pool",
-            words,
-            PLAIN.script,
-            *status,
-            err,
-        )?;
-    }
+    refuse_words(&rt, rt.alloc(), "a refused pool", &POOLS)?;
     run_row(&rt, rt.alloc(), &BROKEN)
 }
 
@@ -82,8 +68,7 @@ fn adds(alloc: Global, count: u32) -> Result<(String, String), Fail> {
 fn three_seats_do_300_commands_once(rt: HostRuntime) -> Result<(), Fail> {
     let (script, set) = adds(rt.alloc(), 300)?;
     let texts = [("a", script.as_str().as_bytes())];
-    let printed = print_texts(&rt, rt.alloc(), &["pool", "3", "a"], &texts, &OpenGate)?;
-    assert_same(&rt, &printed.status, &0, "the status");
+    let printed = print_well(&rt, rt.alloc(), &["pool", "3", "a"], &texts)?;
     must(
         &rt,
         matches!(&printed.closed, LeftDomain::Sets(_)),
@@ -101,7 +86,7 @@ static SEATS: [(&str, &str); 3] = [("0.", "log 0 "), ("1.", "log 1 "), ("2.", "l
 fn expect_own_lines(rt: &impl Abort, text: &[u8]) {
     for (lines, table) in &SEATS {
         let count = count_starts(text, lines);
-        assert_eq!(rt; number_in(text, table, "commits"), Some(count), "{table}");
+        assert_same(rt, &number_in(text, table, "commits"), &Some(count), table);
     }
 }
 
@@ -114,74 +99,15 @@ fn expect_300(rt: &impl Abort, text: &[u8], set: &str) {
     must(rt, text.contains(set), "the line of the set");
 }
 
-// How often a held worker looks whether the others are done.
-const TURNS: u32 = 1_000_000;
-
-#[derive(Drop)]
-struct Seen {
-    others_done: u32,
-    ran_out: bool,
-}
-
-// It holds one command until the four others are done.
-#[derive(Drop)]
-struct HoldGate<'r, R: Wait> {
-    rt: &'r R,
-    held: u32,
-    seen: Mutex<Seen>,
-}
-
-impl<'r, R: Wait + Sync> Gate for HoldGate<'r, R> {
-    fn before(&self, _seat: u32, number: u32) {
-        if number != self.held {
-            return;
-        }
-        for _ in 0..TURNS {
-            if self.seen.lock(self.rt).others_done == 4 {
-                return;
-            }
-        }
-        self.seen.lock(self.rt).ran_out = true;
-    }
-
-    fn after(&self, _seat: u32, number: u32) {
-        if number != self.held {
-            let mut seen = self.seen.lock(self.rt);
-            seen.others_done = seen.others_done.wrapping_add(1);
-        }
-    }
-}
-
 const FIVE: &[u8] = b"add l0 1\nadd l0 2\nadd l0 3\nadd l0 4\nadd l0 5\n";
 
-// Two seats do five commands, of which this one waits for all others.
-fn hold<R: Threads + Wait + Abort + Sync>(rt: &R, alloc: Global, held: u32) -> Result<(), Fail> {
-    let gate = HoldGate {
-        rt,
-        held,
-        seen: Mutex::new(Seen {
-            others_done: 0,
-            ran_out: false,
-        }),
-    };
-    let printed = print_texts(rt, alloc, &["pool", "2", "a"], &[("a", FIVE)], &gate)?;
-    assert_same(rt, &printed.status, &0, "the status");
-    let HoldGate {
-        rt: _,
-        held: _,
-        seen,
-    } = gate;
-    let waited = !seen.into_inner().ran_out;
-    must(
-        rt,
-        waited,
-        "each of two seats takes a command while the other one is held",
-    );
-    Ok(())
-}
-
+// Two seats do five commands, of which one waits for all others, so each of two seats takes a command while the other one
+// is held.
 #[test]
 fn a_held_command_waits_for_all_others(rt: HostRuntime) -> Result<(), Fail> {
-    hold(&rt, rt.alloc(), 1)?;
-    hold(&rt, rt.alloc(), 2)
+    for held in 1..3 {
+        let rule = Rule::HoldCommand(held);
+        let _printed = print_held(&rt, rt.alloc(), rule, &["pool", "2", "a"], &[("a", FIVE)])?;
+    }
+    Ok(())
 }

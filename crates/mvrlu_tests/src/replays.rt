@@ -2,15 +2,12 @@
 use crate::comparing::{assert_same, must};
 use crate::limits::{USAGE, line_ends};
 use crate::row::{
-    PLAIN, Printed, REFUSED, Row, named, owned, print, run_refused, run_rows, run_text,
+    PLAIN, REFUSED, Row, Script, Words, print, refuse_scripts, refuse_words, run_rows, run_script,
 };
-use host_io::OpenGate;
 use mvrlu_run::LeftDomain;
 use std::alloc::{AllocError, Global};
 use std::process::Abort;
-use std::sync::Wait;
 use std::test::Fail;
-use std::thread::Threads;
 
 // A replay that has its text.
 const REPLAY: Row<'static> = Row {
@@ -49,10 +46,7 @@ fn schedules_have_their_text(rt: HostRuntime) -> Result<(), Fail> {
     run_rows(&rt, rt.alloc(), &SCHEDULES)
 }
 
-// A plan that is refused, and the line on standard error.
-type Refused = (&'static [u8], &'static [u8]);
-
-static BROKEN_HEADS: [Refused; 17] = [
+static BROKEN_HEADS: [Script; 17] = [
     (b"seats 65", b"script 0 line 1: bad number\n"),
     (b"seats 0\n", b"script 0 line 1: bad number\n"),
     (b"seats -1\n", b"script 0 line 1: bad number\n"),
@@ -93,7 +87,7 @@ static BROKEN_HEADS: [Refused; 17] = [
 // The first four lines of the plans below.
 const HEADS: &[u8] = b"seats 2\nobjects 1\nslots 64\nbase 0\n";
 
-static BROKEN_BODIES: [Refused; 19] = [
+static BROKEN_BODIES: [Script; 19] = [
     (b"seats 2", b"script 0 line 5: unknown command\n"),
     (b"Step 0\n", b"script 0 line 5: unknown command\n"),
     (b"step\n", b"script 0 line 5: wrong number of words\n"),
@@ -136,40 +130,14 @@ static BROKEN_BODIES: [Refused; 19] = [
     ),
 ];
 
-// Replays the text behind the front, and compares the refusal.
-fn refuses<R: Abort + Threads + Wait + Sync>(
-    rt: &R,
-    alloc: Global,
-    front: &[u8],
-    refused: &Refused,
-) -> Result<(), Fail> {
-    let mut plan = front.to_vec(alloc)?;
-    plan.extend_from_slice(refused.0)?;
-    run_refused(
-        rt,
-        alloc,
-        "a broken plan",
-        &["replay", "a"],
-        &plan,
-        3,
-        refused.1,
-    )
-}
-
 #[test]
 fn what_is_no_plan_is_refused(rt: HostRuntime) -> Result<(), Fail> {
-    for refused in &BROKEN_HEADS {
-        refuses(&rt, rt.alloc(), b"", refused)?;
-    }
-    for refused in &BROKEN_BODIES {
-        refuses(&rt, rt.alloc(), HEADS, refused)?;
-    }
-    Ok(())
+    let (name, words) = ("a broken plan", &["replay", "a"]);
+    refuse_scripts(&rt, rt.alloc(), name, words, b"", &BROKEN_HEADS)?;
+    refuse_scripts(&rt, rt.alloc(), name, words, HEADS, &BROKEN_BODIES)
 }
 
-// Words of a replay that are refused, with the status and the line.
-type Words = (&'static [&'static str], u8, &'static [u8]);
-
+// Words of a replay that are refused.
 static WORDS: [Words; 6] = [
     (&["replay"], 2, USAGE),
     (&["replay", "-a"], 2, USAGE),
@@ -181,18 +149,7 @@ static WORDS: [Words; 6] = [
 
 #[test]
 fn bad_words_of_a_replay_are_refused(rt: HostRuntime) -> Result<(), Fail> {
-    for (words, status, err) in &WORDS {
-        run_refused(
-            &rt,
-            rt.alloc(),
-            "a refused replay",
-            words,
-            PLAIN.script,
-            *status,
-            err,
-        )?;
-    }
-    Ok(())
+    refuse_words(&rt, rt.alloc(), "a refused replay", &WORDS)
 }
 
 // Calls of the outside that fail.
@@ -267,13 +224,13 @@ const NUMBER: Row<'static> = Row {
 #[test]
 fn the_steps_of_a_plan_are_limited(rt: HostRuntime) -> Result<(), Fail> {
     let alloc = rt.alloc();
-    run_text(&rt, alloc, &MORE_STEPS, &turns(alloc, 65_537)?, &OpenGate)?;
+    run_script(&rt, rt.alloc(), &MORE_STEPS, &turns(alloc, 65_537)?)?;
     let mut plan = turns(alloc, 65_536)?;
     plan.extend_from_slice(b"\nstep 0 0\nstep 1\n")?;
-    run_text(&rt, alloc, &LATER_NUMBER, &plan, &OpenGate)?;
+    run_script(&rt, rt.alloc(), &LATER_NUMBER, &plan)?;
     let mut plan = turns(alloc, 65_536)?;
     plan.extend_from_slice(b"step 0 1\n")?;
-    run_text(&rt, alloc, &NUMBER, &plan, &OpenGate)
+    run_script(&rt, rt.alloc(), &NUMBER, &plan)
 }
 
 // One byte more than a plan may have.
@@ -288,31 +245,22 @@ const MORE_BYTES: Row<'static> = Row {
 
 #[test]
 fn the_bytes_of_a_plan_are_limited(rt: HostRuntime) -> Result<(), Fail> {
-    let alloc = rt.alloc();
-    run_text(
+    run_script(
         &rt,
-        alloc,
+        rt.alloc(),
         &MORE_BYTES,
-        &line_ends(alloc, 1_048_577)?,
-        &OpenGate,
+        &line_ends(rt.alloc(), 1_048_577)?,
     )
 }
 
 #[test]
 fn as_many_steps_as_may_be_are_replayed_on_no_domain(rt: HostRuntime) -> Result<(), Fail> {
-    let alloc = rt.alloc();
-    let words = owned(alloc, &["replay", "a"])?;
-    let mut texts = Vec::new(alloc);
-    texts.push(named(alloc, "a", &turns(alloc, 65_536)?)?)?;
-    let Printed {
-        status,
-        closed,
-        out,
-        err,
-    } = print(&rt, alloc, &words, texts, &OpenGate)?;
-    assert_same(&rt, &(status, err.bytes()), &(0, b"".as_slice()), "the end");
-    must(&rt, matches!(&closed, LeftDomain::No), "no domain");
-    expect_idle(&rt, out.bytes());
+    let plan = turns(rt.alloc(), 65_536)?;
+    let printed = print(&rt, rt.alloc(), &["replay", "a"], &[("a", &plan)])?;
+    let end = (printed.status, printed.err.bytes());
+    assert_same(&rt, &end, &(0, b"".as_slice()), "the end");
+    must(&rt, matches!(&printed.closed, LeftDomain::No), "no domain");
+    expect_idle(&rt, printed.out.bytes());
     Ok(())
 }
 

@@ -1,9 +1,7 @@
 // Scripts of several seats, long scripts, generated ones, and what is left of the domain.
 use crate::comparing::{assert_same, must};
-use crate::row::{PLAIN, Printed, named, owned, print, print_texts, print_well};
+use crate::row::{PLAIN, Printed, print, print_well};
 use crate::texts::{count_ends, sum_after, time_of};
-use host_io::OpenGate;
-use memory_io::MemText;
 use mv_history::View;
 use mvrlu_run::LeftDomain;
 use set_catalog::read_all;
@@ -19,8 +17,7 @@ const SECOND_TABLE: &[u8] = b"\nlog 1 live 0 freed 0 back 0 commits 0 aborts 0 r
 #[test]
 fn an_empty_second_file_has_its_table(rt: HostRuntime) -> Result<(), Fail> {
     let texts = [("a", PLAIN.script), ("b", b"")];
-    let printed = print_texts(&rt, rt.alloc(), &["run", "a", "b"], &texts, &OpenGate)?;
-    assert_same(&rt, &printed.status, &0, "the status");
+    let printed = print_well(&rt, rt.alloc(), &["run", "a", "b"], &texts)?;
     expect_second_table(&rt, printed.out.bytes());
     Ok(())
 }
@@ -37,19 +34,13 @@ fn expect_second_table(rt: &impl Abort, text: &[u8]) {
     );
 }
 
-// A text of this name, with so many times a piece behind a beginning.
-fn repeated(
-    alloc: Global,
-    name: &str,
-    first: &[u8],
-    piece: &[u8],
-    times: u32,
-) -> Result<MemText, AllocError> {
+// So many times a piece behind a beginning.
+fn repeated(alloc: Global, first: &[u8], piece: &[u8], times: u32) -> Result<Vec<u8>, AllocError> {
     let mut bytes = first.to_vec(alloc)?;
     for _ in 0..times {
         bytes.extend_from_slice(piece)?;
     }
-    named(alloc, name, &bytes)
+    Ok(bytes)
 }
 
 // Looks that all commands replied yes, and that the log kept few versions.
@@ -65,22 +56,11 @@ fn expect_thousand(rt: &impl Abort, text: &[u8]) {
 
 #[test]
 fn a_small_log_serves_a_thousand_commits(rt: HostRuntime) -> Result<(), Fail> {
-    let alloc = rt.alloc();
-    let words = owned(alloc, &["run", "--slots", "64", "a"])?;
-    let mut texts = Vec::new(alloc);
-    texts.push(repeated(alloc, "a", b"", b"add l0 7\ndel l0 7\n", 500)?)?;
-    let out = print_well(&rt, alloc, &words, texts)?;
-    expect_thousand(&rt, out.bytes());
+    let script = repeated(rt.alloc(), b"", b"add l0 7\ndel l0 7\n", 500)?;
+    let words = ["run", "--slots", "64", "a"];
+    let printed = print_well(&rt, rt.alloc(), &words, &[("a", &script)])?;
+    expect_thousand(&rt, printed.out.bytes());
     Ok(())
-}
-
-// Three scripts: moves of a key there, moves back, and questions for both sets.
-fn moves(alloc: Global) -> Result<Vec<MemText>, AllocError> {
-    let mut texts = Vec::new(alloc);
-    texts.push(repeated(alloc, "a", b"add l0 7\n", b"move l0 t0 7\n", 200)?)?;
-    texts.push(repeated(alloc, "b", b"", b"move t0 l0 7\n", 200)?)?;
-    texts.push(repeated(alloc, "c", b"", b"pair l0 t0 7\n", 500)?)?;
-    Ok(texts)
 }
 
 // Looks that no pair has the key in both sets, and that one has it in none only before it was added.
@@ -115,17 +95,40 @@ fn expect_none_before(rt: &impl Abort, text: &str) {
 #[test]
 fn moves_are_seen_whole(rt: HostRuntime) -> Result<(), Fail> {
     let alloc = rt.alloc();
-    let words = owned(alloc, &["run", "a", "b", "c"])?;
-    let out = print_well(&rt, alloc, &words, moves(alloc)?)?;
-    expect_whole_moves(&rt, out.bytes())
+    let there = repeated(alloc, b"add l0 7\n", b"move l0 t0 7\n", 200)?;
+    let back = repeated(alloc, b"", b"move t0 l0 7\n", 200)?;
+    let questions = repeated(alloc, b"", b"pair l0 t0 7\n", 500)?;
+    let texts = [("a", there.as_slice()), ("b", &back), ("c", &questions)];
+    let printed = print_well(&rt, rt.alloc(), &["run", "a", "b", "c"], &texts)?;
+    expect_whole_moves(&rt, printed.out.bytes())
 }
 
-// The name of a file of this number, and its text, which adds the number to `l0`.
-fn numbered(alloc: Global, file: u32) -> Result<(String, MemText), AllocError> {
-    let name = format!(in alloc; "file{file}")?;
-    let script = format!(in alloc; "add l0 {file}\n")?;
-    let text = named(alloc, &name, script.as_bytes())?;
-    Ok((name, text))
+// The names of so many files, and their scripts, each of which adds the file's number to `l0`.
+fn numbered(alloc: Global, count: u32) -> Result<(Vec<String>, Vec<String>), AllocError> {
+    let mut names = Vec::new(alloc);
+    let mut scripts = Vec::new(alloc);
+    for file in 0..count {
+        names.push(format!(in alloc; "file{file}")?)?;
+        scripts.push(format!(in alloc; "add l0 {file}\n")?)?;
+    }
+    Ok((names, scripts))
+}
+
+// Runs files of these names and scripts, and looks that it ends well.
+fn print_files<R: Abort + Threads + Wait + Sync>(
+    rt: &R,
+    alloc: Global,
+    names: &[String],
+    scripts: &[String],
+) -> Result<Printed, AllocError> {
+    let mut words = Vec::new(alloc);
+    let mut texts = Vec::new(alloc);
+    words.push("run")?;
+    for (name, script) in names.iter().zip(scripts) {
+        words.push(name.as_str())?;
+        texts.push((name.as_str(), script.as_bytes()))?;
+    }
+    print_well(rt, alloc, &words, &texts)
 }
 
 // The line of a set that has so many keys from 0 on.
@@ -147,23 +150,16 @@ fn expect_sixty_four(rt: &impl Abort, text: &[u8], set: &str) {
 
 #[test]
 fn sixty_four_files_run_at_once(rt: HostRuntime) -> Result<(), Fail> {
-    let alloc = rt.alloc();
-    let mut words = owned(alloc, &["run"])?;
-    let mut texts = Vec::new(alloc);
-    for file in 0..64 {
-        let (name, text) = numbered(alloc, file)?;
-        words.push(name)?;
-        texts.push(text)?;
-    }
-    let out = print_well(&rt, alloc, &words, texts)?;
-    expect_sixty_four(&rt, out.bytes(), &set_of(alloc, 64)?);
+    let (names, scripts) = numbered(rt.alloc(), 64)?;
+    let printed = print_files(&rt, rt.alloc(), &names, &scripts)?;
+    let set = set_of(rt.alloc(), 64)?;
+    expect_sixty_four(&rt, printed.out.bytes(), &set);
     Ok(())
 }
 
 #[test]
 fn a_generated_script_has_its_lines(rt: HostRuntime) -> Result<(), Fail> {
-    let printed = print_texts(&rt, rt.alloc(), &["gen", "1", "0"], &[], &OpenGate)?;
-    assert_same(&rt, &printed.status, &0, "the status");
+    let printed = print_well(&rt, rt.alloc(), &["gen", "1", "0"], &[])?;
     must(&rt, matches!(printed.closed, LeftDomain::No), "no domain");
     expect_generated(&rt, printed.out.bytes());
     Ok(())
@@ -179,23 +175,14 @@ fn expect_generated(rt: &impl Abort, text: &[u8]) {
 
 #[test]
 fn the_closing_is_that_of_the_run(rt: HostRuntime) -> Result<(), Fail> {
-    let alloc = rt.alloc();
-    let words = owned(alloc, &["run", "a"])?;
-    let mut texts = Vec::new(alloc);
-    texts.push(named(alloc, "a", PLAIN.script)?)?;
-    let Printed {
-        status,
-        closed,
-        out: _,
-        err: _,
-    } = print(&rt, alloc, &words, texts, &OpenGate)?;
-    assert_same(&rt, &status, &0, "the status");
-    let LeftDomain::Sets(mut closing) = closed else {
+    let printed = print(&rt, rt.alloc(), &["run", "a"], &[("a", PLAIN.script)])?;
+    assert_same(&rt, &printed.status, &0, "the status");
+    let LeftDomain::Sets(mut closing) = printed.closed else {
         return Err(Fail::new("the domain was run"));
     };
     assert_same(&rt, &closing.time(), &1, "the last time");
-    expect_five(&rt, &read_all(alloc, &mut closing)?);
-    expect_none_closed(&rt, alloc)
+    expect_five(&rt, &read_all(rt.alloc(), &mut closing)?);
+    expect_none_closed(&rt, rt.alloc())
 }
 
 // Looks that 5 is the one key, and in the first set.
@@ -209,7 +196,7 @@ fn expect_five(rt: &impl Abort, end: &Catalogue) {
 
 // Looks that no words leave no domain.
 fn expect_none_closed<R: Abort + Threads + Wait + Sync>(rt: &R, alloc: Global) -> Result<(), Fail> {
-    let none = print(rt, alloc, &[], Vec::new(alloc), &OpenGate)?;
+    let none = print(rt, alloc, &[], &[])?;
     assert_same(rt, &none.status, &2, "the status of no words");
     must(
         rt,

@@ -39,6 +39,7 @@ fn the_numbers_of_words(rt: HostRuntime) {
         &rt,
         &numbers,
         &[0, 1, 2, 3, 4, 5, 10, 11, 22, 643, 654, 1_290],
+        "numbers",
     );
 }
 
@@ -62,13 +63,14 @@ fn the_cells_of_words(rt: HostRuntime) {
         &rt,
         &cells,
         &[6, 22, 38, 54, 70, 71, 76, 78, 95, 1_088, 1_105, 2_119],
+        "cells",
     );
 }
 
 #[test]
 fn a_machine_has_the_numbers_of_its_domain(rt: HostRuntime) -> Result<(), Fail> {
     let machine = Machine::new(rt.alloc(), &SMALL)?;
-    expect(&rt, machine.config(), &SMALL);
+    expect(&rt, machine.config(), &SMALL, "the numbers of a machine");
     Ok(())
 }
 
@@ -91,6 +93,11 @@ fn enter_and_leave(machine: &mut Machine, seat: u32) -> [u64; 4]
 fn a_seat_enters_and_leaves(rt: HostRuntime) -> Result<(), Fail> {
     let mut machine = Machine::new(rt.alloc(), &SMALL)?;
     let found = enter_and_leave(&mut machine, 1);
-    expect(&rt, &found, &[1_581_055, 0, 1_581_055, 4]);
+    expect(
+        &rt,
+        &found,
+        &[1_581_055, 0, 1_581_055, 4],
+        "the words that were found",
+    );
     Ok(())
 }

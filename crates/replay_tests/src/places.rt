@@ -1,5 +1,5 @@
 // The packed words and the limits, against values worked out by hand.
-use crate::expected::expect;
+use crate::expected::{expect, must};
 use mv_layout::{
     CLOCK_CELL, Config, ConfigFault, GRACE_CELL, LAST, clock_seat, clock_slot, clock_time,
     clock_word, head_cell, head_place, is_unset, link_position, link_seat, link_word, mark_cell,
@@ -29,11 +29,19 @@ static CLOCKS: [Clock; 5] = [
 // Packs and unpacks a row.
 fn packs_clock(rt: &impl Abort, row: &Clock) {
     let (time, seat, slot, hexadecimal, decimal) = *row;
-    assert!(rt; time <= LAST && seat < 64 && slot <= 8191);
+    must(
+        rt,
+        time <= LAST && seat < 64 && slot <= 8191,
+        "a clock in range",
+    );
     let word = clock_word(time, seat, slot);
-    expect(rt, &(word, word), &(hexadecimal, decimal));
     let parts = (clock_time(word), clock_seat(word), clock_slot(word));
-    expect(rt, &parts, &(time, seat, slot));
+    expect(
+        rt,
+        &(word, word, parts),
+        &(hexadecimal, decimal, (time, seat, slot)),
+        "a clock",
+    );
 }
 
 #[test]
@@ -61,13 +69,14 @@ static LINKS: [Link; 3] = [
 // Packs and unpacks a row.
 fn packs_link(rt: &impl Abort, row: &Link) {
     let (seat, position, hexadecimal, decimal) = *row;
-    assert!(rt; seat < 64 && position < 1 << 57);
+    must(rt, seat < 64 && position < 1 << 57, "a link in range");
     let word = link_word(seat, position);
-    expect(rt, &(word, word), &(hexadecimal, decimal));
+    let parts = (link_seat(word), link_position(word));
     expect(
         rt,
-        &(link_seat(word), link_position(word)),
-        &(seat, position),
+        &(word, word, parts),
+        &(hexadecimal, decimal, (seat, position)),
+        "a link",
     );
 }
 
@@ -82,17 +91,20 @@ fn packed_links(rt: HostRuntime) -> Result<(), Fail> {
 #[test]
 fn packed_stamps_and_marks(rt: HostRuntime) -> Result<(), Fail> {
     let unset = unset_stamp(7);
+    let words = [
+        unset,
+        unset_position(unset),
+        mark_word(0),
+        mark_low(mark_word(5)),
+    ];
     expect(
         &rt,
-        &(unset, unset_position(unset)),
-        &(0x8000_0000_0000_0007, 7),
+        &words,
+        &[0x8000_0000_0000_0007, 7, 1, 5],
+        "stamps and marks",
     );
-    expect(
-        &rt,
-        &(is_unset(unset), is_unset(35_184_372_088_831)),
-        &(true, false),
-    );
-    expect(&rt, &(mark_word(0), mark_low(mark_word(5))), &(1, 5));
+    must(&rt, is_unset(unset), "a stamp that is unset");
+    must(&rt, !is_unset(35_184_372_088_831), "a stamp that is set");
     Ok(())
 }
 
@@ -204,7 +216,12 @@ static CONFIGS: [(Config, Result<(), ConfigFault>); 22] = [
 #[test]
 fn set_full_and_config(rt: HostRuntime) -> Result<(), Fail> {
     for (row, (config, answer)) in CONFIGS.iter().enumerate() {
-        assert_eq!(rt; config.check(), *answer, "row {row}");
+        expect(
+            &rt,
+            &(row, config.check()),
+            &(row, *answer),
+            "numbers of this row",
+        );
     }
     Ok(())
 }
@@ -220,7 +237,6 @@ const WIDE: Config = Config { seats: 8, ..WIDEST };
 
 #[test]
 fn places_of_a_domain(rt: HostRuntime) -> Result<(), Fail> {
-    expect(&rt, &total_words(&FIT), &(2 + 2 + 21 + 1_280));
     let places = [
         mark_place(&FIT, 1),
         head_place(&FIT, 2),
@@ -228,9 +244,14 @@ fn places_of_a_domain(rt: HostRuntime) -> Result<(), Fail> {
         slot_place(&FIT, 0, 0),
         slot_place(&FIT, 1, 63),
     ];
-    expect(&rt, &places, &[3, 18, 24, 25, 25 + 1_270]);
-    let totals = [total_words(&WIDEST), total_words(&WIDE)];
-    expect(&rt, &totals, &[120_062_018, 117_768_202]);
+    expect(&rt, &places, &[3, 18, 24, 25, 25 + 1_270], "places");
+    let totals = [total_words(&FIT), total_words(&WIDEST), total_words(&WIDE)];
+    expect(
+        &rt,
+        &totals,
+        &[2 + 2 + 21 + 1_280, 120_062_018, 117_768_202],
+        "totals",
+    );
     Ok(())
 }
 
@@ -247,9 +268,14 @@ fn cells_of_a_domain(rt: HostRuntime) -> Result<(), Fail> {
         slot_cell(&FIT, 0, 0),
         slot_cell(&FIT, 1, 63),
     ];
-    expect(&rt, &cells, &[6, 22, 38, 54, 70, 86, 92, 94, 94 + 16 * 127]);
+    expect(
+        &rt,
+        &cells,
+        &[6, 22, 38, 54, 70, 86, 92, 94, 94 + 16 * 127],
+        "cells",
+    );
     let totals = [total_cells(&FIT), total_cells(&WIDEST)];
-    expect(&rt, &totals, &[94 + 16 * 128, 138_413_094]);
+    expect(&rt, &totals, &[94 + 16 * 128, 138_413_094], "totals");
     Ok(())
 }
 
@@ -271,6 +297,6 @@ fn slots_of_positions(rt: HostRuntime) -> Result<(), Fail> {
         slot_of_position(&SMALL, 300),
         slot_of_position(&LARGE, 144_115_188_075_855_871),
     ];
-    expect(&rt, &slots, &[0, 6, 7, 44, 4_095]);
+    expect(&rt, &slots, &[0, 6, 7, 44, 4_095], "slots");
     Ok(())
 }

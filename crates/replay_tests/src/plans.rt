@@ -1,5 +1,5 @@
 // Plans that are read, and texts that are refused, with their line and their fault.
-use crate::expected::expect;
+use crate::expected::{expect, must};
 use mv_layout::{Config, LAST};
 use std::alloc::{AllocError, Global};
 use std::process::Abort;
@@ -13,15 +13,20 @@ type Broken = (&'static [u8], u32, PlanKind);
 const HEAD: &[u8] = b"seats 2\nobjects 3\nslots 64\nbase 5\n";
 
 // The plan of a text, or its fault.
-fn planned(rt: &impl Abort, alloc: Global, text: &[u8]) -> Result<Plan, PlanFault> {
-    assert!(rt; text.len() <= 1_048_577);
+pub fn planned(rt: &impl Abort, alloc: Global, text: &[u8]) -> Result<Plan, PlanFault> {
+    must(rt, text.len() <= 1_048_577, "a text in range");
     parse_plan(alloc, text)
 }
 
 // Looks that the text has its first fault on this line.
 fn refuses_one(rt: &impl Abort, alloc: Global, text: &[u8], line: u32, kind: PlanKind) {
     let fault = planned(rt, alloc, text).err().expect(rt, "a fault");
-    assert_eq!(rt; fault, PlanFault::At { line, kind }, "of {text:?}");
+    expect(
+        rt,
+        &(text, fault),
+        &(text, PlanFault::At { line, kind }),
+        "a fault",
+    );
 }
 
 fn refuses(rt: &impl Abort, alloc: Global, rows: &[Broken]) {
@@ -96,9 +101,14 @@ static CALLS: [CallOf; 8] = [
 #[test]
 fn every_call_is_read(rt: HostRuntime) -> Result<(), Fail> {
     let plan = planned(&rt, rt.alloc(), EVERY_CALL).ok().ok_or("a plan")?;
-    expect(&rt, &plan.config, &CONFIG);
-    expect(&rt, &plan.calls.as_slice(), &CALLS.as_slice());
-    expect(&rt, &plan.steps.as_slice(), &[0, 1, 1].as_slice());
+    expect(&rt, &plan.config, &CONFIG, "the numbers");
+    expect(&rt, &plan.calls.as_slice(), &CALLS.as_slice(), "the calls");
+    expect(
+        &rt,
+        &plan.steps.as_slice(),
+        &[0, 1, 1].as_slice(),
+        "the steps",
+    );
     Ok(())
 }
 
@@ -118,9 +128,14 @@ fn has_numbers(rt: &impl Abort, alloc: Global, text: &[u8], numbers: Numbers) {
     let plan = planned(rt, alloc, text).ok().expect(rt, "a plan");
     let config = plan.config;
     let found = (config.seats, config.objects, config.slots, config.base);
-    assert_eq!(rt; found, numbers, "of {text:?}");
-    assert!(rt; config.check().is_ok(), "of {text:?}");
-    assert_eq!(rt; (plan.calls.len(), plan.steps.len()), (0, 0), "of {text:?}");
+    let is_ok = config.check().is_ok();
+    let counts = [plan.calls.len(), plan.steps.len()];
+    expect(
+        rt,
+        &(text, found, is_ok, counts),
+        &(text, numbers, true, [0, 0]),
+        "a plan",
+    );
 }
 
 #[test]
@@ -241,7 +256,12 @@ fn most_steps(alloc: Global) -> Result<Vec<u8>, AllocError> {
 fn one_step_too_many(rt: HostRuntime) -> Result<(), Fail> {
     let mut text = most_steps(rt.alloc())?;
     let plan = planned(&rt, rt.alloc(), &text).ok().ok_or("a plan")?;
-    assert_eq!(rt; (plan.steps.len(), MOST_STEPS), (65_536, 65_536));
+    expect(
+        &rt,
+        &[plan.steps.len(), MOST_STEPS],
+        &[65_536, 65_536],
+        "steps",
+    );
     let mut bad = text.clone()?;
     bad.extend_from_slice(b"\nstep 0 2")?;
     refuses_one(&rt, rt.alloc(), &bad, 4_102, PlanKind::Number);

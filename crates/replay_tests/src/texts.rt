@@ -1,8 +1,10 @@
 // Replays whose text is known.
+use crate::expected::expect;
+use crate::plans::planned;
 use std::alloc::Global;
 use std::process::Abort;
 use std::test::*;
-use step_replay::{parse_plan, replay};
+use step_replay::replay;
 
 // A plan and its text.
 type Whole = (&'static [u8], &'static [u8]);
@@ -20,18 +22,18 @@ const SKIP_ENTER_READ_LEAVE: Whole = (
         1 leave\nend 3\n",
 );
 
-// The text of the replay of a plan.
-fn replayed(rt: &impl Abort, alloc: Global, text: &[u8]) -> Result<Vec<u8>, Fail> {
-    assert!(rt; text.len() <= 1_048_577);
-    let plan = parse_plan(alloc, text).ok().ok_or("a plan")?;
-    Ok(replay(alloc, &plan)?)
+// Looks that the replay of a plan has this text.
+fn expect_text(rt: &impl Abort, alloc: Global, plan: &[u8], text: &[u8]) -> Result<(), Fail> {
+    let plan = planned(rt, alloc, plan).ok().ok_or("a plan")?;
+    let found = replay(alloc, &plan)?;
+    expect(rt, &found.as_slice(), &text, "a text");
+    Ok(())
 }
 
 #[test]
 fn whole_texts(rt: HostRuntime) -> Result<(), Fail> {
-    let (plan, text) = ENTER_LEAVE_IDLE;
-    assert_eq!(rt; replayed(&rt, rt.alloc(), plan)?.as_slice(), text);
-    let (plan, text) = SKIP_ENTER_READ_LEAVE;
-    assert_eq!(rt; replayed(&rt, rt.alloc(), plan)?.as_slice(), text);
+    for (plan, text) in [ENTER_LEAVE_IDLE, SKIP_ENTER_READ_LEAVE] {
+        expect_text(&rt, rt.alloc(), plan, text)?;
+    }
     Ok(())
 }

@@ -175,9 +175,14 @@ fn expect_generated(rt: &impl Abort, text: &[u8]) {
 
 #[test]
 fn the_closing_is_that_of_the_run(rt: HostRuntime) -> Result<(), Fail> {
-    let printed = print(&rt, rt.alloc(), &["run", "a"], &[("a", PLAIN.script)])?;
-    assert_same(&rt, &printed.status, &0, "the status");
-    let LeftDomain::Sets(mut closing) = printed.closed else {
+    let Printed {
+        status,
+        closed,
+        out: _,
+        err: _,
+    } = print(&rt, rt.alloc(), &["run", "a"], &[("a", PLAIN.script)])?;
+    assert_same(&rt, &status, &0, "the status");
+    let LeftDomain::Sets(mut closing) = closed else {
         return Err(Fail::new("the domain was run"));
     };
     assert_same(&rt, &closing.time(), &1, "the last time");

@@ -16,8 +16,10 @@ ghost use Rattle.domain_lines.specs.Joined.{past_of_whole};
 ghost use Rattle.block_domain.specs.Whole.{BlocksRunOf};
 
 use block_workers::run_blocks;
-use domain_loan::{lend_all, meet_all, take_back};
+use domain_lines::{JointRun, run_on_seats};
+use domain_loan::meet_all;
 use host_io::Gate;
+use mv_history::Store;
 use mvrlu::{Closing, Domain, Seat};
 use run_report::Line;
 use set_blocks::{Block, BlockRules};
@@ -95,9 +97,36 @@ fn run_seats<R: Threads + Wait + Sync, G: Gate>(
         (map blocks_of scripts.now) done.1.items) }
     ensures err { IfErr result (λ refused. map seat_of refused.0.items ≡ map seat_of seats.items) }
 {
-    let (handles, left) = lend_all(alloc, domain, seats)?;
-    match run_blocks(rt, alloc, handles, scripts, gate) {
-        Ok((handles, lines)) => Ok((take_back(handles, left), lines)),
-        Err((handles, error)) => Err((take_back(handles, left), error)),
+    run_on_seats(rt, alloc, domain, seats, &Scripts { scripts, gate })
+}
+
+// A script for each seat, and the gate around their blocks.
+#[derive(Drop)]
+struct Scripts<'s, G> {
+    scripts: &'s [Vec<Block>],
+    gate: &'s G,
+}
+
+impl<'s, G: Gate> JointRun<BlockRules> for Scripts<'s, G> {
+    type Made = Vec<Line>;
+
+    ghost locks = { 40 };
+
+    ghost fits = { λ seats run. (length run.scripts.now ≡ seats) × All (λ script. count_of script ≤ MOST_COMMANDS) run.scripts.now };
+
+    ghost ran = { λ olds news run lines. AllRanBlocks olds news (map blocks_of run.scripts.now) lines.items };
+
+    ghost linked = { λ shows olds news run lines. AllLinkedBlocks shows olds news (map blocks_of run.scripts.now) lines.items };
+
+    fn run<R: Threads + Wait + Sync, S: Store<Rules = BlockRules> + Send>(
+        &self,
+        rt: &R,
+        alloc: Global,
+        stores: Vec<S>,
+    ) -> Result<(Vec<S>, Vec<Line>), (Vec<S>, AllocError)>
+    where
+        S::Open: Send,
+    {
+        run_blocks(rt, alloc, stores, self.scripts, self.gate)
     }
 }

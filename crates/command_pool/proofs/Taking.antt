@@ -4,10 +4,9 @@ use Rattle.std.proofs.lemmas.Option.{slice_get_within}
 use Rattle.script_workers.proofs.Runs.{chain_ran, chain_lines}
 use Rattle.command_pool.proofs.Terms.{◌≡◌, ◌-◌, ◌<◌, ◌∷◌, ◌++◌, ◌∙◌, ◌+◌, ◌≤◌, flat_map, ℕ, zero, suc, List, [], length, map, All, Some, slice_get, refl, sym}
 use Rattle.command_pool.proofs.Terms.{ap, subst, arith, Vec, append_assoc, All-nil, All-cons, Serves, Seat, Command, Place, Reply, Causes, Line, command_at}
-use Rattle.command_pool.proofs.Terms.{Answer, Chain, answered, line_of, LinkedDone, hand, last_of, GaveTurn, HasEnded, AreTaken, view, IsSamePass, Hand}
-use Rattle.command_pool.proofs.Terms.{PoolSource}
-use Rattle.command_pool.proofs.Terms.{All-head, All-tail, HaveNumbers, lines_from, Took, TookLinked, IsServedTo, EachServed, row_of, total, total_to, EachSeat}
-use Rattle.command_pool.proofs.Terms.{PoolRan, QueueOf, IsBegun, IsLent, taken_of}
+use Rattle.command_pool.proofs.Terms.{Answer, Chain, answered, line_of, LinkedDone, hand, last_of, GaveTurn, HasEnded, AreTaken, view, Hand, PoolSource}
+use Rattle.command_pool.proofs.Terms.{All-head, All-tail, HaveNumbers, lines_from, Took, TookLinked, EachServed, row_of, total, total_to, EachSeat, PoolRan}
+use Rattle.command_pool.proofs.Terms.{QueueOf, IsPassOf, IsBegun, IsLent, taken_of}
 use Rattle.command_pool.proofs.Gathering.{last_push, number_of, Gathered, gathered_none, gathered_more, each_once, all_told}
 
 -- a hand of one part is known by what it took
@@ -27,53 +26,55 @@ command_there [] place lt = absurd (omega (arith, lt))
 command_there (c ∷ commands) zero lt = (c, refl)
 command_there (c ∷ commands) (suc place) lt = command_there commands place (omega (arith, lt))
 
--- From one state of its turns to another a worker did these commands, each in a turn of its own, and then took a number that no command has.
-pub record TurnsDone (k : Causes) (seat : ℕ) (s : Seat) (a : PoolSource) (t : Seat) (b : PoolSource) (ds : List (Answer (Place × Reply))) : Type 0 where
-  pub pass : IsSamePass a.pass b.pass
+-- From one state of its turns to another a worker of this queue did these commands, each in a turn of its own, and then took a number that no
+-- command has.
+record TurnsDone (k : Causes) {Q A : Type 0} (queue : QueueOf Q A) (commands : List Command) (seat : ℕ) (s : Seat) (a : PoolSource) (t : Seat)
+    (b : PoolSource) (ds : List (Answer (Place × Reply))) : Type 0 where
+  pub lent : IsLent queue b
   pub mark : ℕ
-  pub beyond : length a.commands.now < mark
-  pub view_is : view b.pass ≡ hand 1 0 ((view a.pass).taken ++ (map number_of (map line_of ds) ++ mark ∷ []))
+  pub beyond : length commands < mark
+  pub numbers : taken_of b ≡ taken_of a ++ (map number_of (map line_of ds) ++ mark ∷ [])
   pub script : List Command
-  pub rising : AreTaken a.commands.now (last_of (view a.pass).taken) (map line_of ds) script
+  pub rising : AreTaken commands (last_of (taken_of a)) (map line_of ds) script
   pub by : All (λ (line : Line). line.seat ≡ seat) (map line_of ds)
   pub chain : Chain (answered (LinkedDone k)) s t script ds
 
-module _ (k : Causes) (seat : ℕ) where
-  pub turns_done : (s : Seat) (a : PoolSource) (t : Seat) (last b : PoolSource) (ds : List (Answer (Place × Reply)))
-      → Serves (LinkedDone k) GaveTurn seat s a t last ds → HasEnded last b → TurnsDone k seat s a t b ds
-  turns_done s a t last b [] h ended =
-      let none : TurnsDone k seat s last t b [] = record {
-        pass = ended.took.pass;
-        mark = ended.mark;
-        beyond = ended.beyond;
-        view_is = ended.took.view_is;
+module _ (k : Causes) {Q A : Type 0} (queue : QueueOf Q A) (commands : List Command) (seat : ℕ) where
+  turns_done : (s : Seat) (a : PoolSource) (t : Seat) (last b : PoolSource) (ds : List (Answer (Place × Reply))) → IsPassOf queue a.pass
+      → a.commands.now ≡ commands → Serves (LinkedDone k) GaveTurn seat s a t last ds → HasEnded last b → TurnsDone k queue commands seat s a t b ds
+  turns_done s a t last b [] pass are h ended =
+      let e : HasEnded a b = subst (λ (c : PoolSource). HasEnded c b) h.1 ended in
+      record {
+        lent = record {
+          pass = (e.took.pass.0 ∙ pass.0, e.took.pass.2 ∙ pass.1);
+          view_is = hand_is (view b.pass) (taken_of a ++ e.mark ∷ []) e.took.view_is;
+        };
+        mark = e.mark;
+        beyond = subst (λ cs. length cs < e.mark) are e.beyond;
+        numbers = ap (λ (v : Hand). v.taken) e.took.view_is;
         script = [];
         rising = tt;
         by = All-nil (λ (line : Line). line.seat ≡ seat);
         chain = h.0;
-      } in subst (λ (c : PoolSource). TurnsDone k seat s c t b []) h.1 none
-  turns_done s a t last b (d ∷ ds) h ended =
+      }
+  turns_done s a t last b (d ∷ ds) pass are h ended =
       let c : PoolSource = h.1 in
       let gave = h.2.given in
       let took = gave.took in
-      let number : ℕ = d.number in
-      let now : (view c.pass).taken ≡ (view a.pass).taken ++ number ∷ [] = ap (λ (v : Hand). v.taken) took.view_is in
-      let others = turns_done h.0 c t last b ds h.3 ended in
+      let now : taken_of c ≡ taken_of a ++ d.number ∷ [] = ap (λ (v : Hand). v.taken) took.view_is in
+      let others = turns_done h.0 c t last b ds (took.pass.0 ∙ pass.0, took.pass.2 ∙ pass.1) (took.commands ∙ are) h.3 ended in
       let more : List ℕ = map number_of (map line_of ds) ++ others.mark ∷ [] in
-      let newest : last_of (view c.pass).taken ≡ number = ap last_of now ∙ last_push (view a.pass).taken number in
+      let newest : last_of (taken_of c) ≡ d.number = ap last_of now ∙ last_push (taken_of a) d.number in
       record {
-        pass = (others.pass.0 ∙ took.pass.0, others.pass.1 ∙ took.pass.1, others.pass.2 ∙ took.pass.2);
+        lent = others.lent;
         mark = others.mark;
-        beyond = subst (λ cs. length cs < others.mark) took.commands others.beyond;
-        view_is = others.view_is
-            ∙ ap (λ xs. hand 1 0 (xs ++ more)) now
-            ∙ ap (λ xs. hand 1 0 xs) (append_assoc (view a.pass).taken (number ∷ []) more);
+        beyond = others.beyond;
+        numbers = others.numbers ∙ ap (λ xs. xs ++ more) now ∙ append_assoc (taken_of a) (d.number ∷ []) more;
         script = h.2.item ∷ others.script;
         rising = (
           gave.later,
-          gave.there,
-          subst (λ n. AreTaken a.commands.now n (map line_of ds) others.script) newest
-              (subst (λ cs. AreTaken cs (last_of (view c.pass).taken) (map line_of ds) others.script) took.commands others.rising),
+          subst (λ cs. command_at cs d.number ≡ Some h.2.item) are gave.there,
+          subst (λ n. AreTaken commands n (map line_of ds) others.script) newest others.rising,
         );
         by = All-cons (λ (line : Line). line.seat ≡ seat) (line_of d) (map line_of ds) h.2.by others.by;
         chain = (h.0, h.2.linked, others.chain);
@@ -133,38 +134,6 @@ taken_within commands before (line ∷ taken) (command ∷ script) are =
 taken_within commands before _ _ are = absurd are
 
 module _ (k : Causes) {Q A : Type 0} (queue : QueueOf Q A) (commands : List Command) where
-  -- What one worker did in its turns, and what its pass took: the numbers of its lines, and an end mark.
-  record SeatDone (s t : Seat) (b : PoolSource) (taken : List Line) : Type 0 where
-    pub lent : IsLent queue b
-    pub mark : ℕ
-    pub beyond : length commands < mark
-    pub numbers : taken_of b ≡ map number_of taken ++ mark ∷ []
-    pub within : All (λ (line : Line). line.number ≤ length commands) taken
-    pub took : Took commands s t taken
-    pub linked : TookLinked k commands s t taken
-
-  seat_done : (s t : Seat) (a b : PoolSource) (ds : List (Answer (Place × Reply))) → IsBegun queue commands a
-      → IsServedTo (λ (u : Seat). u) (LinkedDone k) GaveTurn HasEnded s a t b ds → SeatDone s t b (map line_of ds)
-  seat_done s t a b ds begun to =
-      let served = to.served in
-      let done = turns_done k s.number s a to.end served.last b ds served.serves served.ended_is in
-      let rising : AreTaken commands 0 (map line_of ds) done.script =
-      subst (λ n. AreTaken commands n (map line_of ds) done.script) (ap last_of begun.none_taken)
-      (subst (λ cs. AreTaken cs (last_of (view a.pass).taken) (map line_of ds) done.script) begun.commands_are done.rising) in
-      let took = took_of k commands s to.end done.script ds rising done.by done.chain in
-      record {
-        lent = record {
-          pass = (done.pass.0 ∙ begun.pass.0, done.pass.2 ∙ begun.pass.1);
-          view_is = hand_is (view b.pass) ((view a.pass).taken ++ (map number_of (map line_of ds) ++ done.mark ∷ [])) done.view_is;
-        };
-        mark = done.mark;
-        beyond = subst (λ cs. length cs < done.mark) begun.commands_are done.beyond;
-        numbers = ap (λ (v : Hand). v.taken) done.view_is ∙ ap (λ xs. xs ++ (map number_of (map line_of ds) ++ done.mark ∷ [])) begun.none_taken;
-        within = taken_within commands 0 (map line_of ds) done.script rising;
-        took = subst (λ (u : Seat). Took commands s u (map line_of ds)) to.seat_is took.0;
-        linked = subst (λ (u : Seat). TookLinked k commands s u (map line_of ds)) to.seat_is took.1;
-      }
-
   -- What all workers did, and what their passes took.
   pub record PoolDone (olds news : List Seat) (after : List PoolSource) (lines : List Line) : Type 0 where
     pub lent : All (IsLent queue) after
@@ -179,15 +148,22 @@ module _ (k : Causes) {Q A : Type 0} (queue : QueueOf Q A) (commands : List Comm
   pool_done [] [] [] [] [] all h =
       record { lent = All-nil (IsLent queue); many = refl; gathered = gathered_none (length commands); took = refl; linked = refl }
   pool_done (o ∷ os) (a ∷ begun) (n ∷ ns) (b ∷ after) (r ∷ rows) all h =
-      let one = seat_done o n a b r.items (All-head (IsBegun queue commands) a begun all) h.0 in
+      let begun_here = All-head (IsBegun queue commands) a begun all in
+      let to = h.0 in
+      let done = turns_done k queue commands o.number o a to.end to.served.last b r.items begun_here.pass begun_here.commands_are to.served.serves
+      to.served.ended_is in
+      let rising : AreTaken commands 0 (row_of r) done.script =
+      subst (λ n. AreTaken commands n (row_of r) done.script) (ap last_of begun_here.none_taken) done.rising in
+      let took = took_of k commands o to.end done.script r.items rising done.by done.chain in
       let others = pool_done os begun ns after rows (All-tail (IsBegun queue commands) a begun all) h.1 in
       record {
-        lent = All-cons (IsLent queue) b after one.lent others.lent;
+        lent = All-cons (IsLent queue) b after done.lent others.lent;
         many = ap suc others.many;
-        gathered = gathered_more (length commands) (taken_of b) (flat_map taken_of after) (length os) (row_of r) (flat_map row_of rows) one.mark
-            one.numbers one.within one.beyond others.gathered;
-        took = (row_of r, flat_map row_of rows, refl, one.took, others.took);
-        linked = (row_of r, flat_map row_of rows, refl, one.linked, others.linked);
+        gathered = gathered_more (length commands) (taken_of b) (flat_map taken_of after) (length os) (row_of r) (flat_map row_of rows) done.mark
+            (done.numbers ∙ ap (λ xs. xs ++ (map number_of (row_of r) ++ done.mark ∷ [])) begun_here.none_taken)
+            (taken_within commands 0 (row_of r) done.script rising) done.beyond others.gathered;
+        took = (row_of r, flat_map row_of rows, refl, subst (λ (u : Seat). Took commands o u (row_of r)) to.seat_is took.0, others.took);
+        linked = (row_of r, flat_map row_of rows, refl, subst (λ (u : Seat). TookLinked k commands o u (row_of r)) to.seat_is took.1, others.linked);
       }
   pool_done _ _ _ _ _ all h = absurd h
 

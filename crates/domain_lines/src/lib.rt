@@ -19,3 +19,7 @@
 //! It stands on `domain_loan` and on `run_report`, which says what lines in a history are. `script_domain`, `block_domain`,
 //! `pool_domain` and `grow_domain` stand on it side by side.
 #![tactic(auto)]
+
+mod joint;
+
+pub use joint::{JointRun, run_on_seats};

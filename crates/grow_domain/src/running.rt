@@ -17,10 +17,12 @@ ghost use Rattle.domain_loan.specs.New.{AreNewFrom};
 ghost use Rattle.domain_loan.specs.Shown.{handle_causes};
 ghost use Rattle.domain_lines.specs.Joined.{past_of_whole};
 
-use domain_loan::{lend_all, meet_all, take_back};
+use domain_lines::{JointRun, run_on_seats};
+use domain_loan::meet_all;
 use grow_hash::{GROW_LEVELS, GrowRules};
 use grow_workers::run_grow;
 use host_io::Gate;
+use mv_history::Store;
 use mvrlu::{Closing, Domain, Seat};
 use run_report::Line;
 use set_model::Command;
@@ -109,9 +111,37 @@ fn run_seats<R: Threads + Wait + Sync, G: Gate>(
         (map seat_of seats.items) (map seat_of done.0.items) (map items_of scripts.now) done.1.items) }
     ensures err { IfErr result (λ refused. map seat_of refused.0.items ≡ map seat_of seats.items) }
 {
-    let (handles, left) = lend_all(alloc, domain, seats)?;
-    match run_grow(rt, alloc, handles, scripts, gate) {
-        Ok((handles, lines)) => Ok((take_back(handles, left), lines)),
-        Err((handles, error)) => Err((take_back(handles, left), error)),
+    run_on_seats(rt, alloc, domain, seats, &Scripts { scripts, gate })
+}
+
+// A script for each seat, and the gate around their commands.
+#[derive(Drop)]
+struct Scripts<'s, G> {
+    scripts: &'s [Vec<Command>],
+    gate: &'s G,
+}
+
+impl<'s, G: Gate> JointRun<GrowRules<GROW_LEVELS>> for Scripts<'s, G> {
+    type Made = Vec<Line>;
+
+    ghost locks = { 64 };
+
+    ghost fits = { λ seats run. (length run.scripts.now ≡ seats) × All (λ script. length script.items ≤ MOST_COMMANDS) run.scripts.now
+        × All (λ script. All IsOfGrown script.items) run.scripts.now };
+
+    ghost ran = { λ olds news run lines. AllRanGrow olds news (map items_of run.scripts.now) lines.items };
+
+    ghost linked = { λ shows olds news run lines. AllLinkedTurns shows olds news (map items_of run.scripts.now) lines.items };
+
+    fn run<R: Threads + Wait + Sync, S: Store<Rules = GrowRules<GROW_LEVELS>> + Send>(
+        &self,
+        rt: &R,
+        alloc: Global,
+        stores: Vec<S>,
+    ) -> Result<(Vec<S>, Vec<Line>), (Vec<S>, AllocError)>
+    where
+        S::Open: Send,
+    {
+        run_grow(rt, alloc, stores, self.scripts, self.gate)
     }
 }

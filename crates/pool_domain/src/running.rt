@@ -14,8 +14,10 @@ ghost use Rattle.domain_lines.specs.Joined.{past_of_whole};
 ghost use Rattle.pool_domain.specs.Whole.{PoolOf};
 
 use command_pool::run_pool;
-use domain_loan::{lend_all, meet_all, take_back};
+use domain_lines::{JointRun, run_on_seats};
+use domain_loan::meet_all;
 use host_io::Gate;
+use mv_history::Store;
 use mvrlu::{Closing, Domain, Seat};
 use run_report::Line;
 use set_model::{Command, SetRules};
@@ -89,9 +91,36 @@ fn run_seats<R: Threads + Wait + Sync, G: Gate>(
         commands.now done.1.items) }
     ensures err { IfErr result (λ refused. map seat_of refused.0.items ≡ map seat_of seats.items) }
 {
-    let (handles, left) = lend_all(alloc, domain, seats)?;
-    match run_pool(rt, alloc, handles, commands, gate) {
-        Ok((handles, lines)) => Ok((take_back(handles, left), lines)),
-        Err((handles, error)) => Err((take_back(handles, left), error)),
+    run_on_seats(rt, alloc, domain, seats, &Commands { commands, gate })
+}
+
+// The commands of a pool, and the gate around them.
+#[derive(Drop)]
+struct Commands<'s, G> {
+    commands: &'s [Command],
+    gate: &'s G,
+}
+
+impl<'s, G: Gate> JointRun<SetRules> for Commands<'s, G> {
+    type Made = Vec<Line>;
+
+    ghost locks = { 5 };
+
+    ghost fits = { λ seats run. (1 ≤ seats) × (seats ≤ 8) × (length run.commands.now ≤ MOST_COMMANDS) };
+
+    ghost ran = { λ olds news run lines. PoolRan olds news run.commands.now lines.items };
+
+    ghost linked = { λ shows olds news run lines. PoolLinked shows olds news run.commands.now lines.items };
+
+    fn run<R: Threads + Wait + Sync, S: Store<Rules = SetRules> + Send>(
+        &self,
+        rt: &R,
+        alloc: Global,
+        stores: Vec<S>,
+    ) -> Result<(Vec<S>, Vec<Line>), (Vec<S>, AllocError)>
+    where
+        S::Open: Send,
+    {
+        run_pool(rt, alloc, stores, self.commands, self.gate)
     }
 }

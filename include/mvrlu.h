@@ -26,7 +26,7 @@
  *             if (status == MVRLU_OK) break;
  *         }
  *         mvrlu_abort(seat);                             // another seat came first: begin again
- *     } while (mvrlu_may_retry(status));                 // else the last time was reached
+ *     } while (mvrlu_may_retry(status));                 // else status tells why
  *
  * What is proved of the library: its memory is safe whatever the order of these calls and the numbers given to them, and
  * what each call of a section promises below holds under every interleaving of the seats' atomic steps (docs/CONTRACTS.md).
@@ -34,10 +34,10 @@
  * Isolation. It is snapshot isolation: two sections that lock different objects may both commit though each read what the
  * other wrote (write skew). Lock what a commit depends on; a locked object that is not written keeps its words.
  *
- * Threads. A seat, of objects, of the sets or of a table, is used by one thread at a time, and different seats of a domain by different threads
- * at once. A seat may go to another thread where that is ordered (a lock, the start or end of a thread, a sequentially consistent
- * atomic). A second call on a seat that is in a call answers MVRLU_IN_USE and does nothing, unless MVRLU_UNCHECKED is defined before
- * this header is included.
+ * Threads. A seat, of objects, of the sets or of a table, is used by one thread at a time, and different seats of a domain by
+ * different threads at once. A seat may go to another thread where what the one did happens before what the other does (a mutex,
+ * the start or end of a thread, a release store that an acquire load reads). A second call on a seat that is in a call answers
+ * MVRLU_IN_USE and does nothing, unless MVRLU_UNCHECKED is defined before this header is included.
  *
  * Ownership. The caller owns the 128 bytes of a seat and neither copies nor changes them while it is open; a copy answers
  * MVRLU_MOVED. Every call writes the first of them, so they are so many that no two seats of an array share a line of memory.
@@ -63,7 +63,7 @@ extern "C" {
 #define MVRLU_WRITE_MAX 64u /* and less than the slots */
 #define MVRLU_TIME_MAX 35184372088831u /* the last time, 2^45 - 1 */
 
-/* ---- status: 0 or more: the call was made, or the same call may be made again; below 0: nothing was done, and why ---- */
+/* ---- status: 0 and 1: the call was made; 2 to 6: not now, and each says what to do; below 0: nothing was done, and why ---- */
 typedef enum mvrlu_status {
     MVRLU_OK = 0,
     MVRLU_NO = 1,           /* sets, table: there is nothing to change, or nothing of what was asked for; close_last: it wasn't the last seat */
@@ -627,7 +627,7 @@ static inline const char *mvrlu_strerror(int32_t status) {
     switch (status) {
         case MVRLU_OK: return "done";
         case MVRLU_NO: return "nothing to change, or nothing of what was asked for";
-        case MVRLU_AGAIN: return "another seat committed first: make the call again";
+        case MVRLU_AGAIN: return "another entry came first: make the call again";
         case MVRLU_BUSY: return "another seat holds an object";
         case MVRLU_STALE: return "an object was written after the section began";
         case MVRLU_SHORT: return "too little room in the seat's log";

@@ -1,5 +1,5 @@
 #!/bin/bash
-# ./mvrlu install and ./mvrlu uninstall, of the archive that rt lib builds: what stands below a prefix, what is refused, and that the
+# ./mvrlu install and ./mvrlu uninstall, of the archive that ./build makes: what stands below a prefix, what is refused, and that the
 # examples of C and C++ build by what was installed. The program is installed too, where its proved binary is current. That what isn't
 # built is built first stands on copies of the front end in a tree of small crates, with a stand-in for rt.
 set -u

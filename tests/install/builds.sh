@@ -1,23 +1,30 @@
 # What isn't built is built first: on copies of the front end, in a tree of small crates with a stand-in for rt.
 
-# Notes each call with its crate, proves a library, and leaves the archive or the program.
+# A kit whose commands note what they prove: rt proves crates, or fails, and the compiler leaves the archive.
 write_rt() {
-    mkdir -p "$room/stand-ins"
+    local kit=$room/stand-ins/kit
+    mkdir -p "$kit"/{bin,c}
+    cp "$(dirname "$(rt doc)")/c/liblibc_c.a" "$kit/c/"
     cat >"$room/stand-ins/rt" <<'STANDIN'
 #!/bin/bash
-[ "$1" != doc ] || exec "$REAL_RT" doc
-echo "$1 $(basename "$PWD")" >>"$RT_CALLS"
-[ ! -e "$RT_BROKEN" ] || { echo 'broken here'; exit 1; }
-[ ! -e "$RT_SLOW" ] || { echo $$ >"$RT_SLOW.begun"; exec sleep 60; }
-mkdir -p out/rlib
-case $1 in
-    lib) [ "$(basename "$PWD")" != mvrlu_c ] || cp "$ARCHIVE" out/libmvrlu_c.a ;;
-    run) cp /bin/true "out/$(basename "$PWD")" ;;
-esac
+[ "$1" = ci ] || exec echo "$KIT/page"
+for crate in $(sed -n 's/:.*//p' crates.txt); do
+    echo "$crate" >>"$RT_CALLS"
+    [ ! -e "$RT_BROKEN" ] || { printf '== %s\nbroken here\nrt: %s NOT PROVED\n' "$crate" "$crate"; exit 1; }
+    [ ! -e "$RT_SLOW" ] || { echo $$ >"$RT_SLOW.begun"; exec sleep 60; }
+    mkdir -p "crates/$crate/out/rlib"
+    [ ! -e "crates/$crate/src/main.rt" ] || cp /bin/true "crates/$crate/out/$crate"
+    printf '== %s\nrt: %s proved\n' "$crate" "$crate"
+done
 STANDIN
-    chmod +x "$room/stand-ins/rt"
-    REAL_RT=$(command -v rt)
-    export REAL_RT RT_CALLS=$room/calls RT_BROKEN=$room/broken RT_SLOW=$room/slow ARCHIVE=$room/libmvrlu.a
+    cat >"$kit/bin/rattle" <<'STANDIN'
+#!/bin/bash
+basename "$PWD" >>"$RT_CALLS"
+[[ "$*" == "build --crate-name mvrlu_c src/lib.rt --crate-type staticlib "*" --extern low=../low/out/rlib/low.rlib "* ]] || exit 2
+cp "$ARCHIVE" out/libmvrlu_c.a
+STANDIN
+    chmod +x "$room/stand-ins/rt" "$kit/bin/rattle"
+    export KIT=$kit RT_CALLS=$room/calls RT_BROKEN=$room/broken RT_SLOW=$room/slow ARCHIVE=$room/libmvrlu.a
 }
 
 make_tree() {
@@ -56,13 +63,13 @@ rows_of_builds_that_end() {
     [ "$status" = 0 ] || fail "a first install ends with $status: $(cat "$room/err")"
     [ "$(head -n 1 "$room/err")" = "mvrlu: the library for C isn't proved as it is: this proves and builds it first, which takes minutes" ] ||
         fail "a first install begins with $(cat "$room/err")"
-    grep -q '^build: 0 of 1 libraries proved; proving low; 0 minutes so far' "$room/err" || fail "it doesn't say how far it is"
-    proves $'lib low\nlib mvrlu_c' 'a first install of the library'
+    grep -q '^build: 0 of 1 crates proved\(; proving low\)\?; 0 minutes so far' "$room/err" || fail "it doesn't say how far it is"
+    proves $'low\nmvrlu_c' 'a first install of the library'
     says 0 'is installed in' install --library "$1"
     proves '' 'a second install'
     run install "$1"
     [ "$status" = 0 ] || fail "an install of both ends with $status: $(cat "$room/err")"
-    proves $'lib low\nrun mvrlu_main' 'an install of both'
+    proves $'low\nmvrlu_main' 'an install of both'
     [ -x "$1/bin/mvrlu" ] && [ -e "$1/lib/libmvrlu.a" ] && [ -e "$1/share/man/man1/mvrlu.1" ] || fail "not both: $(find "$1")"
     run install --library "$1"
     [ ! -e "$1/bin" ] && [ ! -e "$1/share/man/man1" ] && [ -e "$1/lib/libmvrlu.a" ] || fail "not the library alone: $(find "$1")"

@@ -59,7 +59,7 @@ change_each_source() {
 # What isn't a source of the program changes nothing, and neither does another order of the files.
 is_kept_where_nothing_changed() {
     local tree=$scratch/repository
-    mkdir -p "$tree/crates/other/src"
+    mkdir -p "$tree/crates/other/src" "$tree/crates/low/out"
     touch "$tree/crates/other/src/lib.rt" "$tree/crates/low/out/more.rt"
     is_proved 'a crate on which the program does not stand'
     sort -r -o "$tree/crates/mvrlu_main/out/sources" <(tail -n +2 "$tree/crates/mvrlu_main/out/sources") || fail 'no stamp'

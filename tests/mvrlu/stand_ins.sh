@@ -5,26 +5,30 @@ fail() {
     failed=1
 }
 
-# Notes each call with its crate. Proves a library, which needs those below; builds the program; tries it, by writing its words,
+# Notes each call with its crate. Proves crates, by `ci`, as far as they aren't kept, or fails; tries a program, by writing its words,
 # the copies that it got, $SAYS and the closing lines of `rt try`, as $TRIES says; or tries tests.
 write_rt() {
     cat >"$scratch/bin/rt" <<'STANDIN'
 #!/bin/bash
 echo "$1 $(basename "$PWD")" >>"$RT_CALLS"
-[ -e "$RT_BROKEN" ] && echo "broken here" && exit 1
+prove() {
+    [ ! -e must-fail ] && [ ! -e out ] && [ -d src ] || { echo "$1 is not copied as it should be"; exit 1; }
+    [ ! -e "$RT_BROKEN" ] || { printf '== %s\nbroken here\nrt: %s NOT PROVED\n' "$1" "$1"; exit 1; }
+    [ ! -e "$RT_SLOW" ] || [ "$1" != wide ] || { echo $$ >"$RT_SLOW.begun"; exec sleep 60; }
+    mkdir out
+    cp "$STANDINS/program" "out/$1"
+    touch "$RT_KEPT/$1"
+    printf '== %s\nrt: %s proved\n' "$1" "$1"
+}
 case $1 in
-    lib)
-        for used in $(sed -n "s/^$(basename "$PWD"): //p" ../../crates.txt); do
-            [ "$used" = std ] || [ -e "../$used/out/rlib/stamp" ] || { echo "$used is not there" && exit 1; }
-        done
-        mkdir -p out/rlib out/incremental
-        echo kept >>out/incremental/kept
-        [ ! -e "$RT_SLOW" ] || { echo $$ >"$RT_SLOW.begun"; exec sleep 60; }
-        touch out/rlib/stamp ;;
-    run)
-        mkdir -p out
-        cp "$STANDINS/program" "out/$(basename "$PWD")"
-        exit 2 ;;
+    ci)
+        for crate in $(sed -n 's/:.*//p' crates.txt); do
+            echo "prove $crate" >>"$RT_CALLS"
+            [ "$crate" = mvrlu_main ] || [ ! -e "$RT_KEPT/$crate" ] || { echo "rt: $crate is kept: it was proved"; continue; }
+            cd "crates/$crate" || exit 1
+            prove "$crate"
+            cd ../..
+        done ;;
     try) . "$STANDINS/try" ;;
 esac
 STANDIN
@@ -74,9 +78,9 @@ TRY
 # The tree, and what the stand-ins look at.
 make_stand_ins() {
     local crate
-    mkdir -p "$scratch/bin" "$scratch/temporary" "$scratch/elsewhere" "$scratch/repository/tests"
+    mkdir -p "$scratch/bin" "$scratch/temporary" "$scratch/elsewhere" "$scratch/repository/tests" "$scratch/proved"
     for crate in low high wide mvrlu_main; do
-        mkdir -p "$scratch/repository/crates/$crate/src"
+        mkdir -p "$scratch/repository/crates/$crate"/{src,must-fail}
         echo '#[test]' >"$scratch/repository/crates/$crate/src/lib.rt"
     done
     rm "$scratch/repository/crates/mvrlu_main/src/lib.rt"
@@ -86,7 +90,7 @@ make_stand_ins() {
     touch "$scratch/repository/HANDLES"
     printf '# Libraries\nlow:\nhigh: low std\nwide: low\nmvrlu_main: high wide low\n' >"$scratch/repository/crates.txt"
     write_rt
-    export RT_CALLS=$scratch/calls RT_BROKEN=$scratch/broken RT_SLOW=$scratch/slow STANDINS=$scratch
+    export RT_CALLS=$scratch/calls RT_BROKEN=$scratch/broken RT_SLOW=$scratch/slow RT_KEPT=$scratch/proved STANDINS=$scratch
     export SAYS='' ENDS=0 TMPDIR=$scratch/temporary PATH=$scratch/bin:$PATH
     : >"$RT_CALLS"
     cd "$scratch/elsewhere" || exit 1
@@ -112,9 +116,9 @@ have_program() {
     "$scratch/repository/mvrlu" build 2>/dev/null || fail "the stand-in is not built"
 }
 
-# Leaves no program.
+# Leaves no program, and nothing that is kept.
 have_none() {
-    rm -rf "$scratch"/repository/crates/*/out
+    rm -rf "$scratch"/repository/crates/*/out "$scratch"/proved/*
 }
 
 # What is said behind the program's line, where a run with the words ends with that status and line: exactly the text.

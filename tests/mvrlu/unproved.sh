@@ -70,7 +70,7 @@ cannot() {
 
 rows_of_what_it_cannot() {
     local built
-    built=$(calls run)
+    built=$(calls ci)
     cannot big 'the text has more than 1 MiB, too much for an unproved run: ./mvrlu build proves and builds the program'
     cannot slow 'it takes more than 60 s, too long for an unproved run: ./mvrlu build proves and builds the program'
     cannot fault "a check at run time failed: ./mvrlu build shows what can't be proved"
@@ -90,5 +90,5 @@ rows_of_what_it_cannot() {
     env PATH=/nowhere "$(python3 -c 'import sys; print(sys.executable)')" -B "$scratch/repository/tools/front/unproved.py" absent run good 2>"$scratch/err"
     [ "$(tail -n 1 "$scratch/err")" = 'mvrlu: rt does not start (No such file or directory): this needs the Rattle kit, with rt on the path' ] ||
         fail "without rt: $(cat "$scratch/err")"
-    [ "$(calls run)" = "$built" ] || fail 'an unproved run builds'
+    [ "$(calls ci)" = "$built" ] || fail 'an unproved run builds'
 }

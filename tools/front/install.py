@@ -11,6 +11,7 @@ import subprocess
 import sys
 from pathlib import Path
 
+from archive import kit
 from crates import TOP
 from prefix import Refused, replace_all, staged, take_away
 from signals import end_at_signals, run_to_end
@@ -49,19 +50,13 @@ def build(name, what):
         raise Refused(f"{what} was not built, as said above: nothing was installed")
 
 
-def kit():
-    """The folder of the Rattle kit."""
-    try:
-        page = subprocess.run(["rt", "doc"], check=True, stdout=subprocess.PIPE, stderr=subprocess.DEVNULL, text=True).stdout
-    except (OSError, subprocess.CalledProcessError):
-        raise Refused("rt doc doesn't answer: this needs the Rattle kit, with rt on the path") from None
-    return Path(page.strip()).parent
-
-
 def make_archive(stage, target):
     """Makes one archive of the library and of the kit's heap functions, by names that a script of ar may have."""
     shutil.copy(product(LIBRARY), stage / "library.a")
-    shutil.copy(kit() / "c/liblibc_c.a", stage / "heap.a")
+    try:
+        shutil.copy(kit() / "c/liblibc_c.a", stage / "heap.a")
+    except (FileNotFoundError, subprocess.CalledProcessError):
+        raise Refused("rt doc doesn't answer: this needs the Rattle kit, with rt on the path") from None
     script = "create whole.a\naddlib library.a\naddlib heap.a\nsave\nend\n"
     try:
         made = subprocess.run(["ar", "-M"], input=script, text=True, cwd=stage, check=False, capture_output=True)

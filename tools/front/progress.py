@@ -5,15 +5,13 @@ import sys
 import time
 
 SECONDS_BETWEEN_LINES = 60
-# A library that took less had been proved before.
-SECONDS_OF_A_PROOF = 10
 
 
 class Progress:
-    """Counts of libraries and of their lines, on standard error: one line that is rewritten on a terminal, else one a minute."""
+    """Counts of crates and of their lines, on standard error: one line that is rewritten on a terminal, else one a minute."""
 
     def __init__(self, lines):
-        self.lines, self.left, self.began = lines, dict(lines), {}
+        self.lines, self.left = lines, dict(lines)
         self.proved, self.start, self.said = 0, time.monotonic(), None
         self.is_terminal = sys.stderr.isatty()
 
@@ -21,13 +19,9 @@ class Progress:
         """How many seconds may pass until the next line."""
         return 1 if self.is_terminal else SECONDS_BETWEEN_LINES
 
-    def begin(self, name):
-        self.began[name] = time.monotonic()
-
-    def end(self, name):
-        """A library is done. Its lines count for the estimate where they were proved now."""
-        if time.monotonic() - self.began.pop(name) >= SECONDS_OF_A_PROOF:
-            self.proved += self.lines[name]
+    def end(self, name, is_new):
+        """A crate is proved. Its lines count for the estimate where they were proved now."""
+        self.proved += self.lines[name] if is_new else 0
         del self.left[name]
 
     def estimate(self, seconds):
@@ -36,24 +30,23 @@ class Progress:
             return "no estimate yet"
         return f"about {max(1, round(seconds * sum(self.left.values()) / self.proved / 60))} left"
 
-    def text(self, now):
-        """The line: what is done, what runs, and for how long."""
+    def text(self, now, proving):
+        """The line: what is done, what is being proved, and for how long."""
         seconds, count = now - self.start, len(self.lines)
-        done = f"{count - len(self.left)} of {count} libraries proved"
-        if not self.left:
-            return f"{done}; proving and linking what stands on them; {int(seconds) // 60} minutes so far"
-        running = ", ".join(sorted(self.began))
-        return f"{done}; proving {running}; {int(seconds) // 60} minutes so far, {self.estimate(seconds)}"
+        done = f"{count - len(self.left)} of {count} crates proved"
+        running = f"; proving {', '.join(sorted(proving))}" if proving else ""
+        left = f", {self.estimate(seconds)}" if self.left else ""
+        return f"{done}{running}; {int(seconds) // 60} minutes so far{left}"
 
-    def show(self):
+    def show(self, proving):
         """Shows the line where it is time to."""
         now = time.monotonic()
         if self.is_terminal:
-            text = f"build: {self.text(now)}"[: shutil.get_terminal_size().columns - 1]
+            text = f"build: {self.text(now, proving)}"[: shutil.get_terminal_size().columns - 1]
             print(f"\r\x1b[K{text}", end="", file=sys.stderr, flush=True)
         elif self.said is None or now - self.said >= SECONDS_BETWEEN_LINES:
             self.said = now
-            print(f"build: {self.text(now)}", file=sys.stderr, flush=True)
+            print(f"build: {self.text(now, proving)}", file=sys.stderr, flush=True)
 
     def say(self, text):
         """Says something else, on a line of its own."""

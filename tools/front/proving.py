@@ -1,91 +1,98 @@
-"""Proves one library in a folder of its own, with copies of the sources and links to the libraries that it uses.
-
-`rt` lets one run at a time into a crate's folder and the folders below it, so this is how libraries that don't stand on each
-other are proved side by side. What `rt` keeps of a library is moved there and back again, also where the proof is interrupted.
-"""
+"""Proves crates by `rt ci`, in a folder of their own with copies of them: must-fail edits and tests are left out."""
 
 import os
+import re
 import shutil
 import signal
 import subprocess
+import tempfile
 import threading
+from concurrent.futures import ThreadPoolExecutor, wait
+from contextlib import suppress
+from pathlib import Path
 
-from crates import CRATES, SOURCES, TOP, below
+from crates import CRATES, TOP
 
-KEPT = ("rlib", "incremental")
+LEFT_OUT = ("out", "must-fail")
+# What `rt ci` says of a crate: where its report begins, and how it ended.
+BEGINS = re.compile(r"== (\w+)$")
+ENDS = re.compile(r"rt: (\w+) (proved$|is kept: |NOT PROVED)")
 
 
-class Proofs:
-    """The proofs that are under way, which can be ended all at once."""
+class Proof:
+    """A copy of some crates, and the command that runs over it. The copy is removed at the end."""
 
-    def __init__(self):
-        self.lock, self.running, self.stopped = threading.Lock(), set(), False
+    def __init__(self, names):
+        self.names, self.room = names, Path(tempfile.mkdtemp(prefix="mvrlu-build-"))
+        self.crates, self.said = self.room / "crates", []
+        self.lock, self.running, self.is_stopped = threading.Lock(), None, False
 
-    def run(self, words, folder):
-        """Runs a command to its end. Gives what it wrote where it failed, and else nothing."""
-        with self.lock:
-            if self.stopped:
-                return "interrupted"
-            how = {"stdin": subprocess.DEVNULL, "stdout": subprocess.PIPE, "stderr": subprocess.STDOUT, "start_new_session": True}
-            ran = subprocess.Popen(words, cwd=folder, **how)
-            self.running.add(ran)
-        said = ran.communicate()[0]
-        with self.lock:
-            self.running.discard(ran)
-        return None if ran.returncode == 0 else said.decode(errors="replace")
+    def __enter__(self):
+        return self
+
+    def __exit__(self, *_):
+        self.stop()
+        shutil.rmtree(self.room, ignore_errors=True)
+
+    def copy(self, name):
+        """Copies a crate."""
+        shutil.copytree(CRATES / name, self.crates / name, ignore=shutil.ignore_patterns(*LEFT_OUT))
+
+    def prove(self, progress):
+        """Proves the crates, and tells whether that passed."""
+        listed = (TOP / "crates.txt").read_text().splitlines(keepends=True)
+        (self.room / "crates.txt").write_text("".join(it for it in listed if re.split(r"[ :]", it)[0] in self.names))
+        shutil.copy(TOP / "HANDLES", self.room)
+        for name in self.names:
+            self.copy(name)
+        return self.run(["rt", "ci"], progress)
 
     def stop(self):
-        """Ends all that runs, and lets nothing begin."""
+        """Ends the command, if one runs, and lets no other begin."""
         with self.lock:
-            self.stopped = True
-            for ran in self.running:
-                os.killpg(ran.pid, signal.SIGTERM)
+            self.is_stopped = True
+            if self.running is not None and self.running.poll() is None:
+                os.killpg(self.running.pid, signal.SIGTERM)
 
+    def run(self, words, progress, folder="."):
+        """Runs a command to its end, shows meanwhile how far it is, and tells whether it passed."""
+        with ThreadPoolExecutor(1) as pool:
+            ran = pool.submit(self.follow, words, progress, self.room / folder)
+            while not ran.done():
+                progress.show(self.proving())
+                wait([ran], progress.pause())
+        return ran.result()
 
-def move(kept, source, target):
-    """Moves what rt keeps of a crate, where it is there."""
-    if (source / kept).is_dir():
-        target.mkdir(parents=True, exist_ok=True)
-        shutil.rmtree(target / kept, ignore_errors=True)
-        shutil.move(source / kept, target / kept)
+    def follow(self, words, progress, folder):
+        """Runs a command, and takes note of each crate that ends. The first that isn't proved ends it."""
+        how = {"stdin": subprocess.DEVNULL, "stdout": subprocess.PIPE, "stderr": subprocess.STDOUT, "start_new_session": True}
+        with self.lock:
+            if self.is_stopped:
+                return False
+            self.running = subprocess.Popen(words, cwd=folder, text=True, errors="replace", **how)
+        self.said = []
+        for line in self.running.stdout:
+            if BEGINS.match(line):
+                self.said = []
+            self.said.append(line)
+            ended = ENDS.match(line)
+            if ended and ended[2] == "NOT PROVED":
+                self.stop()
+                break
+            if ended:
+                progress.end(ended[1], is_new=ended[2] == "proved")
+        return self.running.wait() == 0 and not self.is_stopped
 
+    def proving(self):
+        """The crates that are being proved: those in whose folders a process works."""
+        found = set()
+        for link in Path("/proc").glob("[0-9]*/cwd"):
+            with suppress(OSError):
+                folder = Path(os.readlink(link))
+                if folder.parent == self.crates:
+                    found.add(folder.name)
+        return found
 
-def link(source, target):
-    """Makes a link to a file, or a copy where the two folders are on file systems of their own."""
-    try:
-        os.link(source, target)
-    except OSError:
-        shutil.copy2(source, target)
-
-
-def take_back(place):
-    """Moves back what rt kept of the library that was proved in a place, and removes the place."""
-    for kept in KEPT:
-        move(kept, place / "crates" / place.name / "out", CRATES / place.name / "out")
-    shutil.rmtree(place, ignore_errors=True)
-
-
-def set_up(place, name, uses):
-    """Makes the folder in which a library is proved."""
-    wanted = {name} | below(name, uses)
-    place.mkdir(parents=True)
-    (place / "crates.txt").write_text("".join(f"{it}: {' '.join(uses[it])}\n" for it in sorted(wanted)))
-    shutil.copy(TOP / "HANDLES", place)
-    for it in wanted:
-        for folder in SOURCES:
-            if (CRATES / it / folder).is_dir():
-                shutil.copytree(CRATES / it / folder, place / "crates" / it / folder)
-        if it != name:
-            shutil.copytree(CRATES / it / "out/rlib", place / "crates" / it / "out/rlib", copy_function=link)
-    for kept in KEPT:
-        move(kept, CRATES / name / "out", place / "crates" / name / "out")
-
-
-def prove(proofs, name, uses, room, jobs):
-    """Proves one library. Gives what rt wrote where it failed, and else nothing."""
-    place = room / name
-    try:
-        set_up(place, name, uses)
-        return proofs.run(["rt", "lib", "--jobs", str(jobs)], place / "crates" / name)
-    finally:
-        take_back(place)
+    def wrong(self):
+        """What the command said of the crate that failed, or at last."""
+        return "".join(self.said[-200:]).replace(str(self.room), str(TOP)).rstrip()

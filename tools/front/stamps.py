@@ -5,10 +5,14 @@ import subprocess
 from crates import CRATES, TOP
 
 
+def is_program(name):
+    """Whether a crate is a program: it has a main file."""
+    return (CRATES / name / "src/main.rt").exists()
+
+
 def product(name):
-    """The file that a program or a static library leaves: a program has a main file, and a library an archive."""
-    is_program = (CRATES / name / "src/main.rt").exists()
-    return CRATES / name / "out" / (name if is_program else f"lib{name}.a")
+    """The file that a program or a static library leaves."""
+    return CRATES / name / "out" / (name if is_program(name) else f"lib{name}.a")
 
 
 def ask(name, call):

@@ -1,5 +1,6 @@
 """The call that builds a static library over the libraries below it, as `rt ci` proved them: it proves the library itself."""
 
+import os
 import subprocess
 from pathlib import Path
 
@@ -22,4 +23,5 @@ def archive_words(name, uses, made):
     for folder in [top / "rlibs", *own.values()]:
         words += ["-L", f"dependency={folder}"]
     words += ["--antt-project", top / "rattle/logic/antt-project.json", "--logic-built", top / "logic_built"]
+    words += ["--jobs", str(min(4, len(os.sched_getaffinity(0))))]
     return [*words, "--links", f"{name}=", "--toolchain", top / "toolchain", "--backend", "llvm"]

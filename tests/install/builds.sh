@@ -39,7 +39,7 @@ make_tree() {
     cp -r mvrlu build tools include "$tree/"
     cp -r docs/man "$tree/docs/"
     touch "$tree/HANDLES"
-    printf 'low:\nmvrlu_c: low\nmvrlu_main: low\n' >"$tree/crates.txt"
+    printf 'low:\nmvrlu_c staticlib: low\nmvrlu_main: low\n' >"$tree/crates.txt"
 }
 
 rows_of_first_builds() {

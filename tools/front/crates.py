@@ -7,10 +7,25 @@ CRATES = TOP / "crates"
 SOURCES = ("src", "specs", "proofs")
 
 
+def read_lines():
+    """The words before and behind the colon of each line of crates.txt that lists a crate."""
+    lines = [line for line in (TOP / "crates.txt").read_text().splitlines() if ":" in line and not line.startswith("#")]
+    return [(left.split(), right.split()) for left, _, right in (line.partition(":") for line in lines)]
+
+
 def read_crates():
     """What stands behind the colon of each crate in crates.txt."""
-    lines = [line for line in (TOP / "crates.txt").read_text().splitlines() if ":" in line and not line.startswith("#")]
-    return {left.split()[0]: right.split() for left, _, right in (line.partition(":") for line in lines)}
+    return {left[0]: right for left, right in read_lines()}
+
+
+def is_program(name):
+    """Whether a crate is a program: it has a main file."""
+    return (CRATES / name / "src/main.rt").exists()
+
+
+def products():
+    """The crates that leave a program or a static library."""
+    return [left[0] for left, _ in read_lines() if "staticlib" in left or is_program(left[0])]
 
 
 def below(name, uses):
@@ -25,9 +40,9 @@ def count_lines(name):
 
 
 def chains(lines, uses):
-    """For each crate the lines that are proved one after another from it on, at most: the longest chain comes first."""
-    above = {name: [it for it in lines if name in below(it, uses)] for name in lines}
-    found = {}
+    """For each crate the lines of the longest chain of crates from it on, each of which stands on the one before it."""
+    under, found = {name: below(name, uses) for name in lines}, {}
+    above = {name: [it for it in lines if name in under[it]] for name in lines}
     for name in sorted(lines, key=lambda it: len(above[it])):
         found[name] = lines[name] + max((found[it] for it in above[name]), default=0)
     return found

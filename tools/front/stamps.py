@@ -2,12 +2,7 @@
 
 import subprocess
 
-from crates import CRATES, TOP
-
-
-def is_program(name):
-    """Whether a crate is a program: it has a main file."""
-    return (CRATES / name / "src/main.rt").exists()
+from crates import CRATES, TOP, is_program
 
 
 def product(name):

@@ -23,9 +23,9 @@ class Proof:
     """A copy of some crates, and the command that runs over it. The copy is removed at the end."""
 
     def __init__(self, names):
-        self.names, self.room = names, Path(tempfile.mkdtemp(prefix="mvrlu-build-"))
+        self.names, self.room = names, Path(tempfile.mkdtemp(prefix="mvrlu-build-")).resolve()
         self.crates, self.said = self.room / "crates", []
-        self.lock, self.running, self.is_stopped = threading.Lock(), None, False
+        self.lock, self.running, self.is_stopped = threading.RLock(), None, False
 
     def __enter__(self):
         return self

@@ -14,9 +14,16 @@ from pathlib import Path
 from crates import CRATES, TOP
 
 LEFT_OUT = ("out", "must-fail")
+BYTES_A_PROOF = 3 * 2**30
 # What `rt ci` says of a crate: where its report begins, and how it ended.
 BEGINS = re.compile(r"== (\w+)$")
 ENDS = re.compile(r"rt: (\w+) (proved$|is kept: |NOT PROVED)")
+
+
+def count_lanes():
+    """How many proofs run side by side: one a processor, as many as memory holds."""
+    free = next(line.split()[1] for line in Path("/proc/meminfo").read_text().splitlines() if line.startswith("MemAvailable:"))
+    return max(1, min(len(os.sched_getaffinity(0)), int(free) * 1024 // BYTES_A_PROOF))
 
 
 class Proof:
@@ -45,7 +52,8 @@ class Proof:
         shutil.copy(TOP / "HANDLES", self.room)
         for name in self.names:
             self.copy(name)
-        return self.run(["rt", "ci"], progress)
+        # One processor a crate: `rt` would give several to one where some are idle, and then takes a third more of their time.
+        return self.run(["env", f"RT_JOBS={count_lanes()}", "rt", "ci"], progress)
 
     def stop(self):
         """Ends the command, if one runs, and lets no other begin."""

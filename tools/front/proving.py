@@ -52,8 +52,7 @@ class Proof:
         shutil.copy(TOP / "HANDLES", self.room)
         for name in self.names:
             self.copy(name)
-        # One processor a crate: `rt` would give several to one where some are idle, and then takes a third more of their time.
-        return self.run(["env", f"RT_JOBS={count_lanes()}", "rt", "ci"], progress)
+        return self.run(["rt", "ci"], progress)
 
     def stop(self):
         """Ends the command, if one runs, and lets no other begin."""
@@ -73,11 +72,13 @@ class Proof:
 
     def follow(self, words, progress, folder):
         """Runs a command, and takes note of each crate that ends. The first that isn't proved ends it."""
-        how = {"stdin": subprocess.DEVNULL, "stdout": subprocess.PIPE, "stderr": subprocess.STDOUT, "start_new_session": True}
+        # One processor a crate: where some are idle `rt` would give several to one, which take a third longer for it together.
+        how = {"cwd": folder, "env": os.environ | {"RT_JOBS": str(count_lanes())}, "text": True, "errors": "replace"}
+        how |= {"stdin": subprocess.DEVNULL, "stdout": subprocess.PIPE, "stderr": subprocess.STDOUT, "start_new_session": True}
         with self.lock:
             if self.is_stopped:
                 return False
-            self.running = subprocess.Popen(words, cwd=folder, text=True, errors="replace", **how)
+            self.running = subprocess.Popen(words, **how)
         self.said = []
         for line in self.running.stdout:
             if BEGINS.match(line):

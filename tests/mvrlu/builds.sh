@@ -96,8 +96,8 @@ rows_of_a_failed_build() {
     rm "$RT_BROKEN"
 }
 
-# 40 of 100 lines were proved in 10 minutes, and those that were kept count for nothing: 10 * 30 / 40 are left, or, where they stand on
-# one another and there are four processors, four times as many. What is being proved is where a process works.
+# 40 of 100 lines were proved in 10 minutes, and those that were kept count for nothing: 10 * 30 / 40 are left. What is being proved
+# is where a process works.
 rows_of_estimates() {
     PYTHONDONTWRITEBYTECODE=1 PYTHONPATH=$top/tools/front python3 - <<'PYTHON' || fail 'the estimate is another one'
 import subprocess
@@ -107,9 +107,7 @@ from proving import Proof
 
 now = [0.0]
 progress.time.monotonic = lambda: now[0]
-progress.PROCESSORS = 4
-lines = {"kept": 30, "long": 40, "other": 20, "last": 10}
-shown = progress.Progress(lines, {"kept": 30, "long": 40, "other": 7, "last": 7})
+shown = progress.Progress({"kept": 30, "long": 40, "other": 20, "last": 10})
 for name, seconds, is_new in (("kept", 2, False), ("long", 598, True)):
     now[0] += seconds
     shown.end(name, is_new)
@@ -119,7 +117,5 @@ with Proof({"other"}) as proof:
         text = shown.text(now[0], proof.proving())
         running.kill()
 assert text == "2 of 4 crates proved; proving other; 10 minutes so far, about 8 left", text
-shown.chains = {"other": 30, "last": 10}
-assert shown.estimate(now[0]) == "about 30 left", shown.estimate(now[0])
 PYTHON
 }

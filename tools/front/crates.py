@@ -37,12 +37,3 @@ def below(name, uses):
 def count_lines(name):
     files = (path for folder in SOURCES for path in (CRATES / name / folder).rglob("*") if path.is_file())
     return sum(path.read_bytes().count(b"\n") for path in files)
-
-
-def chains(lines, uses):
-    """For each crate the lines of the longest chain of crates from it on, each of which stands on the one before it."""
-    under, found = {name: below(name, uses) for name in lines}, {}
-    above = {name: [it for it in lines if name in under[it]] for name in lines}
-    for name in sorted(lines, key=lambda it: len(above[it])):
-        found[name] = lines[name] + max((found[it] for it in above[name]), default=0)
-    return found

@@ -1,19 +1,17 @@
 """What a person sees while the program is proved and built."""
 
-import os
 import shutil
 import sys
 import time
 
 SECONDS_BETWEEN_LINES = 60
-PROCESSORS = len(os.sched_getaffinity(0))
 
 
 class Progress:
     """Counts of crates and of their lines, on standard error: one line that is rewritten on a terminal, else one a minute."""
 
-    def __init__(self, lines, chains):
-        self.lines, self.chains, self.left = lines, chains, dict(lines)
+    def __init__(self, lines):
+        self.lines, self.left = lines, dict(lines)
         self.proved, self.start, self.said = 0, time.monotonic(), None
         self.is_terminal = sys.stderr.isatty()
 
@@ -27,12 +25,10 @@ class Progress:
         del self.left[name]
 
     def estimate(self, seconds):
-        """The minutes that are left, where that can be told: the lines that are left take as long as those that were proved now, and
-        those of a chain of crates, each of which stands on the one before it, are proved by one processor."""
+        """The minutes that are left, where that can be told: the lines that are left take as long as those that were proved now."""
         if not self.proved:
             return "no estimate yet"
-        left = max(sum(self.left.values()), PROCESSORS * max(self.chains[name] for name in self.left))
-        return f"about {max(1, round(seconds * left / self.proved / 60))} left"
+        return f"about {max(1, round(seconds * sum(self.left.values()) / self.proved / 60))} left"
 
     def text(self, now, proving):
         """The line: what is done, what is being proved, and for how long."""

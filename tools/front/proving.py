@@ -14,16 +14,9 @@ from pathlib import Path
 from crates import CRATES, TOP
 
 LEFT_OUT = ("out", "must-fail")
-BYTES_A_PROOF = 3 * 2**30
 # What `rt ci` says of a crate: where its report begins, and how it ended.
 BEGINS = re.compile(r"== (\w+)$")
 ENDS = re.compile(r"rt: (\w+) (proved$|is kept: |NOT PROVED)")
-
-
-def count_lanes():
-    """How many proofs run side by side: one a processor, as many as memory holds."""
-    free = next(line.split()[1] for line in Path("/proc/meminfo").read_text().splitlines() if line.startswith("MemAvailable:"))
-    return max(1, min(len(os.sched_getaffinity(0)), int(free) * 1024 // BYTES_A_PROOF))
 
 
 class Proof:
@@ -72,13 +65,11 @@ class Proof:
 
     def follow(self, words, progress, folder):
         """Runs a command, and takes note of each crate that ends. The first that isn't proved ends it."""
-        # One processor a crate: where some are idle `rt` would give several to one, which take a third longer for it together.
-        how = {"cwd": folder, "env": os.environ | {"RT_JOBS": str(count_lanes())}, "text": True, "errors": "replace"}
-        how |= {"stdin": subprocess.DEVNULL, "stdout": subprocess.PIPE, "stderr": subprocess.STDOUT, "start_new_session": True}
+        how = {"stdin": subprocess.DEVNULL, "stdout": subprocess.PIPE, "stderr": subprocess.STDOUT, "start_new_session": True}
         with self.lock:
             if self.is_stopped:
                 return False
-            self.running = subprocess.Popen(words, **how)
+            self.running = subprocess.Popen(words, cwd=folder, text=True, errors="replace", **how)
         self.said = []
         for line in self.running.stdout:
             if BEGINS.match(line):

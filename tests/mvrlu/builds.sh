@@ -68,7 +68,7 @@ rows_of_an_interrupted_build() {
         proof=$(cat "$RT_SLOW.begun")
         rm -f "$RT_SLOW" "$RT_SLOW.begun"
         [ "$status" = $((128 + $(kill -l "$signal"))) ] || fail "a build that SIG$signal ends has status $status"
-        [ "$(tail -n 1 "$scratch/err")" = 'build: interrupted: each crate that is proved is kept' ] || fail "SIG$signal: $(cat "$scratch/err")"
+        [ "$(tail -n 1 "$scratch/err")" = 'build: interrupted: what rt has kept is not proved again' ] || fail "SIG$signal: $(cat "$scratch/err")"
         [ "$(ls "$RT_KEPT")" = "$(printf 'high\nlow')" ] || fail "SIG$signal loses what rt kept"
         ! kill -0 "$proof" 2>/dev/null || fail "SIG$signal leaves a proof"
         [ -z "$(ls "$scratch/temporary")" ] || fail "SIG$signal leaves copies"
@@ -94,6 +94,11 @@ rows_of_a_failed_build() {
         fail "it doesn't show why a crate was not proved: $(cat "$scratch/err")"
     [ -z "$(ls "$scratch/temporary")" ] || fail 'it leaves copies of crates that were not proved'
     rm "$RT_BROKEN"
+    mv "$scratch/repository/crates/low" "$scratch/away"
+    run build
+    mv "$scratch/away" "$scratch/repository/crates/low"
+    [ "$status" = 1 ] && grep -q '^build: mvrlu_main was not built$' "$scratch/err" && ! grep -q Traceback "$scratch/err" ||
+        fail "a crate that is not there: $(cat "$scratch/err")"
 }
 
 # 40 of 100 lines were proved in 10 minutes, and those that were kept count for nothing: 10 * 30 / 40 are left. What is being proved

@@ -54,9 +54,10 @@ def make_archive(stage, target):
     """Makes one archive of the library and of the kit's heap functions, by names that a script of ar may have."""
     shutil.copy(product(LIBRARY), stage / "library.a")
     try:
-        shutil.copy(kit() / "c/liblibc_c.a", stage / "heap.a")
-    except (FileNotFoundError, subprocess.CalledProcessError):
+        heap = kit() / "c/liblibc_c.a"
+    except (OSError, subprocess.CalledProcessError):
         raise Refused("rt doc doesn't answer: this needs the Rattle kit, with rt on the path") from None
+    shutil.copy(heap, stage / "heap.a")
     script = "create whole.a\naddlib library.a\naddlib heap.a\nsave\nend\n"
     try:
         made = subprocess.run(["ar", "-M"], input=script, text=True, cwd=stage, check=False, capture_output=True)

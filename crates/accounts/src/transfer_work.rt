@@ -33,7 +33,7 @@ impl Work for Transfer {
 
     type Reply = Funds;
 
-    type Plan = [(u32, Words); 2];
+    type WriteSet = [(u32, Words); 2];
 
     type Memo = ();
 

@@ -22,7 +22,7 @@ impl<S: Store<Rules = BlockRules>> Runner for Blocks<S> {
 
     type Store = S;
 
-    type Room = ();
+    type Memo = ();
 
     ghost Kept = { Seat };
 
@@ -46,11 +46,11 @@ impl<S: Store<Rules = BlockRules>> Runner for Blocks<S> {
 
     ghost link = { LinkedDone (causes S.Open.may_refuse S.Open.has_trail S.took S.holds_back S.Open.found_held S.Open.loaded) };
 
-    fn room(_alloc: Global) -> Result<(), AllocError> {
+    fn memo(_alloc: Global) -> Result<(), AllocError> {
         Ok(())
     }
 
-    fn new(store: S, _room: ()) -> Blocks<S> {
+    fn new(store: S, _memo: ()) -> Blocks<S> {
         Blocks { store }
     }
 

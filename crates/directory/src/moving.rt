@@ -48,7 +48,7 @@ impl Work for Move {
 
     type Reply = Whereabouts;
 
-    type Plan = [(u32, Words); 3];
+    type WriteSet = [(u32, Words); 3];
 
     type Memo = ();
 

@@ -27,7 +27,7 @@ impl<const LEVELS: u32, R: GrowingRules<LEVELS>> Work for GrowWork<LEVELS, R> {
 
     type Reply = Reply;
 
-    type Plan = [(u32, Words); 2];
+    type WriteSet = [(u32, Words); 2];
 
     type Memo = ();
 

@@ -41,7 +41,7 @@ impl<const LEVELS: u32, R: GrowingRules<LEVELS>> Work for SplitWork<LEVELS, R> {
 
     type Reply = Looked;
 
-    type Plan = Parted;
+    type WriteSet = Parted;
 
     type Memo = ();
 

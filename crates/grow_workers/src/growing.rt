@@ -35,7 +35,7 @@ impl<S: Store<Rules = GrowRules<GROW_LEVELS>>> Runner for Growing<S> {
 
     type Store = S;
 
-    type Room = ();
+    type Memo = ();
 
     ghost Kept = { GrowKept };
 
@@ -60,11 +60,11 @@ impl<S: Store<Rules = GrowRules<GROW_LEVELS>>> Runner for Growing<S> {
 
     ghost link = { LinkedDone (causes S.Open.may_refuse S.Open.has_trail S.took S.holds_back S.Open.found_held S.Open.loaded) };
 
-    fn room(_alloc: Global) -> Result<(), AllocError> {
+    fn memo(_alloc: Global) -> Result<(), AllocError> {
         Ok(())
     }
 
-    fn new(store: S, _room: ()) -> Growing<S> {
+    fn new(store: S, _memo: ()) -> Growing<S> {
         Growing {
             store,
             odd: false,

@@ -10,13 +10,13 @@ use std::alloc::{AllocError, Global};
 // What a worker needs beside its store and its source.
 #[derive(Drop)]
 pub(crate) struct WorkerRoom<M, D> {
-    pub(crate) room: M,
+    pub(crate) memo: M,
     pub(crate) answers: Vec<Answer<D>>,
 }
 
 // All the memory that a run needs.
 pub(crate) struct RunRoom<W: Runner, P> {
-    pub(crate) rooms: Vec<WorkerRoom<W::Room, W::Done>>,
+    pub(crate) rooms: Vec<WorkerRoom<W::Memo, W::Done>>,
     pub(crate) answers: Vec<Vec<Answer<W::Done>>>,
     pub(crate) workers: Vec<Worker<W, P, W::Done>>,
 }
@@ -46,15 +46,15 @@ pub(crate) fn make_room<W: Runner, P: Source<W>>(
 fn make_rooms<W: Runner, P: Source<W>>(
     alloc: Global,
     sources: &[P],
-) -> Result<Vec<WorkerRoom<W::Room, W::Done>>, AllocError>
+) -> Result<Vec<WorkerRoom<W::Memo, W::Done>>, AllocError>
     requires { All P.may sources.now }
     ensures { IfOk result (λ rooms. AreRooms P.left sources.now rooms.items) }
 {
     let mut rooms = Vec::new(alloc);
     for source in sources {
-        let room = W::room(alloc)?;
+        let memo = W::memo(alloc)?;
         let answers = Vec::with_capacity(alloc, source.most())?;
-        rooms.push(WorkerRoom { room, answers })?;
+        rooms.push(WorkerRoom { memo, answers })?;
     }
     Ok(rooms)
 }
@@ -63,7 +63,7 @@ fn make_rooms<W: Runner, P: Source<W>>(
 pub(crate) fn load<W: Runner, P: Source<W>>(
     stores: &mut Vec<W::Store>,
     sources: &mut Vec<P>,
-    mut rooms: Vec<WorkerRoom<W::Room, W::Done>>,
+    mut rooms: Vec<WorkerRoom<W::Memo, W::Done>>,
     workers: &mut Vec<Worker<W, P, W::Done>>,
 )
     requires as_many { length sources.old.items ≡ length stores.old.items }
@@ -81,9 +81,9 @@ pub(crate) fn load<W: Runner, P: Source<W>>(
     while !stores.is_empty() {
         let store = take_first(stores);
         let source = take_first(sources);
-        let WorkerRoom { room, answers } = take_first(&mut rooms);
+        let WorkerRoom { memo, answers } = take_first(&mut rooms);
         workers.push_reserved(Worker {
-            runner: W::new(store, room),
+            runner: W::new(store, memo),
             source,
             answers,
         });

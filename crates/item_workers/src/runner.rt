@@ -41,8 +41,8 @@ pub trait Runner: Sized {
     /// What it is made of, and leaves in the end.
     type Store;
 
-    /// The memory that it keeps beside the store.
-    type Room: Drop;
+    /// What it remembers beside the store.
+    type Memo: Drop;
 
     // What is kept from one item to the next: a seat, and what else the next item depends on.
     ghost Kept: { Type 0 };
@@ -77,11 +77,11 @@ pub trait Runner: Sized {
     // From the one to the other the item was done, with this answer.
     ghost link: { Self.Kept → Self.Kept → Self.Item → Self.Done → Type 0 };
 
-    /// Takes the memory that one runner keeps.
-    fn room(alloc: Global) -> Result<Self::Room, AllocError>;
+    /// Takes the memory for what one runner remembers.
+    fn memo(alloc: Global) -> Result<Self::Memo, AllocError>;
 
-    /// Puts a store and its memory together.
-    fn new(store: Self::Store, room: Self::Room) -> Self
+    /// Puts a store and its memo together.
+    fn new(store: Self::Store, memo: Self::Memo) -> Self
         requires { fits store }
         ensures kept { kept_of result ≡ first store }
         ensures ready { ready result };

@@ -45,7 +45,7 @@ where
     W::Item: Sync,
     W::Done: Send,
     W::Store: Send,
-    W::Room: Send,
+    W::Memo: Send,
     requires as_many { length lists.now ≡ length stores.items }
     requires fit { All W.fits stores.items }
     requires may { All (λ list. MayDo W.does W.width_of list.items) lists.now }
@@ -101,7 +101,7 @@ where
     W::Item: Sync,
     W::Done: Send,
     W::Store: Send,
-    W::Room: Send,
+    W::Memo: Send,
     requires as_many { length sources.items ≡ length stores.items }
     requires fit { All W.fits stores.items }
     requires may { All P.may sources.items }
@@ -134,7 +134,7 @@ where
     W::Item: Sync,
     W::Done: Send,
     W::Store: Send,
-    W::Room: Send,
+    W::Memo: Send,
     requires { All (IsReady W.ready P.may P.left) workers.old }
     ensures { AllZip (RanBy W.kept_of W.seat_of W.link P.gives P.ended) workers.old workers.new }
 {

@@ -29,7 +29,7 @@ pub record Opened (old : Seat) (state : State) (s : InSection) : Type 0 where
   pub objects : length state ≡ length old.start
 
 -- what holds where a change was decided
-abbrev pub OnChange : {T Plan E : Type 0} → Result (Decision T Plan) E → (Plan → Type 0) → Type 0
+abbrev pub OnChange : {T WriteSet E : Type 0} → Result (Decision T WriteSet) E → (WriteSet → Type 0) → Type 0
 OnChange (Ok (Settled reply)) P = ⊤
 OnChange (Ok (Change plan reply)) P = P plan
 OnChange (Err e) P = ⊤

@@ -25,7 +25,7 @@ impl<S: Store<Rules = SetRules>> Runner for Hinted<S> {
 
     type Store = S;
 
-    type Room = Box<Memo>;
+    type Memo = Box<Memo>;
 
     ghost Kept = { Seat };
 
@@ -49,13 +49,13 @@ impl<S: Store<Rules = SetRules>> Runner for Hinted<S> {
 
     ghost link = { LinkedDone (causes S.Open.may_refuse S.Open.has_trail S.took S.holds_back S.Open.found_held S.Open.loaded) };
 
-    fn room(alloc: Global) -> Result<Box<Memo>, AllocError> {
+    fn memo(alloc: Global) -> Result<Box<Memo>, AllocError> {
         Memo::new(alloc, HINTS)
     }
 
-    fn new(store: S, room: Box<Memo>) -> Hinted<S> {
+    fn new(store: S, memo: Box<Memo>) -> Hinted<S> {
         Hinted {
-            hinted: HintedStore::new(store, room),
+            hinted: HintedStore::new(store, memo),
         }
     }
 

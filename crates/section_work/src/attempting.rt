@@ -76,7 +76,7 @@ pub fn attempt_work<W: Work, S: Store<Rules = W::Rules>>(
 }
 
 // The reply at the last time, where a change comes too late.
-fn late<W: Work>(work: &W, found: Decision<W::Reply, W::Plan>) -> W::Reply
+fn late<W: Work>(work: &W, found: Decision<W::Reply, W::WriteSet>) -> W::Reply
     ensures { (memo : W.Memo) (s : State) → IsFound W.Rules.allowed (W.means work.now) (W.tag_of work.now) (W.writes_of memo) s found
         → (W.means work.now).settles s true result }
 {
@@ -91,7 +91,7 @@ fn commit<W: Work, S: Store<Rules = W::Rules>>(
     section: S::Open,
     work: &W,
     memo: &mut W::Memo,
-    plan: W::Plan,
+    plan: W::WriteSet,
     reply: W::Reply,
 ) -> (S, Attempt<W::Reply>)
     requires planned { IsPlanned W.Rules.allowed (W.means work.now) (state_of (S.Open.section section)) (W.tag_of work.now plan)

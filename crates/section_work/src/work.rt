@@ -24,8 +24,8 @@ pub trait Work {
     /// What it answers.
     type Reply: Drop;
 
-    /// What it is to write.
-    type Plan: Drop;
+    /// What a change is to write.
+    type WriteSet: Drop;
 
     /// What is remembered from one section to the next, as hints: nothing of it shows in an answer. The writes of a plan may stand
     /// in it until they are committed or given up.
@@ -38,10 +38,10 @@ pub trait Work {
     ghost means: { Self → Meaning Self.Reply };
 
     // The tag of a plan's commit.
-    ghost tag_of: { Self → Self.Plan → List ℕ };
+    ghost tag_of: { Self → Self.WriteSet → List ℕ };
 
     // What a plan writes, a part of which may stand in what is remembered.
-    ghost writes_of: { Self.Memo → Self.Plan → Writes };
+    ghost writes_of: { Self.Memo → Self.WriteSet → Writes };
 
     // What is remembered is right for a seat.
     ghost knows: { Self.Memo → Seat → Type 0 };
@@ -55,7 +55,7 @@ pub trait Work {
         memo: &mut Self::Memo,
         view: V,
         time: u64,
-    ) -> (V, Decision<Self::Reply, Self::Plan>)
+    ) -> (V, Decision<Self::Reply, Self::WriteSet>)
         requires accepts { accepts self.now }
         requires here { (s : InSection) × IsHere Self.Rules.start Self.Rules.allowed (V.state view) time s × knows memo.old s.seat }
         ensures found { IsFound Self.Rules.allowed (means self.now) (tag_of self.now) (writes_of memo.new) (V.state view) result.1 }
@@ -65,11 +65,11 @@ pub trait Work {
             → knows memo.new s.seat };
 
     /// What the plan writes, with what the look that made it left in the memo.
-    fn writes<'a>(memo: &'a Self::Memo, plan: &'a Self::Plan) -> &'a [(u32, Words)]
+    fn writes<'a>(memo: &'a Self::Memo, plan: &'a Self::WriteSet) -> &'a [(u32, Words)]
         ensures { result.now ≡ writes_of memo.now plan.now };
 
     /// The tag of the plan's commit.
-    fn tag(&self, plan: &Self::Plan) -> Tag
+    fn tag(&self, plan: &Self::WriteSet) -> Tag
         requires { accepts self.now }
         ensures { result ≡ tag_of self.now plan.now };
 

@@ -20,7 +20,7 @@ impl Work for Block {
 
     type Reply = Replies;
 
-    type Plan = Planned;
+    type WriteSet = Planned;
 
     type Memo = ();
 

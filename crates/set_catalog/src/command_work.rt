@@ -38,7 +38,7 @@ impl Work for CommandWork {
     type Reply = CommandAnswer;
 
     // What is planned stands in the memo, so that a command moves and clears none of it.
-    type Plan = ();
+    type WriteSet = ();
 
     type Memo = Memo;
 

@@ -83,7 +83,7 @@ impl Work for Single {
     type Reply = OneReply;
 
     // What is planned stands in the memo.
-    type Plan = ();
+    type WriteSet = ();
 
     type Memo = Remembered;
 

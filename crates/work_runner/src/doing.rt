@@ -23,7 +23,7 @@ impl<W: Work<Memo = ()>, S: Store<Rules = W::Rules>> Runner for Doing<W, S> {
 
     type Store = S;
 
-    type Room = ();
+    type Memo = ();
 
     ghost Kept = { Seat };
 
@@ -48,11 +48,11 @@ impl<W: Work<Memo = ()>, S: Store<Rules = W::Rules>> Runner for Doing<W, S> {
     ghost link = { λ s t work done. let shows = causes S.Open.may_refuse S.Open.has_trail S.took S.holds_back S.Open.found_held S.Open.loaded in
         LinkedWork shows (W.means work) s t done.0 done.1 };
 
-    fn room(_alloc: Global) -> Result<(), AllocError> {
+    fn memo(_alloc: Global) -> Result<(), AllocError> {
         Ok(())
     }
 
-    fn new(store: S, _room: ()) -> Doing<W, S> {
+    fn new(store: S, _memo: ()) -> Doing<W, S> {
         Doing { store, memo: () }
     }
 

@@ -42,7 +42,7 @@ impl Work for Count {
 
     type Reply = Told;
 
-    type Plan = [(u32, Words); 1];
+    type WriteSet = [(u32, Words); 1];
 
     type Memo = ();
 

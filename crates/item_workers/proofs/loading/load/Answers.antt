@@ -16,7 +16,7 @@ loop-stores-preserved g c =
     let pushed = c.push_reserved.ensures.items in
     let fit = rw store.ensures.items at l.invariant.fit in
     let may = rw source.ensures.items at l.invariant.may in
-    let rooms = rw (c.take_first-room.ensures.items, source.ensures.items) at l.invariant.rooms in
+    let rooms = rw (c.take_first-memo.ensures.items, source.ensures.items) at l.invariant.rooms in
     let fewer = ap length store.ensures.items in
     record {
       kept = loaded (keeps g.W.Runner.kept_of) (map g.W.Runner.first) l.workers.items _ _ l.stores.items store.new.from.items _ store.result pushed

@@ -1,7 +1,7 @@
 -- Transfers keep the total.
 use Rattle.std.proofs.lemmas.List.Sums.{sum_by-set, get_or-le-sum_by}
 use Rattle.mv_history.specs.declared.history.Entry.{Entry}
-use Rattle.mv_client.proofs.Invariants.{keeps_after, keeps_at}
+use Rattle.mv_history.proofs.Kept.{keeps_after, keeps_at}
 use Rattle.std.proofs.Common.{◌≡◌, ◌≢◌, ◌+◌, ◌-◌, ◌<◌, ◌≤◌, ℕ, List, [], length, set, refl, sym, ap, ◌∙◌, arith, length-set, get_or-set_other}
 use Rattle.accounts.proofs.Terms.{State, Writes, written, state_after, state_at, IsAllowed, Seat, IsSeat, words_of, account_of, balance_of, balance, total}
 use Rattle.accounts.proofs.Terms.{IsOpening, from_of, to_of, amount_of, IsTransfer}

@@ -20,7 +20,8 @@ use Rattle.client_run.specs.Over.{IsOver, EachTold}
 use Rattle.mv_client.specs.Invariants.{IsKept, IsRaised, count_changes}
 use Rattle.mv_client.specs.Updates.{Repeated}
 use Rattle.mv_client.proofs.Commits.{told_in_all}
-use Rattle.mv_client.proofs.Invariants.{keeps_after, raised_after}
+use Rattle.mv_history.proofs.Kept.{keeps_after}
+use Rattle.mv_client.proofs.Invariants.{raised_after}
 
 -- what follows from what holds where a result is fine
 pub then_ok : {A E : Type 0} {P Q : A → Type 0} (r : Result A E) → IfOk r P → ((a : A) → P a → Q a) → IfOk r Q

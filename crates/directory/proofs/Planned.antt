@@ -7,7 +7,7 @@ use Rattle.mv_history.specs.Drift.{IsFit}
 use Rattle.mv_history.specs.Meaning.{InSection, IsSection, state_of}
 use Rattle.section_work.specs.Works.{IsPlanned}
 use Rattle.section_work.proofs.Entering.{reads_snapshot}
-use Rattle.mv_client.proofs.Invariants.{keeps_in}
+use Rattle.mv_history.proofs.Kept.{keeps_in}
 use Rattle.mv_client.proofs.Fits.{fit_by_held}
 use Rattle.mv_client.proofs.Keeping.{three_distinct}
 use Rattle.directory.specs.declared.moving.Whereabouts.TheVariants.{Away}

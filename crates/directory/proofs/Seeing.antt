@@ -5,7 +5,7 @@ use Rattle.mv_history.specs.Meaning.{Seat, InSection, IsSeat, IsSection, state_o
 use Rattle.mv_history.specs.Calls.{Continues, Enters, IsAsBefore, Leaves}
 use Rattle.mv_history.proofs.Steps.{Continues-Continues, length-seen, state_at-later}
 use Rattle.section_work.proofs.Entering.{reads_snapshot}
-use Rattle.mv_client.proofs.Invariants.{keeps_at}
+use Rattle.mv_history.proofs.Kept.{keeps_at}
 use Rattle.directory.specs.declared.rules.TheConstants.{OBJECTS}
 use Rattle.directory.specs.declared.layout.DirectoryNode.{DirectoryNode}
 use Rattle.directory.specs.declared.reading.Seen.{Seen}

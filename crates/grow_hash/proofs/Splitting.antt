@@ -1,11 +1,12 @@
 -- What a split does to the table, and what holds after an allowed history.
 use Rattle.mv_history.specs.declared.history.Entry.{Entry}
 use Rattle.std.proofs.Common.{◌≡◌, ◌≢◌, ◌+◌, ◌%◌, ◌<◌, ◌≤◌, ◌∷◌, ◌++◌, ℕ, suc, inl, inr, cond, Bool, eq-eqb, ne_eqb, List, [], refl, sym, ap, ◌∙◌, subst, arith}
-use Rattle.grow_hash.proofs.Terms.{append_assoc, append-nil, Option, Some, None, cases_eq, State, Writes, written, state_after, Rest, Change, IsAllowed}
-use Rattle.grow_hash.proofs.Terms.{words_at, state_after-append, word, level, split_place, buckets_at, bucket_of, bucket, buckets, table_words, next_table}
+use Rattle.grow_hash.proofs.Terms.{Option, Some, None, cases_eq, State, Writes, written, state_after, Rest, Change, IsAllowed}
+use Rattle.grow_hash.proofs.Terms.{words_at, word, level, split_place, buckets_at, bucket_of, bucket, buckets, table_words, next_table}
 use Rattle.grow_hash.proofs.Terms.{IsTable, IsGrown, IsGrownOpening, Growing, makes, splits, growing_of, Grows, IsGrowCommit, is_splitting, count_splits}
 use Rattle.grow_hash.proofs.Buckets.{some_buckets, twice_buckets, bucket_split, bucket_whole, bucket_next, bucket_level}
 use Rattle.grow_hash.proofs.GrownOpenings.{grown_opening}
+use Rattle.mv_history.proofs.Kept.{keeps_after, keeps_along}
 use Rattle.grow_hash.proofs.Terms.{hash, most_level}
 
 -- the next table is that of the next level, or of the next place
@@ -76,44 +77,24 @@ commit_buckets levels None s s' ws w = absurd w
 commit_buckets levels (Some (makes command)) s s' ws w = ap (λ u. buckets_at (word 2 u) + word 3 u) w.table ∙ omega arith
 commit_buckets levels (Some (splits place)) s s' ws w = bucket_more s s' w.table ∙ omega arith
 
-lawful_on : (levels : ℕ) (start : State) (front es : List Entry) → IsGrown levels (state_after start front)
-    → IsAllowed (IsGrowCommit levels) start (front ++ es)
-    → IsGrown levels (state_after start (front ++ es))
-lawful_on levels start front [] l h = rw append-nil l
-lawful_on levels start front (Rest by ∷ es) l h =
-    let step : IsGrown levels (state_after start (front ++ Rest by ∷ [])) = rw state_after-append l in
-    let more = lawful_on levels start (front ++ Rest by ∷ []) es step (rw append_assoc h) in
-    rw append_assoc at more
-lawful_on levels start front (Change c ∷ es) l h =
-    let step : IsGrown levels (state_after start (front ++ Change c ∷ [])) = rw state_after-append ((h front es c refl).keeps.lawful_after) in
-    let more = lawful_on levels start (front ++ Change c ∷ []) es step (rw append_assoc h) in
-    rw append_assoc at more
-
 -- After an allowed history a state is lawful.
 pub grown_after : (levels : ℕ) (start : State) (history : List Entry) → IsGrownOpening levels start → IsAllowed (IsGrowCommit levels) start history
     → IsGrown levels (state_after start history)
-grown_after levels start history o h = lawful_on levels start [] history (grown_opening levels start o) h
+grown_after levels start history o h =
+    keeps_after (IsGrowCommit levels) (IsGrown levels) (λ tag s ws makes l. makes.keeps.lawful_after) start history h (grown_opening levels start o)
 
-count_on : (levels : ℕ) (start : State) (front es : List Entry) → IsAllowed (IsGrowCommit levels) start (front ++ es)
-    → buckets (state_after start (front ++ es)) ≡ buckets (state_after start front) + count_splits es
-count_on levels start front [] h = ap (λ u. buckets (state_after start u)) (append-nil front) ∙ omega arith
-count_on levels start front (Rest by ∷ es) h =
-    let same : state_after start (front ++ Rest by ∷ []) ≡ state_after start front = state_after-append start front (Rest by ∷ []) in
-    let more = count_on levels start (front ++ Rest by ∷ []) es
-    (subst (IsAllowed (IsGrowCommit levels) start) (sym (append_assoc front (Rest by ∷ []) es)) h) in
-    ap (λ u. buckets (state_after start u)) (sym (append_assoc front (Rest by ∷ []) es)) ∙ more ∙ ap (λ u. buckets u + count_splits es) same
-count_on levels start front (Change c ∷ es) h =
-    let same : state_after start (front ++ Change c ∷ []) ≡ written (state_after start front) c.writes = state_after-append start front (Change c ∷ []) in
-    let more = count_on levels start (front ++ Change c ∷ []) es
-    (subst (IsAllowed (IsGrowCommit levels) start) (sym (append_assoc front (Change c ∷ []) es)) h) in
-    let one = commit_buckets levels (growing_of c.tag) (state_after start front) (written (state_after start front) c.writes) c.writes
-    (h front es c refl).grows in
-    ap (λ u. buckets (state_after start u)) (sym (append_assoc front (Change c ∷ []) es)) ∙ more ∙ ap (λ u. buckets u + count_splits es) same
-    ∙ ap (λ n. n + count_splits es) one ∙ omega arith
+count_splits-append : (xs ys : List Entry) → count_splits (xs ++ ys) ≡ count_splits xs + count_splits ys
+count_splits-append [] ys = refl
+count_splits-append (Rest by ∷ xs) ys = count_splits-append xs ys
+count_splits-append (Change c ∷ xs) ys = omega (arith, count_splits-append xs ys)
 
 -- There are 16 buckets, and one more for each split.
 pub buckets_after : (levels : ℕ) (start : State) (history : List Entry) → IsGrownOpening levels start → IsAllowed (IsGrowCommit levels) start history
     → buckets (state_after start history) ≡ 16 + count_splits history
 buckets_after levels start history o h =
     let some = o.some in
-    count_on levels start [] history h ∙ ap (λ w. buckets_at (word 2 w) + word 3 w + count_splits history) (o.zeros 0 (omega arith))
+    keeps_along (IsGrowCommit levels) (λ front s. buckets s ≡ 16 + count_splits front)
+    (λ front by s q. omega (arith, q, count_splits-append front (Rest by ∷ [])))
+    (λ front c s makes q. (let one = commit_buckets levels (growing_of c.tag) s (written s c.writes) c.writes makes.grows in
+    omega (arith, q, one, count_splits-append front (Change c ∷ []))))
+    start history h (ap (λ w. buckets_at (word 2 w) + word 3 w) (o.zeros 0 (omega arith)))

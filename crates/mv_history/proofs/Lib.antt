@@ -1,5 +1,6 @@
 pub mod Writing
 pub mod Histories
+pub mod Kept
 pub mod Drifting
 pub mod Committed
 pub mod Steps

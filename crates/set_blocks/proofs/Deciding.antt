@@ -1,27 +1,25 @@
 -- What a block comes to in a state, as a work.
-use Rattle.mv_history.proofs.Histories.{IsAllowed-front}
+use Rattle.mv_history.proofs.Kept.{keeps_at, keeps_read}
 use Rattle.section_work.specs.Works.{IsPlanned, IsHere}
-use Rattle.section_work.proofs.Entering.{reads_snapshot}
-use Rattle.std.proofs.Common.{◌≡◌, ◌*◌, ◌≤◌, ℕ, Bool, true, false, cond, List, [], length, refl, sym, ap, ◌∙◌, subst, take, drop, take-append-drop}
-use Rattle.set_blocks.proofs.Terms.{State, Writes, written, state_at, Drifts, IsAllowed, Seat, InSection, IsSeat, Command, Reply, catalogue_of, IsLawful}
+use Rattle.set_model.proofs.Opening.{opening_lawful}
+use Rattle.std.proofs.Common.{◌≡◌, ◌*◌, ◌≤◌, ℕ, Bool, true, false, cond, List, [], length, refl, sym, ap, ◌∙◌, subst}
+use Rattle.set_blocks.proofs.Terms.{State, Writes, written, state_at, Drifts, Seat, InSection, IsSeat, Command, Reply, catalogue_of, IsLawful}
 use Rattle.set_blocks.proofs.Terms.{IsOpening, capacity, IsBlock, replies_in, block_changes_in, IsBlockFound, Settled, Open, MakesBlock, block_meaning}
 use Rattle.set_blocks.proofs.Terms.{BlockPlan, after_turns, IsBlockCommit, block_tag}
 use Rattle.set_blocks.proofs.Planning.{plan_runs, plan_ran}
 use Rattle.set_blocks.proofs.PlannedWrites.{plan_within, plan_writes}
-use Rattle.set_blocks.proofs.Remaining.{lawful_after}
 use Rattle.set_blocks.proofs.Stepping.{runs_fit}
 use Rattle.set_blocks.proofs.WholeTurns.{none_full, replies_turned, changes_turned, unchanging_any}
 
 -- the state of each time that a seat has seen is lawful
 pub lawful_at : (s : Seat) → IsSeat IsOpening IsBlockCommit s → (t : ℕ) → IsLawful (state_at s.start s.seen t)
-lawful_at s h t =
-    lawful_after s.start (take t s.seen) h.start
-    (IsAllowed-front IsBlockCommit s.start (take t s.seen) (drop t s.seen)
-    (subst (λ e. IsAllowed IsBlockCommit s.start e) (sym (take-append-drop t s.seen)) h.allowed))
+lawful_at s h t = keeps_at IsBlockCommit IsLawful (λ tag u ws makes l. makes.lawful_after) IsOpening s h (opening_lawful s.start h.start) t
 
 -- so is what a section reads that holds nothing
 pub lawful_here : (state : State) (time : ℕ) (s : InSection) → IsHere IsOpening IsBlockCommit state time s → IsLawful state
-lawful_here state time s h = subst IsLawful (sym (h.state_is ∙ reads_snapshot s h.own)) (lawful_at s.seat h.lawful.seat s.at)
+lawful_here state time s h =
+    subst IsLawful (sym h.state_is) (keeps_read IsBlockCommit IsLawful (λ tag u ws makes l. makes.lawful_after) IsOpening s h.lawful h.own
+    (opening_lawful s.seat.start h.lawful.seat.start))
 
 -- What is planned for a block makes its change of each state to which others lead.
 makes_block : (s : State) (commands : List Command) (ws : Writes) (answers : List Reply) → IsLawful s → BlockPlan s commands ws answers true

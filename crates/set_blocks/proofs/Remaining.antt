@@ -1,30 +1,15 @@
 -- What the rules of the blocks say of each time of a store, and what remains while others commit.
 use Rattle.mv_history.specs.declared.history.Entry.{Entry}
-use Rattle.mv_history.specs.declared.history.Entry.TheVariants.{Rest, Change}
+use Rattle.mv_history.proofs.Kept.{keeps_after}
 use Rattle.set_model.proofs.Opening.{opening_lawful}
-use Rattle.set_blocks.proofs.Terms.{State, Writes, written, touches, state_after, IsAllowed, words_at, Drifts, state_after-append, length-written}
-use Rattle.set_blocks.proofs.Terms.{drift_keeps_apart, key, link, IsLawful, IsOpening, word, IsOfLists, IsBlockCommit, Remains, ◌≡◌, ◌≤◌, ◌∷◌, ◌++◌, ℕ, inl}
-use Rattle.set_blocks.proofs.Terms.{inr, true, false, List, [], refl, sym, ap, ◌∙◌, subst, arith, append_assoc, append-nil}
-
-lawful_on : (start : State) (front es : List Entry) → IsLawful (state_after start front) → IsAllowed IsBlockCommit start (front ++ es)
-    → IsLawful (state_after start (front ++ es))
-lawful_on start front [] l a = subst (λ h. IsLawful (state_after start h)) (sym (append-nil front)) l
-lawful_on start front (Rest seat ∷ es) l a =
-    let same : state_after start (front ++ Rest seat ∷ []) ≡ state_after start front = state_after-append start front (Rest seat ∷ []) in
-    rw append_assoc at
-    (lawful_on start (front ++ Rest seat ∷ []) es (subst IsLawful (sym same) l)
-    (subst (λ h. IsAllowed IsBlockCommit start h) (sym (append_assoc front (Rest seat ∷ []) es)) a))
-lawful_on start front (Change c ∷ es) l a =
-    let next : IsBlockCommit c.tag (state_after start front) c.writes = a front es c refl in
-    let after : state_after start (front ++ Change c ∷ []) ≡ written (state_after start front) c.writes =
-    state_after-append start front (Change c ∷ []) in
-    rw append_assoc at
-    (lawful_on start (front ++ Change c ∷ []) es (subst IsLawful (sym after) next.lawful_after)
-    (subst (λ h. IsAllowed IsBlockCommit start h) (sym (append_assoc front (Change c ∷ []) es)) a))
+use Rattle.set_blocks.proofs.Terms.{State, Writes, written, touches, state_after, IsAllowed, words_at, Drifts, length-written}
+use Rattle.set_blocks.proofs.Terms.{drift_keeps_apart, key, link, IsLawful, IsOpening, word, IsOfLists, IsBlockCommit, Remains, ◌≡◌, ◌≤◌, ℕ, inl}
+use Rattle.set_blocks.proofs.Terms.{inr, true, false, List, refl, sym, ap, ◌∙◌, arith}
 
 -- After an allowed history a state is lawful.
 pub lawful_after : (start : State) (history : List Entry) → IsOpening start → IsAllowed IsBlockCommit start history → IsLawful (state_after start history)
-lawful_after start history o a = lawful_on start [] history (opening_lawful start o) a
+lawful_after start history o a =
+    keeps_after IsBlockCommit IsLawful (λ tag s ws makes l. makes.lawful_after) start history a (opening_lawful start o)
 
 -- an object is of a list by its own words
 pub of_lists-same : (s s' : State) (o : ℕ) → words_at s' o ≡ words_at s o → IsOfLists s o → IsOfLists s' o

@@ -1,51 +1,26 @@
 -- What the rules say of each time of a store: its state is lawful, and each commit did what its command does.
-use Rattle.std.proofs.Common.{◌≡◌, ℕ, suc, ◌+◌, ◌-◌, List, [], ◌∷◌, ◌++◌, take, drop, refl, sym, ap, ◌∙◌, subst, arith, append_assoc, append-nil, zero, Some}
+use Rattle.std.proofs.Common.{◌≡◌, ℕ, suc, ◌+◌, ◌-◌, List, [], ◌∷◌, ◌++◌, take, drop, sym, ap, ◌∙◌, subst, arith, zero, Some}
 use Rattle.std.specs.Prelude.{slice_get}
-use Rattle.std.proofs.lemmas.List.{take-append-drop}
 use Rattle.mv_history.specs.declared.history.Commit.{Commit}
 use Rattle.mv_history.specs.declared.history.Entry.{Entry}
-use Rattle.mv_history.specs.declared.history.Entry.TheVariants.{Rest, Change}
+use Rattle.mv_history.specs.declared.history.Entry.TheVariants.{Change}
 use Rattle.mv_history.specs.State.{State, written, state_after, state_at}
 use Rattle.mv_history.specs.Legal.{IsAllowed}
-use Rattle.mv_history.specs.Meaning.{Seat, InSection, IsSeat, IsSection, snapshot_of}
+use Rattle.mv_history.specs.Meaning.{Seat, IsSeat}
 use Rattle.mv_history.specs.Calls.{IsEntryAt}
 use Rattle.mv_history.proofs.Writing.{state_after-append}
-use Rattle.mv_history.proofs.Histories.{IsAllowed-front, split_at}
+use Rattle.mv_history.proofs.Histories.{split_at}
+use Rattle.mv_history.proofs.Kept.{keeps_after}
 use Rattle.set_model.specs.declared.commands.Command.{Command}
 use Rattle.set_model.specs.Lawful.{IsLawful, IsOpening}
 use Rattle.set_model.specs.Tags.{command_of}
 use Rattle.set_model.specs.Rules.{Makes, MakesSome, IsSetCommit}
 use Rattle.set_model.proofs.Opening.{opening_lawful}
 
-lawful_on : (start : State) (front es : List Entry) → IsLawful (state_after start front) → IsAllowed IsSetCommit start (front ++ es)
-    → IsLawful (state_after start (front ++ es))
-lawful_on start front [] l a = subst (λ h. IsLawful (state_after start h)) (sym (append-nil front)) l
-lawful_on start front (Rest seat ∷ es) l a =
-    let same : state_after start (front ++ Rest seat ∷ []) ≡ state_after start front = state_after-append start front (Rest seat ∷ []) in
-    rw append_assoc at
-    (lawful_on start (front ++ Rest seat ∷ []) es (subst IsLawful (sym same) l)
-    (subst (λ h. IsAllowed IsSetCommit start h) (sym (append_assoc front (Rest seat ∷ []) es)) a))
-lawful_on start front (Change c ∷ es) l a =
-    let next : IsSetCommit c.tag (state_after start front) c.writes = a front es c refl in
-    let after : state_after start (front ++ Change c ∷ []) ≡ written (state_after start front) c.writes = state_after-append start front (Change c ∷ []) in
-    rw append_assoc at
-    (lawful_on start (front ++ Change c ∷ []) es (subst IsLawful (sym after) next.keeps.lawful_after)
-    (subst (λ h. IsAllowed IsSetCommit start h) (sym (append_assoc front (Change c ∷ []) es)) a))
-
 -- After an allowed history a state is lawful.
 pub lawful_after : (start : State) (history : List Entry) → IsOpening start → IsAllowed IsSetCommit start history → IsLawful (state_after start history)
-lawful_after start history o a = lawful_on start [] history (opening_lawful start o) a
-
--- The state of each time that a seat has seen is lawful.
-pub lawful_at : (s : Seat) → IsSeat IsOpening IsSetCommit s → (t : ℕ) → IsLawful (state_at s.start s.seen t)
-lawful_at s h t =
-    lawful_after s.start (take t s.seen) h.start
-    (IsAllowed-front IsSetCommit s.start (take t s.seen) (drop t s.seen)
-    (subst (λ e. IsAllowed IsSetCommit s.start e) (sym (take-append-drop t s.seen)) h.allowed))
-
--- So is a section's snapshot.
-pub lawful_snapshot : (s : InSection) → IsSection IsOpening IsSetCommit s → IsLawful (snapshot_of s)
-lawful_snapshot s h = lawful_at s.seat h.seat s.at
+lawful_after start history o a =
+    keeps_after IsSetCommit IsLawful (λ tag s ws makes l. makes.keeps.lawful_after) start history a (opening_lawful start o)
 
 take_next : {X : Type 0} (xs : List X) (i : ℕ) (x : X) → slice_get xs i ≡ Some x → take (suc i) xs ≡ take i xs ++ x ∷ []
 take_next [] i x e = absurd (cc)

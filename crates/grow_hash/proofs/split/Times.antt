@@ -2,21 +2,16 @@
 use Rattle.mv_history.specs.declared.history.Commit.{Commit}
 use Rattle.mv_history.specs.Calls.{IsEntryAt}
 use Rattle.mv_history.proofs.Committed.{before_is, after_is, allowed_there}
-use Rattle.std.proofs.Common.{◌≡◌, ◌+◌, ◌-◌, ℕ, suc, take, drop, sym, ap, ◌∙◌, subst, take-append-drop}
-use Rattle.grow_hash.proofs.Terms.{Change, State, written, state_at, IsAllowed, Seat, IsSeat, state_of_time, IsAllowed-front, split_place, buckets}
+use Rattle.mv_history.proofs.Kept.{seen_allowed}
+use Rattle.std.proofs.Common.{◌≡◌, ◌+◌, ◌-◌, ℕ, suc, take, sym, ap, ◌∙◌, subst}
+use Rattle.grow_hash.proofs.Terms.{Change, State, written, state_at, Seat, IsSeat, state_of_time, split_place, buckets}
 use Rattle.grow_hash.proofs.Terms.{IsGrownOpening, grown_catalogue, SplitsGrown, split_tag, IsGrowCommit, count_splits}
 use Rattle.grow_hash.proofs.Splitting.{buckets_after, bucket_more}
-
-seen_allowed : (levels : ℕ) (s : Seat) → IsSeat (IsGrownOpening levels) (IsGrowCommit levels) s → (t : ℕ)
-    → IsAllowed (IsGrowCommit levels) s.start (take t s.seen)
-seen_allowed levels s h t =
-    IsAllowed-front (IsGrowCommit levels) s.start (take t s.seen) (drop t s.seen)
-    (subst (λ e. IsAllowed (IsGrowCommit levels) s.start e) (sym (take-append-drop t s.seen)) h.allowed)
 
 -- The state of each time that a seat has seen has 16 buckets and one for each split.
 buckets_at_time : (levels : ℕ) (s : Seat) → IsSeat (IsGrownOpening levels) (IsGrowCommit levels) s → (t : ℕ)
     → buckets (state_at s.start s.seen t) ≡ 16 + count_splits (take t s.seen)
-buckets_at_time levels s h t = buckets_after levels s.start (take t s.seen) h.start (seen_allowed levels s h t)
+buckets_at_time levels s h t = buckets_after levels s.start (take t s.seen) h.start (seen_allowed s h t)
 
 -- What the commit of a split did.
 module _ (levels : ℕ) (s : Seat) (law : IsSeat (IsGrownOpening levels) (IsGrowCommit levels) s) (c : Commit) (place time : ℕ) (tagged : c.tag ≡ split_tag place)

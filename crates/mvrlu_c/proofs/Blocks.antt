@@ -16,9 +16,9 @@ use Rattle.mvrlu_c.specs.SetsBlock.{AnswersBlock}
 pub as_many_replies : (old new : Seat) (commands : List Command) (answer : BlockAttempt) (n : ℕ) → AttemptedBlock old new commands answer
     → n ≡ length commands → AsMany answer n
 as_many_replies old new commands (Done answers (AtCommit time)) n h e =
-    e ∙ sym (ap length h.answers_are ∙ length-block_replies commands _ _ _)
+    e ∙ sym (ap length h.done.makes.answers_are ∙ length-block_replies commands _ _ _)
 as_many_replies old new commands (Done answers (Read time)) n h e =
-    e ∙ sym (ap length h.answers_are ∙ length-block_replies commands _ _ _)
+    e ∙ sym (ap length h.settles.0 ∙ length-block_replies commands _ _ _)
 as_many_replies old new commands (Again cause) n h e = tt
 
 -- a block that was attempted has a reply for each of its commands

@@ -20,4 +20,3 @@ pub mod WholeTurns
 pub mod PlanTurns
 pub mod PlannedWrites
 pub mod Deciding
-pub mod BlockOutcomes

@@ -2,7 +2,7 @@
 use Rattle.std.proofs.Common.{ℕ, ◌≡◌, ◌+◌, ◌<◌, length, refl, sym, ap, subst, ◌∙◌, arith}
 use Rattle.mv_history.specs.State.{State}
 use Rattle.mv_history.specs.Meaning.{Seat, IsSeat}
-use Rattle.section_work.specs.Attempts.{IsDoneAt, IsReadAt, Attempted as WorkAttempted}
+use Rattle.section_work.specs.Attempts.{Attempted as WorkAttempted}
 use Rattle.section_work.specs.Causes.{Causes}
 use Rattle.section_work.specs.Works.{IsPlanned as IsWorkPlanned}
 use Rattle.section_work.specs.declared.attempting.Attempt.{Attempt}
@@ -14,14 +14,12 @@ use Rattle.set_model.specs.Rules.{IsSetCommit}
 use Rattle.set_model.specs.Tags.{tag_of, command_of}
 use Rattle.set_model.specs.declared.commands.Command.{Command}
 use Rattle.set_model.specs.declared.commands.Reply.TheVariants.{Yes}
-use Rattle.set_catalog.specs.Attempts.{IsDoneBy, IsRead, Attempted}
 use Rattle.set_catalog.specs.CommandLaws.{tag_stands_within}
 use Rattle.set_catalog.specs.CommandMeaning.{command_meaning}
 use Rattle.set_catalog.specs.Findings.{IsPlannedWithin}
 use Rattle.set_catalog.specs.Merges.{writes_in}
 use Rattle.set_catalog.specs.Remembering.{IsAfterTheFirst, known_at}
 use Rattle.set_catalog.specs.Shortages.{IsKnown}
-use Rattle.set_catalog.specs.declared.answer.CommandAttempt.TheVariants.{Done}
 use Rattle.set_catalog.specs.declared.command_work.CommandAnswer.{CommandAnswer}
 use Rattle.set_catalog.specs.Steps.{most_beside}
 use Rattle.tree_balance.specs.declared.plan.WritePlan.{WritePlan}
@@ -41,50 +39,12 @@ planned_as most command s plan answer said p = record {
   fit = p.fit;
 }
 
-module _ (k : Causes) (old new : Seat) (command : Command) where
-  -- a command that a commit made
-  done_as : (answer : CommandAnswer) (time : ℕ) → IsDoneAt k (command_meaning (most_beside old.write_max) command) old new answer time
-      → IsDoneBy old new command answer.reply time
-  done_as answer time d = record {
-    continues = d.done.continues;
-    commit = d.done.commit;
-    entry = d.done.entry;
-    later = d.done.later;
-    mine = d.done.mine;
-    tagged = d.done.plan.tagged;
-    plan = d.done.plan.plan;
-    few = d.done.plan.few;
-    fit = d.done.plan.fit;
-    answers = d.done.makes;
-  }
-
-  -- a command that changes nothing
-  read_as : (answer : CommandAnswer) (time : ℕ) → IsReadAt k (command_meaning (most_beside old.write_max) command) old new answer time
-      → IsRead k old new command answer.reply time
-  read_as answer time r = record {
-    mine = r.mine;
-    before = r.enters.before;
-    comes = r.enters.comes;
-    entered = r.entered;
-    enters = r.enters.enters;
-    time_is = r.time_is;
-    answers = r.settles.answers;
-    unchanging = r.settles.unchanging;
-  }
-
 -- What an attempt leaves, by what it answers, where as many objects are allowed beside an add as the seat may lock.
 pub left_by : (k : Causes) (old new : Seat) (most : ℕ) (command : Command) (a b : Attempt CommandAnswer) → most ≡ most_beside old.write_max → a ≡ b
     → WorkAttempted k (command_meaning most command) old new a → WorkAttempted k (command_meaning (most_beside old.write_max) command) old new b
 left_by k old new most command a b m e h =
     subst (λ (x : Attempt CommandAnswer). WorkAttempted k (command_meaning (most_beside old.write_max) command) old new x) e
     (subst (λ (n : ℕ). WorkAttempted k (command_meaning n command) old new a) m h)
-
--- its clauses where it was done, by where that is
-pub answered_as : (k : Causes) (old new : Seat) (command : Command) (answer : CommandAnswer) (place : Place)
-    → WorkAttempted k (command_meaning (most_beside old.write_max) command) old new (WorkDone answer place)
-    → Attempted k old new command (Done answer.reply place)
-answered_as k old new command answer (AtCommit time) d = done_as k old new command answer time d
-answered_as k old new command answer (Read time) r = read_as k old new command answer time r
 
 -- no commit is at the first time
 pub after_the_first : (k : Causes) (old new : Seat) (command : Command) (answer : CommandAnswer) (place : Place)

@@ -1,14 +1,10 @@
 -- What an attempt of a command leaves, by its answer.
-use Rattle.std.specs.Prelude.{ℕ, ◌≡◌, ◌+◌, ◌-◌, ◌<◌, ◌≤◌, ◌⊎◌, ◌==◌, false, [], ◌∷◌, ◌++◌, All}
-use Rattle.std.specs.Prelude.{Contains, length}
-use Rattle.mv_history.specs.Drift.{IsFit}
+use Rattle.std.specs.Prelude.{ℕ, ◌≡◌, ◌≤◌, ◌⊎◌, All, Contains, length}
 use Rattle.mv_history.specs.State.{state_at}
 use Rattle.mv_history.specs.declared.history.Commit.{Commit}
 use Rattle.mv_history.specs.declared.history.Entry.TheVariants.{Change}
-use Rattle.mv_history.specs.Meaning.{Seat, InSection, state_of_time}
-use Rattle.mv_history.specs.Calls.{Continues, IsEntryAt}
-use Rattle.set_model.specs.Rules.{IsSetCommit}
-use Rattle.set_model.specs.Tags.{tag_of}
+use Rattle.mv_history.specs.Meaning.{Seat}
+use Rattle.mv_history.specs.Calls.{IsEntryAt}
 use Rattle.set_model.specs.declared.commands.Command.{Command}
 use Rattle.set_model.specs.declared.commands.Reply.{Reply}
 use Rattle.section_work.specs.declared.place.Place.TheVariants.{Commit as AtCommit, Read}
@@ -16,49 +12,24 @@ use Rattle.set_catalog.specs.declared.answer.CommandAttempt.{CommandAttempt}
 use Rattle.set_catalog.specs.declared.answer.CommandAttempt.TheVariants.{Done, Again}
 use Rattle.section_work.specs.declared.attempting.Attempt.{Attempt}
 use Rattle.section_work.specs.declared.attempting.Attempt.TheVariants.{Done as WorkDone, Again as WorkAgain}
-use Rattle.section_work.specs.Attempts.{GivesUp}
+use Rattle.section_work.specs.Attempts.{GivesUp, Attempted as WorkAttempted}
 use Rattle.section_work.specs.Causes.{Causes}
-use Rattle.set_catalog.specs.Replies.{reply_in, changes_in}
 use Rattle.set_model.specs.declared.commands.Command.TheVariants.{Del}
 use Rattle.set_catalog.specs.Hinted.{Hinted, gone_noted}
 use Rattle.set_catalog.specs.Picks.{IsVacant}
 use Rattle.set_catalog.specs.CommandMeaning.{command_meaning}
-use Rattle.set_catalog.specs.Plans.{PlanWithin, DelPlan}
-use Rattle.set_catalog.specs.Steps.{most_beside, most_locks_of}
-use Rattle.section_work.specs.Sections.{IsEntered}
+use Rattle.set_catalog.specs.declared.plan.Vacated.{Vacated}
+use Rattle.set_catalog.specs.Plans.{DelPlan}
+use Rattle.set_catalog.specs.Steps.{most_beside}
 
--- The command is the seat's last commit, at this printed time. Its reply is that of the state just before, which is not
--- at the last time. It wrote what it must lock in its snapshot, and nothing else: five objects at most, and of an add to a tree in which its search passes
--- more than 8 inner nodes its own four and those of the steps after it, for which a section has room. It is allowed on its snapshot, and on each
--- state to which others could have led meanwhile.
-pub record IsDoneBy (old new : Seat) (command : Command) (answer : Reply) (time : ℕ) : Type 0 where
-  pub continues : Continues old new
-  pub commit : Commit
-  pub entry : IsEntryAt new time (Change commit)
-  pub later : old.base + length old.seen < time
-  pub mine : new.mine ≡ old.mine ++ commit ∷ []
-  pub tagged : commit.tag ≡ tag_of command
-  pub plan : PlanWithin (most_beside old.write_max) command (state_at new.start new.seen commit.snapshot) commit.writes
-  pub few : length commit.writes ≤ most_locks_of (most_beside old.write_max) command
-  pub fit : IsFit IsSetCommit (state_at new.start new.seen commit.snapshot) commit.tag commit.writes
-  pub answers : answer ≡ reply_in command (state_of_time new (time - 1)) false
-
--- The command changes nothing in the state of this printed time, which is that of a section that the call entered, and
--- this is its reply there.
-pub record IsRead (k : Causes) (old new : Seat) (command : Command) (answer : Reply) (time : ℕ) : Type 0 where
-  pub mine : new.mine ≡ old.mine
-  pub before : Seat
-  pub comes : Continues old before
-  pub entered : InSection
-  pub enters : IsEntered k before entered new
-  pub time_is : time ≡ entered.seat.base + entered.at
-  pub answers : answer ≡ reply_in command (state_of_time new time) (time == new.last)
-  pub unchanging : changes_in command (state_of_time new time) (time == new.last) ≡ false
-
--- What an attempt leaves by its answer. What was given up is the change that the command would make, of which a lock or the commit was refused.
+-- What an attempt leaves, by its answer: what it leaves as a work, whose commit left some objects vacant. A commit has the command's tag and
+-- the reply of the state just before, which is not at the last time. It wrote what it must lock in its snapshot, and nothing else: five objects
+-- at most, and of an add to a tree in which its search passes more than 8 inner nodes its own four and those of the steps after it, for which a
+-- section has room. It is allowed on its snapshot, and on each state to which others could have led meanwhile. A read has the reply of a state
+-- that the command leaves as it is. What was given up would change something.
 abbrev pub Attempted : Causes → Seat → Seat → Command → CommandAttempt → Type 0
-Attempted k old new command (Done answer (AtCommit time)) = IsDoneBy old new command answer time
-Attempted k old new command (Done answer (Read time)) = IsRead k old new command answer time
+Attempted k old new command (Done answer place) = (gone : Vacated)
+    × WorkAttempted k (command_meaning (most_beside old.write_max) command) old new (WorkDone (record { reply = answer; gone = gone }) place)
 Attempted k old new command (Again cause) = GivesUp k (command_meaning (most_beside old.write_max) command) old new cause
 
 -- the object is vacant in the state of a time that came in the call

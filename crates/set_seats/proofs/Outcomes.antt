@@ -10,7 +10,6 @@ use Rattle.section_work.specs.declared.place.Place.TheVariants.{Commit as AtComm
 use Rattle.set_model.specs.declared.commands.Command.{Command}
 use Rattle.set_model.specs.declared.commands.Reply.{Reply}
 use Rattle.set_blocks.specs.BlockMeaning.{block_meaning}
-use Rattle.set_blocks.proofs.BlockOutcomes.{answered}
 use Rattle.set_catalog.specs.declared.answer.CommandAttempt.{CommandAttempt}
 use Rattle.set_catalog.specs.declared.answer.CommandAttempt.TheVariants.{Done, Again}
 use Rattle.set_seats.specs.Calls.{domain_causes, Attempted, Replied}
@@ -26,9 +25,8 @@ module _ (old lent back new : Seat) (command : Command) (e : lent ≡ old) (f : 
       → Attempted old new command (Done answer place)
   done_one tried answers place answer is one h =
       moved (Done answer place)
-      (answered domain_causes lent back (command ∷ []) (answer ∷ []) place
       (subst (λ (x : Attempt (List Reply)). WorkAttempted domain_causes (block_meaning (command ∷ [])) lent back x)
-      (is ∙ ap (λ (rs : List Reply). WorkDone rs place) one) h))
+      (is ∙ ap (λ (rs : List Reply). WorkDone rs place) one) h)
 
   pub again_one : (tried : Attempt (List Reply)) (cause : Cause) → tried ≡ WorkAgain cause
       → WorkAttempted domain_causes (block_meaning (command ∷ [])) lent back tried → Attempted old new command (Again cause)
@@ -43,11 +41,11 @@ only a b e = ap (λ (rs : List Reply). get_or rs 0 a) e
 -- So the reply is the command's.
 pub replied : (old new : Seat) (command : Command) (a : CommandAttempt) → Attempted old new command a → Replied new command a
 replied old new command (Done answer (AtCommit time)) h = (
-  only answer _ (h.answers_are ∙ said_one command (state_of_time new (time - 1)) false),
-  sym (changes_one command (state_of_time new (time - 1)) false) ∙ h.changing,
+  only answer _ (h.done.makes.answers_are ∙ said_one command (state_of_time new (time - 1)) false),
+  sym (changes_one command (state_of_time new (time - 1)) false) ∙ h.done.makes.changing,
 )
 replied old new command (Done answer (Read time)) h = (
-  only answer _ (h.answers_are ∙ said_one command (state_of_time new time) (time == new.last)),
-  sym (changes_one command (state_of_time new time) (time == new.last)) ∙ h.unchanging,
+  only answer _ (h.settles.0 ∙ said_one command (state_of_time new time) (time == new.last)),
+  sym (changes_one command (state_of_time new time) (time == new.last)) ∙ h.settles.1,
 )
 replied old new command (Again cause) h = tt

@@ -1,8 +1,7 @@
-use Rattle.set_blocks.proofs.BlockOutcomes.{answered}
 use Rattle.set_blocks.proofs.attempting.attempt_block.Goals as goal
 
 pub returns-in-Done-clause-attempted : goal.returns-in-Done-clause-attempted
-returns-in-Done-clause-attempted g c = answered _ _ _ c.args.block.now _ _ (rw c.in-Done.is at c.attempt_work-store.ensures.attempted)
+returns-in-Done-clause-attempted g c = rw c.in-Done.is at c.attempt_work-store.ensures.attempted
 
 pub returns-in-Again-clause-attempted : goal.returns-in-Again-clause-attempted
 returns-in-Again-clause-attempted g c = rw c.in-Again.is at c.attempt_work-store.ensures.attempted

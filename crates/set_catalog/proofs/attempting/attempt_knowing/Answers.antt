@@ -1,7 +1,7 @@
 use Rattle.std.proofs.Common.{ap, ◌∙◌}
 use Rattle.set_catalog.specs.Steps.{most_beside}
 use Rattle.set_catalog.proofs.NotedGone.{kept_taken, noted_takes, hints_then}
-use Rattle.set_catalog.proofs.Outcomes.{left_by, answered_as, after_the_first, known_then}
+use Rattle.set_catalog.proofs.Outcomes.{left_by, after_the_first, known_then}
 use Rattle.set_catalog.proofs.WorkSteps.{stepped_as}
 use Rattle.set_catalog.proofs.attempting.attempt_knowing.Goals as goal
 
@@ -16,7 +16,7 @@ returns-in-Done g c =
     let done = left_by _ _ _ c.most_beside-most.result c.args.command.now _ _
     (c.most_beside-most.ensures ∙ ap most_beside c.write_max.ensures) c.in-Done.is c.attempt_work-store.ensures.attempted in
     record {
-      attempted = answered_as _ (g.S.Store.seat_of c.args.store) _ _ _ _ done;
+      attempted = (c.in-Done.answer.gone, done);
       steps = stepped_as _ _ _ _ _ _ _ c.in-Done.is c.attempt_work-store.ensures.steps;
       noted = hints_then _ (g.S.Store.seat_of c.args.store) _ c.args.command.now c.in-Done.answer _ c.args.memo.now _ _ done
           c.attempt_work-store.ensures.noted c.note.ensures.hints;

@@ -84,7 +84,7 @@ grown_after levels start history o h =
     keeps_after (IsGrowCommit levels) (IsGrown levels) (λ tag s ws makes l. makes.keeps.lawful_after) start history h (grown_opening levels start o)
 
 count_splits-append : (xs ys : List Entry) → count_splits (xs ++ ys) ≡ count_splits xs + count_splits ys
-count_splits-append [] ys = refl
+count_splits-append [] ys = omega arith
 count_splits-append (Rest by ∷ xs) ys = count_splits-append xs ys
 count_splits-append (Change c ∷ xs) ys = omega (arith, count_splits-append xs ys)
 

@@ -47,16 +47,14 @@ leave_none a found new p n l = NamesNoCommit-NamesNoCommit p l.continues n (leav
 pub left_one : {a : Seat} {found : InSection} {new : Seat} → Continues a found.seat → NamesNoCommit a found.seat → Leaves found new → TriesOne a new
 left_one {a} {found} {new} p n l = none_one a new (leave_none a found new p n l)
 
--- Room was made, a section entered and looked into: what was seen stays, and no commit was tried.
-pub record LooksIn (old : Seat) (found : InSection) : Type 0 where
-  pub continues : Continues old found.seat
-  pub quiet : NamesNoCommit old found.seat
-
-pub looks_in : {old prepared : Seat} {entered found : InSection} → Prepares old prepared → Enters prepared entered → GoesOn entered found → LooksIn old found
+-- room was made, and a section entered and only read
+pub looks_in : {old prepared : Seat} {entered found : InSection} → Prepares old prepared → Enters prepared entered → GoesOn entered found
+    → Prepares old found.seat
 looks_in {old} {prepared} {entered} {found} p e goes =
     let inside : Continues prepared found.seat = Continues-Continues e.seat.continues goes.continues in
     record {
       continues = Continues-Continues p.continues inside;
-      quiet = NamesNoCommit-NamesNoCommit p.continues inside p.names_no_commit
+      mine = goes.mine ∙ e.seat.mine ∙ p.mine;
+      names_no_commit = NamesNoCommit-NamesNoCommit p.continues inside p.names_no_commit
           (NamesNoCommit-NamesNoCommit e.seat.continues goes.continues e.names_no_commit goes.names_no_commit);
     }

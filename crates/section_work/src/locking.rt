@@ -56,6 +56,7 @@ pub(crate) fn hold_planned<S: Section>(
     requires within { AreWithin changes.now (length (state_of (S.section section.old))) }
     requires room { HasRoom (S.section section.old) (objects_of changes.now) }
     ensures held { OnOk result (Rewritten (S.section section.old) (S.section section.new) (objects_of changes.now) changes.now) }
+    ensures own { OnOk result ((S.section section.new).own ≡ changes.now) }
     ensures refused { IfErr result
         (λ refusal. RefusesWith S.may_refuse S.found_held (S.section section.old) (S.section section.new) changes.now refusal) }
 {

@@ -34,3 +34,8 @@ returns-clause-held g c =
     planned_all _ _ _ c.requires.distinct c.requires.none
     (all_taken (λ (u : Writes). HoldsMore (g.S.Section.section c.args.section.now) (g.S.Section.section c.loop-change.section) (objects_of u) u) _ _
     c.loop-change-test.false c.loop-change.invariant)
+
+pub returns-clause-own : goal.returns-clause-own
+returns-clause-own g c =
+    (all_taken (λ (u : Writes). HoldsMore (g.S.Section.section c.args.section.now) (g.S.Section.section c.loop-change.section) (objects_of u) u) _ _
+    c.loop-change-test.false c.loop-change.invariant).own

@@ -5,36 +5,24 @@ use Rattle.mv_history.specs.declared.answers.Room.{Room}
 use Rattle.mv_history.specs.declared.answers.Room.TheVariants.{Enough, Short}
 use Rattle.mv_history.proofs.Committed.{before_is, after_is, allowed_there, drifts_there}
 use Rattle.std.proofs.Common.{◌≡◌, ◌+◌, ◌-◌, ◌<◌, ◌≤◌, ◌==◌, ◌⊎◌, ◌||◌, ◌∷◌, ◌++◌}
-use Rattle.section_work.proofs.Terms.{ℕ, inl, inr, Bool, true, List, [], length, suc, take, refl, sym, ap, ◌∙◌, subst, arith, nat_tests, State}
+use Rattle.section_work.proofs.Terms.{ℕ, inl, inr, Bool, true, List, [], length, take, refl, sym, ap, ◌∙◌, subst, arith, nat_tests, State}
 use Rattle.section_work.proofs.Terms.{Writes, written, touches, state_after, state_at, Drifts, Seat, InSection, Holds, IsWorn, IsSeat, snapshot_of, state_of}
 use Rattle.section_work.proofs.Terms.{state_of_time, commit_exchanges, IsOneLost, call_trail, Continues, IsAsBefore, GoesOn, Prepares, EntersAs, Leaves}
 use Rattle.section_work.proofs.Terms.{Commits, Overtakes, commit_by, snapshot_of-goes_on, Continues-Continues, GoesOn-GoesOn, length-seen, touches-append}
-use Rattle.section_work.proofs.Terms.{state_at-later, objects_of, RefusesWith, count_unheld, HasRoom, Refusal}
+use Rattle.section_work.proofs.Terms.{state_at-later, RefusesWith, HasSpace, Refusal}
 use Rattle.section_work.specs.declared.causes.Cause.{Cause}
 use Rattle.section_work.specs.declared.causes.Cause.TheVariants.{Lock, Rival}
 use Rattle.section_work.specs.Causes.{Causes}
 use Rattle.section_work.specs.Sections.{IsEntered}
 use Rattle.section_work.proofs.Entering.{reads_snapshot}
 use Rattle.section_work.specs.Works.{Meaning, IsChange}
-use Rattle.section_work.specs.Attempts.{IsDoneAt, IsReadAt, IsWhy, GivesUp, HasSpace, NotedOnce}
+use Rattle.section_work.specs.Attempts.{IsDoneAt, IsReadAt, IsWhy, GivesUp, NotedOnce}
 use Rattle.section_work.specs.Steps.{IsPrepared, Follows, IsStepped, Looks, LeavesAt}
 use Rattle.section_work.specs.declared.attempting.Attempt.{Attempt}
 
--- a section that holds nothing has room for so many objects
-pub count_new : (os : List ℕ) → count_unheld [] os ≡ length os
-count_new [] = refl
-count_new (o ∷ os) = let more = count_new os in omega arith
-
-pub length_objects : (ws : Writes) → length (objects_of ws) ≡ length ws
-length_objects [] = refl
-length_objects (w ∷ ws) = ap suc (length_objects ws)
-
-pub room_for : (most : ℕ) (s : InSection) (ws : Writes) → HasSpace most s → length ws ≤ most → HasRoom s (objects_of ws)
-room_for most s ws h le =
-    let new : count_unheld s.own (objects_of ws) ≡ length ws =
-    ap (λ (own : Writes). count_unheld own (objects_of ws)) h.own ∙ count_new (objects_of ws) ∙ length_objects ws in
-    let none : length s.own ≡ 0 = ap length h.own in
-    record { spare = omega (arith, h.spare, le, new); held = omega (arith, h.held, le, new, none) }
+-- what has room for more has it for fewer
+pub space_less : {most less : ℕ} {s : InSection} → HasSpace most s → less ≤ most → HasSpace less s
+space_less {most} {less} {s} h le = record { own = h.own; spare = omega (arith, h.spare, le); held = omega (arith, h.held, le) }
 
 -- `prepare` made room, or found a holder
 prepared_by : (k : Causes) (old new : Seat) (room : Room) → Prepares old new → (room ≡ Enough → new.write_max ≤ new.spare)

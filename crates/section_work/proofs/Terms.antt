@@ -2,8 +2,9 @@
 pub use Rattle.std.proofs.Common.{◌≡◌, ℕ, ◌+◌, ◌≤◌, ◌==◌, true, [], length, ap, arith, Bool, false, cond, List, ◌∷◌, ◌++◌, refl, sym, ◌∙◌, true≢false}
 pub use Rattle.std.proofs.Common.{length-append, ◌≢◌, suc, ◌<◌, eqb, not, ◌||◌, get_or, take, drop, append_assoc, take-suc, set, subst, Result, Ok, Err, ◌⊎◌}
 pub use Rattle.std.proofs.Common.{inl, inr, eq-eqb, eqb-true, ◌-◌, append-nil, length-set, get_or-set_same, get_or-set_other}
+pub use Rattle.std.proofs.Math.Bool.{or_assoc, or-false, or-true}
 pub use Rattle.std.proofs.lemmas.Bool.Decides.{nat_tests}
-pub use Rattle.std.proofs.lemmas.List.{take-append-drop, take_all, take_more, set-get_or, get_or_past}
+pub use Rattle.std.proofs.lemmas.List.{take-append-drop, length-take-le, take_all, take_more, set-get_or, get_or_past}
 pub use Rattle.std.proofs.lemmas.Bool.{not-true, and_parts, cases_eq, cases_lt, false_from_ne_true}
 pub use Rattle.mv_history.specs.State.{written, State, Writes, touches, rewritten, state_after, state_at}
 pub use Rattle.mv_history.specs.Meaning.{Seat, InSection, IsWorn, snapshot_of, state_of, words_at, Holds, Lacks, IsSeat, state_of_time}
@@ -16,11 +17,11 @@ pub use Rattle.mv_history.specs.Legal.{are_distinct, AreWithin}
 pub use Rattle.mv_history.proofs.Writing.{touches-append, written-append, touches_at, touches-rewritten, are_distinct-push, are_distinct-rewritten}
 pub use Rattle.mv_history.proofs.Writing.{length-written}
 pub use Rattle.mv_history.specs.CallLaws.{GoesOn-itself, Continues-itself}
-pub use Rattle.mv_history.proofs.Holding.{state_of-as_before, state_of-rewrites, written-rewritten}
+pub use Rattle.mv_history.proofs.Holding.{state_of-as_before, state_of-rewrites, written-rewritten, rewritten-last}
 pub use Rattle.mv_history.proofs.Snapshots.{snapshot_of-goes_on}
 pub use Rattle.mv_history.specs.Drift.{Drifts, IsFit}
 pub use Rattle.section_work.specs.Sections.{TriesOne}
 pub use Rattle.section_work.specs.OwnWrites.{with_lock, with_locks, with_writes, objects_of}
-pub use Rattle.section_work.specs.Held.{count_unheld, HasRoom, HoldsMore}
+pub use Rattle.section_work.specs.Held.{count_unheld, HasSpace, HasRoom, HoldsMore}
 pub use Rattle.section_work.specs.Locking.{Rewritten, IsRefused, Refuses, RefusesWith, Stops}
 pub use Rattle.section_work.specs.declared.causes.Refusal.{Refusal}

@@ -96,12 +96,6 @@ module _ {R : Type 0} (k : Causes) (m : Meaning R) where
   Attempted old new (Done reply (Read time)) = IsReadAt old new reply time
   Attempted old new (Again cause) = GivesUp old new cause
 
--- the section holds nothing, and may hold so many objects
-pub record HasSpace (most : ℕ) (s : InSection) : Type 0 where
-  pub own : s.own ≡ []
-  pub spare : most ≤ s.seat.spare
-  pub held : most ≤ s.seat.write_max
-
 -- one look did this to what is remembered, into the state of a time that came in the call
 pub record NotedOnce {Memo : Type 0} (notes : Memo → Memo → State → Type 0) (old new : Seat) (before after : Memo) : Type 0 where
   pub at : ℕ

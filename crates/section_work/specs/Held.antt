@@ -7,6 +7,12 @@ abbrev pub count_unheld : Writes → List ℕ → ℕ
 count_unheld own [] = 0
 count_unheld own (o ∷ os) = (if touches own o then 0 else 1) + count_unheld own os
 
+-- the section holds nothing, and may hold so many objects
+pub record HasSpace (most : ℕ) (s : InSection) : Type 0 where
+  pub own : s.own ≡ []
+  pub spare : most ≤ s.seat.spare
+  pub held : most ≤ s.seat.write_max
+
 -- the section may hold these objects too
 pub record HasRoom (s : InSection) (objects : List ℕ) : Type 0 where
   pub spare : count_unheld s.own objects ≤ s.seat.spare

@@ -2,15 +2,14 @@ use Rattle.std.proofs.Common.{◌-◌, ℕ, List, inl, inr, refl, sym, subst, �
 use Rattle.section_work.proofs.Terms.{Seat, Commits, Continues-Continues, GoesOn-GoesOn, TriesOne, AreWithin, length-written}
 use Rattle.section_work.proofs.Exchanges.{leaves_none, leave_none, left_one, one_before, one_after, looks_in}
 use Rattle.section_work.proofs.Entering.{worn_left}
-use Rattle.section_work.proofs.Outcomes.{room_for, change_as, left_as, leaves_at, noted_in, read_in, worn_time, worn_settled, stopped_in, overtaken_in, done_in}
+use Rattle.section_work.proofs.Outcomes.{space_less, change_as, left_as, leaves_at, noted_in, read_in, worn_time, worn_settled, stopped_in, overtaken_in, done_in}
 use Rattle.section_work.proofs.attempting.commit.Goals as goal
 
 pub hold_planned-requires : goal.hold_planned-requires
 hold_planned-requires g c = let p = (change_as c.writes.ensures c.requires.change).planned in record {
-  none = c.requires.space.own;
+  space = space_less c.requires.space p.few;
   distinct = p.distinct;
   within = subst (λ (n : ℕ). AreWithin c.writes.result.now n) (sym (length-written _ (g.S.Open.Section.section c.args.section).own)) p.within;
-  room = room_for _ _ _ c.requires.space p.few;
 }
 
 pub try_commit-requires : goal.try_commit-requires

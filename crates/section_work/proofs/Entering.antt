@@ -1,6 +1,5 @@
 -- What a section reads that holds nothing, and seats at the last time.
-use Rattle.section_work.proofs.Terms.{◌≡◌, ◌+◌, ◌≤◌, [], length, ap, written, Seat, InSection, IsWorn, snapshot_of, state_of, IsAsBefore, Leaves}
-use Rattle.section_work.proofs.Terms.{IsWorn-later}
+use Rattle.section_work.proofs.Terms.{◌≡◌, ◌+◌, ◌≤◌, [], length, ap, written, Seat, InSection, IsWorn, snapshot_of, state_of, IsAsBefore, Leaves, IsWorn-later}
 
 -- a section that holds nothing reads its snapshot
 pub reads_snapshot : (s : InSection) → s.own ≡ [] → state_of s ≡ snapshot_of s

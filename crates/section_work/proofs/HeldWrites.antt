@@ -1,7 +1,7 @@
 -- The writes of a section, after locks and writes.
-use Rattle.std.proofs.Common.{◌≡◌, ◌+◌, ◌<◌, ◌||◌, ◌∷◌, ◌++◌, ℕ, suc, Bool, true, false, cond, eqb, not, List, [], length, get_or, take, drop, refl, sym}
-use Rattle.section_work.proofs.Terms.{ap, ◌∙◌, arith, length-append, append_assoc, take-suc, take-append-drop, not-true, and_parts, nat_tests, State, Writes}
-use Rattle.section_work.proofs.Terms.{touches, rewritten, are_distinct, words_at, with_lock, with_locks, with_writes, objects_of, count_unheld}
+use Rattle.section_work.proofs.Terms.{◌≡◌, ◌+◌, ◌<◌, ◌||◌, ◌∷◌, ◌++◌, ℕ, suc, Bool, true, false, cond, eqb, not, List, [], length, get_or, take, drop, refl}
+use Rattle.section_work.proofs.Terms.{sym, ap, ◌∙◌, arith, length-append, append_assoc, take-suc, take-append-drop, not-true, and_parts, nat_tests, State}
+use Rattle.section_work.proofs.Terms.{Writes, touches, rewritten, are_distinct, words_at, with_lock, with_locks, with_writes, objects_of, count_unheld}
 use Rattle.section_work.proofs.Terms.{or_assoc, or-false, subst}
 use Rattle.section_work.proofs.OwnWrites.{distinct_parts}
 pub use Rattle.section_work.proofs.OwnWrites.{touches-with_lock, touches-with_writes}

@@ -1,10 +1,10 @@
 -- What a section's locks and writes do, one after another.
 use Rattle.std.specs.Result.{IsErrAnd, IfErr}
-use Rattle.section_work.proofs.Terms.{◌≡◌, ◌+◌, ◌<◌, ◌≤◌, ◌||◌, ◌∷◌, ℕ, suc, Bool, true, List, [], length, get_or, take, drop, set, refl, sym, ap, ◌∙◌}
-use Rattle.section_work.proofs.Terms.{subst, arith, or-true, Result, Ok, Err, take_all, take_more, State, Writes, written, touches, rewritten, are_distinct}
-use Rattle.section_work.proofs.Terms.{AreWithin, InSection, snapshot_of, state_of, GoesOn, Rewrites, GoesOn-itself, written-append, touches_at, GoesOn-GoesOn}
-use Rattle.section_work.proofs.Terms.{state_of-as_before, state_of-rewrites, snapshot_of-goes_on, with_lock, with_locks, objects_of, count_unheld}
-use Rattle.section_work.proofs.Terms.{HasRoom, HoldsMore, Rewritten, IsRefused, Refuses, Refusal}
+use Rattle.section_work.proofs.Terms.{◌≡◌, ◌+◌, ◌<◌, ◌≤◌, ◌||◌, ◌∷◌, ℕ, suc, Bool, true, List, [], length, get_or, take, drop, set, refl, sym, ap, ◌∙◌, subst}
+use Rattle.section_work.proofs.Terms.{arith, or-true, Result, Ok, Err, take_all, take_more, State, Writes, written, touches, rewritten, are_distinct, AreWithin}
+use Rattle.section_work.proofs.Terms.{InSection, snapshot_of, state_of, GoesOn, Rewrites, GoesOn-itself, written-append, touches_at, GoesOn-GoesOn}
+use Rattle.section_work.proofs.Terms.{state_of-as_before, state_of-rewrites, snapshot_of-goes_on, with_lock, with_locks, objects_of, count_unheld, HasRoom}
+use Rattle.section_work.proofs.Terms.{HoldsMore, Rewritten, IsRefused, Refuses, Refusal}
 use Rattle.section_work.proofs.OwnWrites.{written-with_locks}
 use Rattle.section_work.proofs.HeldWrites.{touches-with_locks, touches-with_writes, length-with_locks, count-with_locks, objects_of-append, with_locks-push}
 use Rattle.section_work.proofs.HeldWrites.{with_writes-push, count-append, at_place, distinct_at}

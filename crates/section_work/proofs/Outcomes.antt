@@ -1,24 +1,19 @@
 -- What an attempt of a work leaves, from what its calls do.
-use Rattle.mv_history.specs.declared.answers.Holder.{Holder}
-use Rattle.mv_history.specs.declared.answers.Rival.{Rival as RivalEntry}
 use Rattle.mv_history.specs.declared.answers.Room.{Room}
 use Rattle.mv_history.specs.declared.answers.Room.TheVariants.{Enough, Short}
 use Rattle.mv_history.proofs.Committed.{before_is, after_is, allowed_there, drifts_there}
-use Rattle.std.proofs.Common.{◌≡◌, ◌+◌, ◌-◌, ◌<◌, ◌≤◌, ◌==◌, ◌⊎◌, ◌||◌, ◌∷◌, ◌++◌}
-use Rattle.section_work.proofs.Terms.{ℕ, inl, inr, Bool, true, List, [], length, take, refl, sym, ap, ◌∙◌, subst, arith, nat_tests, State}
-use Rattle.section_work.proofs.Terms.{Writes, written, touches, state_after, state_at, Drifts, Seat, InSection, Holds, IsWorn, IsSeat, snapshot_of, state_of}
-use Rattle.section_work.proofs.Terms.{state_of_time, commit_exchanges, IsOneLost, call_trail, Continues, IsAsBefore, GoesOn, Prepares, EntersAs, Leaves}
-use Rattle.section_work.proofs.Terms.{Commits, Overtakes, commit_by, snapshot_of-goes_on, Continues-Continues, GoesOn-GoesOn, length-seen, touches-append}
-use Rattle.section_work.proofs.Terms.{state_at-later, RefusesWith, HasSpace, Refusal}
-use Rattle.section_work.specs.declared.causes.Cause.{Cause}
-use Rattle.section_work.specs.declared.causes.Cause.TheVariants.{Lock, Rival}
+use Rattle.section_work.proofs.Terms.{◌≡◌, ◌+◌, ◌-◌, ◌<◌, ◌≤◌, ◌==◌, ◌⊎◌, ◌||◌, ◌∷◌, ◌++◌, ℕ, inl, inr, Bool, true, List, [], length, take, refl, sym, ap, ◌∙◌}
+use Rattle.section_work.proofs.Terms.{subst, arith, nat_tests, State, Writes, written, touches, state_after, state_at, Drifts, Seat, InSection, Holds, IsWorn}
+use Rattle.section_work.proofs.Terms.{IsSeat, snapshot_of, state_of, state_of_time, commit_exchanges, IsOneLost, call_trail, Continues, IsAsBefore, GoesOn}
+use Rattle.section_work.proofs.Terms.{Prepares, Enters, Leaves, Commits, Overtakes, commit_by, snapshot_of-goes_on, Continues-Continues, GoesOn-GoesOn}
+use Rattle.section_work.proofs.Terms.{length-seen, touches-append, state_at-later, RefusesWith, HasSpace, Refusal}
+use Rattle.section_work.specs.Terms.{Holder, RivalEntry, Cause, Lock, Rival, Attempt}
 use Rattle.section_work.specs.Causes.{Causes}
 use Rattle.section_work.specs.Sections.{IsEntered}
 use Rattle.section_work.proofs.Entering.{reads_snapshot}
 use Rattle.section_work.specs.Works.{Meaning, IsChange}
 use Rattle.section_work.specs.Attempts.{IsDoneAt, IsReadAt, IsWhy, GivesUp, NotedOnce}
 use Rattle.section_work.specs.Steps.{IsPrepared, Follows, IsStepped, Looks, LeavesAt}
-use Rattle.section_work.specs.declared.attempting.Attempt.{Attempt}
 
 -- what has room for more has it for fewer
 pub space_less : {most less : ℕ} {s : InSection} → HasSpace most s → less ≤ most → HasSpace less s
@@ -59,7 +54,7 @@ module _ {may_refuse : Type 0} {found_held : InSection → InSection → ℕ →
 -- What a look leaves that changes nothing, or a change that was given up.
 module _ {R : Type 0} (k : Causes) (m : Meaning R) where
   pub read_on : (old before : Seat) (entered found : InSection) (new : Seat) (s : State) (reply : R) (last : Bool) (time : ℕ)
-      → Continues old before → before.mine ≡ old.mine → EntersAs before entered → k.took before entered → entered.at ≤ length entered.seat.seen
+      → Continues old before → before.mine ≡ old.mine → Enters before entered → k.took before entered → entered.at ≤ length entered.seat.seen
       → IsAsBefore entered found → Continues found.seat new → new.mine ≡ found.seat.mine → s ≡ state_of entered → time ≡ entered.seat.base + entered.at
       → last ≡ (time == entered.seat.last) → m.settles s last reply → IsReadAt k m old new reply time
   read_on old before entered found new s reply last time came mine e took le same on still here at is settles =
@@ -78,7 +73,7 @@ module _ {R : Type 0} (k : Causes) (m : Meaning R) where
 
   -- where the section is then left
   pub read_at : (old before : Seat) (entered found : InSection) (new : Seat) (s : State) (reply : R) (last : Bool) (time : ℕ)
-      → Continues old before → before.mine ≡ old.mine → EntersAs before entered → k.took before entered → entered.at ≤ length entered.seat.seen
+      → Continues old before → before.mine ≡ old.mine → Enters before entered → k.took before entered → entered.at ≤ length entered.seat.seen
       → IsAsBefore entered found → Leaves found new → s ≡ state_of entered → time ≡ entered.seat.base + entered.at
       → last ≡ (time == entered.seat.last) → m.settles s last reply → IsReadAt k m old new reply time
   read_at old before entered found new s reply last time came mine e took le same left here at is settles =

@@ -1,10 +1,10 @@
 -- What a section's writes do, after more locks and more writes.
-use Rattle.std.proofs.Common.{◌≡◌, ◌≢◌, ◌<◌, ◌≤◌, ◌⊎◌, ◌||◌, ◌∷◌, ◌++◌, ℕ, inl, inr, Bool, true, false, cond, eqb, not, List, [], length, set, refl, sym, ap}
-use Rattle.section_work.proofs.Terms.{◌∙◌, arith, append_assoc, append-nil, length-set, get_or-set_same, get_or-set_other, set-get_or}
-use Rattle.section_work.proofs.Terms.{get_or_past, cases_eq, cases_lt, not-true, and_parts, nat_tests, State, Writes, written, touches, rewritten, are_distinct}
-use Rattle.section_work.proofs.Terms.{words_at, written-append, touches-append, touches-rewritten, are_distinct-push, are_distinct-rewritten, written-rewritten}
-use Rattle.section_work.proofs.Terms.{rewritten-last}
-use Rattle.section_work.proofs.Terms.{with_lock, with_locks, with_writes, objects_of}
+use Rattle.section_work.proofs.Terms.{◌≡◌, ◌≢◌, ◌⊎◌, ◌||◌, ◌∷◌, ◌++◌, ℕ, inl, inr, Bool, true, false, cond, eqb, not, List, [], length, set, refl}
+use Rattle.section_work.proofs.Terms.{sym, ap, ◌∙◌, arith, append_assoc, append-nil, length-set, set-get_or}
+use Rattle.section_work.proofs.Terms.{not-true, and_parts, nat_tests, State, Writes, written, touches, rewritten, are_distinct, words_at}
+use Rattle.section_work.proofs.Terms.{written-append, touches-append, touches-rewritten, are_distinct-push, are_distinct-rewritten, written-rewritten}
+use Rattle.section_work.proofs.Terms.{rewritten-last, with_lock, with_locks, with_writes, objects_of}
+use Rattle.std.proofs.lemmas.Grind.{common_steps}
 use Rattle.section_work.proofs.Objects.{IsIn}
 
 -- a lock with the words that the object has changes no state
@@ -24,11 +24,7 @@ written-with_locks s t own (x ∷ os) f =
     written-with_locks s t (with_lock t own x) os (λ o i. f o (inr i) ∙ ap (λ u. words_at u o) (sym e)) ∙ e
 
 pub touches-with_lock : (s : State) (own : Writes) (o p : ℕ) → touches (with_lock s own o) p ≡ touches own p || eqb o p
-touches-with_lock s own o p = go (touches own o) refl
-  where
-    go : (b : Bool) → touches own o ≡ b → touches (cond b own (own ++ (o, words_at s o) ∷ [])) p ≡ touches own p || eqb o p
-    go true e = grind (arith, nat_tests)
-    go false e = grind (arith, nat_tests, touches-append own ((o, words_at s o) ∷ []) p)
+touches-with_lock s own o p = grind (arith, nat_tests, touches-append own ((o, words_at s o) ∷ []) p)
 
 -- what was held is, and what was locked
 pub touches-with_locks : (s : State) (own : Writes) (os : List ℕ) (p : ℕ) → (touches own p ≡ true) ⊎ IsIn p os → touches (with_locks s own os) p ≡ true
@@ -67,21 +63,15 @@ written-with_writes s own (w ∷ ws) d f =
     written-with_writes s (rewritten own w.0 w.1) ws (are_distinct-rewritten own w.0 w.1 ∙ d) (λ o i. touches-rewritten own w.0 w.1 o ∙ f o (inr i))
     ∙ ap (λ u. written u ws) (written-rewritten s own w.0 w.1 d (f w.0 (inl refl)))
 
+set_as : (s t : State) (p o : ℕ) (words : List ℕ) → length s ≡ length t → words_at s o ≡ words_at t o → words_at (set s p words) o ≡ words_at (set t p words) o
+set_as s t p o words l e = grind (arith, common_steps)
+
 -- Where two states of one length agree on an object, they do after the same writes.
 pub words-written_as : (s t : State) (ws : Writes) (o : ℕ) → length s ≡ length t → words_at s o ≡ words_at t o
     → words_at (written s ws) o ≡ words_at (written t ws) o
 words-written_as s t [] o l e = e
 words-written_as s t (w ∷ ws) o l e =
-    words-written_as (set s w.0 w.1) (set t w.0 w.1) ws o (length-set s w.0 w.1 ∙ l ∙ sym (length-set t w.0 w.1)) (one (cases_eq o w.0) (cases_lt o (length s)))
-  where
-    one : (o ≡ w.0) ⊎ (o ≢ w.0) → (o < length s) ⊎ (length s ≤ o) → words_at (set s w.0 w.1) o ≡ words_at (set t w.0 w.1) o
-    one (inr n) _ = get_or-set_other s w.0 o w.1 [] n ∙ e ∙ sym (get_or-set_other t w.0 o w.1 [] n)
-    one (inl q) (inr ge) =
-        let a = length-set s w.0 w.1 in let b = length-set t w.0 w.1 in
-        get_or_past (set s w.0 w.1) o [] (omega arith) ∙ sym (get_or_past (set t w.0 w.1) o [] (omega arith))
-    one (inl q) (inl lt) =
-        ap (words_at (set s w.0 w.1)) q ∙ get_or-set_same s w.0 w.1 [] (omega arith) ∙ sym (get_or-set_same t w.0 w.1 [] (omega arith))
-        ∙ ap (words_at (set t w.0 w.1)) (sym q)
+    words-written_as (set s w.0 w.1) (set t w.0 w.1) ws o (length-set s w.0 w.1 ∙ l ∙ sym (length-set t w.0 w.1)) (set_as s t w.0 o w.1 l e)
 
 -- what comes before one of different objects differs, and from it
 pub distinct_parts : (xs ys : Writes) (x : ℕ × List ℕ) → are_distinct (xs ++ x ∷ ys) ≡ true → (are_distinct xs ≡ true) × (touches xs x.0 ≡ false)

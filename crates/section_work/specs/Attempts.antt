@@ -1,11 +1,9 @@
 -- What an attempt of a work leaves, by its answer.
 use Rattle.mv_history.specs.declared.history.Commit.{Commit}
 use Rattle.mv_history.specs.declared.history.Entry.TheVariants.{Change}
-use Rattle.std.specs.Prelude.{◌≡◌, ◌+◌, ◌-◌, ◌<◌, ◌≤◌, ◌⊎◌, ◌==◌, ◌∷◌, ◌++◌}
-use Rattle.section_work.specs.Terms.{ℕ, true, List, [], length, State, Writes, touches, state_at, Holder, Seat, InSection, Holds, snapshot_of, state_of_time}
-use Rattle.section_work.specs.Terms.{commit_exchanges, IsOneLost, call_trail, Continues, IsAsBefore, GoesOn, Prepares, Leaves, IsEntryAt, Overtakes, AtCommit}
-use Rattle.section_work.specs.Terms.{Read, Refusal, Lock, Rival, LogFull, Attempt, Done, Again}
-use Rattle.section_work.specs.declared.causes.Cause.{Cause}
+use Rattle.section_work.specs.Terms.{◌≡◌, ◌+◌, ◌-◌, ◌<◌, ◌≤◌, ◌⊎◌, ◌==◌, ◌∷◌, ◌++◌, ℕ, true, List, [], length, State, Writes, touches, state_at, Holder, Seat}
+use Rattle.section_work.specs.Terms.{InSection, Holds, snapshot_of, state_of_time, commit_exchanges, IsOneLost, call_trail, Continues, IsAsBefore, GoesOn}
+use Rattle.section_work.specs.Terms.{Prepares, Leaves, IsEntryAt, Overtakes, AtCommit, Read, Refusal, Lock, Rival, LogFull, Attempt, Done, Again, Cause}
 use Rattle.section_work.specs.Causes.{Causes}
 use Rattle.section_work.specs.Sections.{IsEntered}
 use Rattle.section_work.specs.Locking.{Stops}
@@ -95,6 +93,12 @@ module _ {R : Type 0} (k : Causes) (m : Meaning R) where
   Attempted old new (Done reply (AtCommit time)) = IsDoneAt old new reply time
   Attempted old new (Done reply (Read time)) = IsReadAt old new reply time
   Attempted old new (Again cause) = GivesUp old new cause
+
+-- the section holds nothing, and may hold so many objects
+pub record HasSpace (most : ℕ) (s : InSection) : Type 0 where
+  pub own : s.own ≡ []
+  pub spare : most ≤ s.seat.spare
+  pub held : most ≤ s.seat.write_max
 
 -- one look did this to what is remembered, into the state of a time that came in the call
 pub record NotedOnce {Memo : Type 0} (notes : Memo → Memo → State → Type 0) (old new : Seat) (before after : Memo) : Type 0 where

@@ -1,17 +1,10 @@
 -- What a section may hold, and what it holds after a call.
-use Rattle.std.specs.Prelude.{◌+◌, ◌≡◌, ◌≤◌, if◌then◌else◌, ◌∷◌}
-use Rattle.section_work.specs.Terms.{ℕ, List, [], length, Writes, touches, InSection, snapshot_of, GoesOn}
+use Rattle.section_work.specs.Terms.{◌+◌, ◌≡◌, ◌≤◌, if◌then◌else◌, ◌∷◌, ℕ, List, [], length, Writes, touches, InSection, snapshot_of, GoesOn}
 
 -- how many of these different objects are not held
 abbrev pub count_unheld : Writes → List ℕ → ℕ
 count_unheld own [] = 0
 count_unheld own (o ∷ os) = (if touches own o then 0 else 1) + count_unheld own os
-
--- the section holds nothing, and may hold so many objects
-pub record HasSpace (most : ℕ) (s : InSection) : Type 0 where
-  pub own : s.own ≡ []
-  pub spare : most ≤ s.seat.spare
-  pub held : most ≤ s.seat.write_max
 
 -- the section may hold these objects too
 pub record HasRoom (s : InSection) (objects : List ℕ) : Type 0 where

@@ -1,9 +1,6 @@
 -- Which calls of its store an attempt makes, one after another, by its answer.
-use Rattle.mv_history.specs.declared.answers.Rival.{Rival as RivalEntry}
-use Rattle.std.specs.Prelude.{◌≡◌, ◌+◌, ◌-◌, ◌<◌, ◌≤◌, ◌⊎◌}
-use Rattle.section_work.specs.Terms.{ℕ, List, length, Writes, Holder, Seat, InSection, IsWorn, call_trail, IsAsBefore, GoesOn, Prepares, Enters, Leaves, Commits}
-use Rattle.section_work.specs.Terms.{Overtakes, AtCommit, Read}
-use Rattle.section_work.specs.Terms.{Refusal, Lock, Rival, LogFull, Attempt, Done, Again}
+use Rattle.section_work.specs.Terms.{RivalEntry, ◌≡◌, ◌+◌, ◌-◌, ◌<◌, ◌≤◌, ◌⊎◌, ℕ, List, length, Writes, Holder, Seat, InSection, IsWorn, call_trail, IsAsBefore}
+use Rattle.section_work.specs.Terms.{GoesOn, Prepares, Enters, Leaves, Commits, Overtakes, AtCommit, Read, Refusal, Lock, Rival, LogFull, Attempt, Done, Again}
 use Rattle.section_work.specs.OwnWrites.{objects_of}
 use Rattle.section_work.specs.Locking.{Rewritten, RefusesWith}
 use Rattle.section_work.specs.Causes.{Causes}

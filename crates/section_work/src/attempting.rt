@@ -1,13 +1,10 @@
 // One work as one section of a store.
-ghost use Rattle.mv_history.specs.Calls.{Continues, Prepares};
-ghost use Rattle.std.specs.Prelude.{◌≡◌, ◌≢◌, ◌≤◌, ◌==◌};
 ghost use Rattle.section_work.specs.declared.work.Decision.TheVariants.{Settled, Change};
-ghost use Rattle.section_work.specs.Terms.{ℕ, State, Seat, snapshot_of};
-ghost use Rattle.section_work.specs.Held.{HasSpace};
+ghost use Rattle.section_work.specs.Terms.{◌≡◌, ◌≢◌, ◌≤◌, ◌==◌, ℕ, State, Seat, snapshot_of, Continues, Prepares};
 ghost use Rattle.section_work.specs.Sections.{TriesOne};
 ghost use Rattle.section_work.specs.Causes.{causes};
 ghost use Rattle.section_work.specs.Works.{IsFound, IsChange};
-ghost use Rattle.section_work.specs.Attempts.{Attempted, Noted, MayNote};
+ghost use Rattle.section_work.specs.Attempts.{Attempted, HasSpace, Noted, MayNote};
 ghost use Rattle.section_work.specs.Steps.{IsStepped, Follows, Looks};
 
 use crate::causes::Cause;

@@ -1,10 +1,9 @@
 // Locks and writes.
-ghost use Rattle.std.specs.Prelude.{◌≡◌, ◌<◌, true, [], ◌∷◌, length, OnOk, IfErr};
-ghost use Rattle.mv_history.specs.Legal.{are_distinct, AreWithin};
-ghost use Rattle.mv_history.specs.Meaning.{Lacks, state_of};
-ghost use Rattle.mv_history.specs.Calls.{GoesOn, LocksWith};
+ghost use Rattle.std.specs.Prelude.{OnOk, IfErr};
+ghost use Rattle.section_work.specs.Terms.{◌≡◌, ◌<◌, true, [], ◌∷◌, length, are_distinct, AreWithin, Lacks, state_of, GoesOn, LocksWith};
 ghost use Rattle.section_work.specs.OwnWrites.{objects_of, with_locks};
-ghost use Rattle.section_work.specs.Held.{HasRoom, HasSpace, HoldsMore};
+ghost use Rattle.section_work.specs.Held.{HasRoom, HoldsMore};
+ghost use Rattle.section_work.specs.Attempts.{HasSpace};
 ghost use Rattle.section_work.specs.Locking.{IsRefused, Refuses, RefusesWith, Rewritten};
 
 use crate::causes::Refusal;

@@ -62,15 +62,16 @@ module _ (a b : InSection) (changes : Writes) (i : ℕ) (d : ℕ × List ℕ) (l
 
   pub place_held : (c : InSection) → HoldsMore b c ((get_or changes i d).0 ∷ []) (with_locks (state_of b) b.own ((get_or changes i d).0 ∷ []))
       → HoldsMore a c (objects_of (take (i + 1) changes)) (with_locks (state_of a) a.own (objects_of (take (i + 1) changes)))
-  place_held c k = subst (λ (u : Writes). HoldsMore a c (objects_of u) (with_locks (state_of a) a.own (objects_of u))) (sym (take_more changes i d lt)) (record {
-    goes_on = GoesOn-GoesOn h.goes_on k.goes_on;
-    spare = omega (arith, h.spare, k.spare, count_b, count-append a.own (take i changes) (get_or changes i d ∷ []));
-    own =
-        k.own ∙ ap (λ (u : State). with_lock u b.own (get_or changes i d).0) (holds-state a b (objects_of (take i changes)) h)
-        ∙ ap (λ (u : Writes). with_lock (state_of a) u (get_or changes i d).0) h.own
-        ∙ sym (with_locks-push (state_of a) a.own (take i changes) (get_or changes i d));
-    snapshot = k.snapshot ∙ h.snapshot;
-  })
+  place_held c k =
+      let x : ℕ × List ℕ = get_or changes i d in
+      subst (λ (u : Writes). HoldsMore a c (objects_of u) (with_locks (state_of a) a.own (objects_of u))) (sym (take_more changes i d lt)) (record {
+        goes_on = GoesOn-GoesOn h.goes_on k.goes_on;
+        spare = omega (arith, h.spare, k.spare, count_b, count-append a.own (take i changes) (x ∷ []));
+        own =
+            k.own ∙ ap (λ (u : State). with_lock u b.own x.0) (holds-state a b (objects_of (take i changes)) h)
+            ∙ ap (λ (u : Writes). with_lock (state_of a) u x.0) h.own ∙ sym (with_locks-push (state_of a) a.own (take i changes) x);
+        snapshot = k.snapshot ∙ h.snapshot;
+      })
 
 pub writing_none : (a b : InSection) (changes : Writes) → HoldsMore a b (objects_of changes) (with_locks (state_of a) a.own (objects_of changes))
     → Rewritten a b (objects_of changes) []

@@ -1,6 +1,6 @@
 -- Which objects are written.
-use Rattle.section_work.proofs.Terms.{◌≡◌, ◌≢◌, ◌⊎◌, ◌||◌, ◌∷◌, ◌++◌, ℕ, List, inl, inr, Bool, true, false, eqb, [], sym, ap, ◌∙◌, arith, eq-eqb, eqb-true, refl}
-use Rattle.section_work.proofs.Terms.{true≢false, nat_tests, false_from_ne_true, Writes, touches, are_distinct, objects_of}
+use Rattle.section_work.proofs.Terms.{◌≡◌, ◌≢◌, ◌⊎◌, ◌||◌, ◌∷◌, ◌++◌, ℕ, List, inl, inr, Bool, true, false, eqb, [], sym, ap, ◌∙◌, arith, eq-eqb, eqb-true}
+use Rattle.section_work.proofs.Terms.{refl, true≢false, nat_tests, false_from_ne_true, Writes, touches, are_distinct, objects_of}
 
 -- the object is one of these, as a choice of one of them
 abbrev pub IsIn : ℕ → List ℕ → Type 0

@@ -1,8 +1,9 @@
 -- Objects are locked one after another in a section that held nothing, each with the words that are to be committed.
 use Rattle.section_work.proofs.Terms.{◌≡◌, ◌+◌, ◌<◌, ◌≤◌, ◌∷◌, ◌++◌, ℕ, suc, Bool, true, cond, List, [], length, get_or, take, drop, refl, sym, ap, ◌∙◌, subst}
-use Rattle.section_work.proofs.Terms.{arith, take_more, length-take-le, State, Writes, written, touches, are_distinct, AreWithin, InSection, snapshot_of, state_of}
-use Rattle.section_work.proofs.Terms.{Lacks, GoesOn, LocksWith, GoesOn-itself, length-written, touches_at, GoesOn-GoesOn, snapshot_of-goes_on, with_locks}
-use Rattle.section_work.proofs.Terms.{with_writes, objects_of, count_unheld, HasSpace, HasRoom, HoldsMore, Rewritten, IsRefused, RefusesWith, Refusal}
+use Rattle.section_work.proofs.Terms.{arith, take_more, length-take-le, State, Writes, written, touches, are_distinct, AreWithin, InSection, snapshot_of}
+use Rattle.section_work.proofs.Terms.{state_of, Lacks, GoesOn, LocksWith, GoesOn-itself, length-written, touches_at, GoesOn-GoesOn, snapshot_of-goes_on}
+use Rattle.section_work.proofs.Terms.{with_locks, with_writes, objects_of, count_unheld, HasSpace, HasRoom, HoldsMore, Rewritten, IsRefused, RefusesWith}
+use Rattle.section_work.proofs.Terms.{Refusal}
 use Rattle.section_work.proofs.OwnWrites.{own_from_none}
 use Rattle.section_work.proofs.HeldWrites.{count-append, at_place, distinct_at}
 use Rattle.section_work.proofs.Holding.{all_taken}

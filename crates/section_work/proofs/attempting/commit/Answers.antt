@@ -2,7 +2,8 @@ use Rattle.section_work.proofs.Terms.{◌-◌, ℕ, List, inl, inr, refl, sym, s
 use Rattle.section_work.proofs.Terms.{length-written}
 use Rattle.section_work.proofs.Exchanges.{leaves_none, leave_none, left_one, one_before, one_after, looks_in}
 use Rattle.section_work.proofs.Entering.{worn_left}
-use Rattle.section_work.proofs.Outcomes.{space_less, change_as, left_as, leaves_at, noted_in, read_in, worn_time, worn_settled, stopped_in, overtaken_in, done_in}
+use Rattle.section_work.proofs.Outcomes.{space_less, change_as, left_as, leaves_at, noted_in, read_in, worn_time, worn_settled, stopped_in, overtaken_in}
+use Rattle.section_work.proofs.Outcomes.{done_in}
 use Rattle.section_work.proofs.attempting.commit.Goals as goal
 
 pub hold_planned-requires : goal.hold_planned-requires

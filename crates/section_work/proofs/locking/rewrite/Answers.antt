@@ -1,6 +1,6 @@
 use Rattle.section_work.proofs.Terms.{Writes, state_of, objects_of, with_locks, HoldsMore, Rewritten}
-use Rattle.section_work.proofs.Holding.{holds_nothing, IfErr-told, writing_none, place_within, place_room, place_refused, place_held, place_touches, place_written}
-use Rattle.section_work.proofs.Holding.{all_taken}
+use Rattle.section_work.proofs.Holding.{holds_nothing, IfErr-told, writing_none, place_within, place_room, place_refused, place_held, place_touches}
+use Rattle.section_work.proofs.Holding.{place_written, all_taken}
 use Rattle.section_work.proofs.locking.rewrite.Goals as goal
 
 pub loop-lock-init : goal.loop-lock-init
@@ -15,7 +15,8 @@ hold-requires g c = record {
 pub returns-in_err-hold-clause-refused : goal.returns-in_err-hold-clause-refused
 returns-in_err-hold-clause-refused g c =
     IfErr-told _ _ _ c.from_residual.ensures.1
-    (place_refused _ _ _ _ _ c.loop-lock-test.true c.requires.distinct c.loop-lock.invariant _ _ _ _ (g.met.S.Section.lawful _).at c.in_err-hold.ensures.refused)
+    (place_refused _ _ _ _ _ c.loop-lock-test.true c.requires.distinct c.loop-lock.invariant _ _ _ _ (g.met.S.Section.lawful _).at
+    c.in_err-hold.ensures.refused)
 
 pub loop-lock-preserved : goal.loop-lock-preserved
 loop-lock-preserved g c = place_held _ _ _ _ _ c.loop-lock-test.true c.requires.distinct c.loop-lock.invariant _ c.in_ok-hold.ensures.held

@@ -2,10 +2,10 @@
 use Rattle.mv_history.specs.declared.trail.Step.{Step}
 use Rattle.mv_history.specs.declared.trail.StepKind.{StepKind}
 use Rattle.mv_history.specs.declared.trail.StepKind.TheVariants.{NameCommit}
-use Rattle.std.proofs.Common.{◌≡◌, ◌∷◌, ◌++◌}
-use Rattle.section_work.proofs.Terms.{Bool, true, false, cond, List, [], length, refl, sym, ap, ◌∙◌, arith, true≢false, length-append, is_commit_exchange}
-use Rattle.section_work.proofs.Terms.{is_clock_exchange, commit_exchanges, clock_exchanges, Seat, InSection, call_trail, Continues, GoesOn, Prepares, Enters}
-use Rattle.section_work.proofs.Terms.{Leaves, NamesNoCommit, TriesOne, Continues-Continues, NamesNoCommit-NamesNoCommit, commit_exchanges-call_trail}
+use Rattle.section_work.proofs.Terms.{◌≡◌, ◌∷◌, ◌++◌, true, List, [], length, refl, sym, ap, ◌∙◌, arith, nat_tests, true≢false, length-append}
+use Rattle.section_work.proofs.Terms.{is_commit_exchange, is_clock_exchange, commit_exchanges, clock_exchanges, Seat, InSection, call_trail, Continues, GoesOn}
+use Rattle.section_work.proofs.Terms.{Prepares, Enters, Leaves, NamesNoCommit, TriesOne, Continues-Continues, NamesNoCommit-NamesNoCommit}
+use Rattle.section_work.proofs.Terms.{commit_exchanges-call_trail}
 
 commit_is_clock : (k : StepKind) → is_commit_exchange k ≡ true → is_clock_exchange k ≡ true
 commit_is_clock NameCommit e = refl
@@ -14,13 +14,7 @@ commit_is_clock _ e = absurd (true≢false (sym e))
 -- where no exchange on CLOCK is made, none is for a commit
 none_for_commit : (steps : List Step) → clock_exchanges steps ≡ [] → commit_exchanges steps ≡ []
 none_for_commit [] e = refl
-none_for_commit (x ∷ xs) e = go (is_commit_exchange x.kind) refl (is_clock_exchange x.kind) refl e (none_for_commit xs)
-  where
-    go : (a : Bool) → is_commit_exchange x.kind ≡ a → (b : Bool) → is_clock_exchange x.kind ≡ b → cond b (x ∷ clock_exchanges xs) (clock_exchanges xs) ≡ []
-        → (clock_exchanges xs ≡ [] → commit_exchanges xs ≡ []) → cond a (x ∷ commit_exchanges xs) (commit_exchanges xs) ≡ []
-    go a p true q e r = absurd (cc)
-    go false p false q e r = r e
-    go true p false q e r = absurd (true≢false (sym (commit_is_clock x.kind p) ∙ q))
+none_for_commit (x ∷ xs) e = grind (arith, nat_tests, commit_is_clock x.kind, none_for_commit xs)
 
 pub leaves_none : (old : InSection) (new : Seat) → Leaves old new → NamesNoCommit old.seat new
 leaves_none old new l = none_for_commit (call_trail old.seat new) l.names_nothing
@@ -47,16 +41,14 @@ leave_none a found new p n l = NamesNoCommit-NamesNoCommit p l.continues n (leav
 pub left_one : {a : Seat} {found : InSection} {new : Seat} → Continues a found.seat → NamesNoCommit a found.seat → Leaves found new → TriesOne a new
 left_one {a} {found} {new} p n l = none_one a new (leave_none a found new p n l)
 
--- Room was made, a section entered and looked into: what was seen stays, and no commit was tried.
-pub record LooksIn (old : Seat) (found : InSection) : Type 0 where
-  pub continues : Continues old found.seat
-  pub quiet : NamesNoCommit old found.seat
-
-pub looks_in : {old prepared : Seat} {entered found : InSection} → Prepares old prepared → Enters prepared entered → GoesOn entered found → LooksIn old found
+-- room was made, and a section entered and only read
+pub looks_in : {old prepared : Seat} {entered found : InSection} → Prepares old prepared → Enters prepared entered → GoesOn entered found
+    → Prepares old found.seat
 looks_in {old} {prepared} {entered} {found} p e goes =
     let inside : Continues prepared found.seat = Continues-Continues e.seat.continues goes.continues in
     record {
       continues = Continues-Continues p.continues inside;
-      quiet = NamesNoCommit-NamesNoCommit p.continues inside p.names_no_commit
+      mine = goes.mine ∙ e.seat.mine ∙ p.mine;
+      names_no_commit = NamesNoCommit-NamesNoCommit p.continues inside p.names_no_commit
           (NamesNoCommit-NamesNoCommit e.seat.continues goes.continues e.names_no_commit goes.names_no_commit);
     }

@@ -1,19 +1,13 @@
 -- The writes of a section, after locks and writes.
-use Rattle.std.proofs.Common.{◌≡◌, ◌≢◌, ◌+◌, ◌<◌, ◌||◌, ◌∷◌, ◌++◌, ℕ, suc, Bool, true, false, cond, eqb, not, List, [], length, get_or, take, drop, refl, sym}
-use Rattle.section_work.proofs.Terms.{ap, ◌∙◌, arith, length-append, append_assoc, take-suc, take-append-drop, not-true, and_parts, nat_tests, State, Writes}
-use Rattle.section_work.proofs.Terms.{touches, rewritten, are_distinct, words_at, touches-append, with_lock, with_locks, with_writes, objects_of, count_unheld}
+use Rattle.section_work.proofs.Terms.{◌≡◌, ◌+◌, ◌<◌, ◌||◌, ◌∷◌, ◌++◌, ℕ, suc, Bool, true, false, cond, eqb, not, List, [], length, get_or, take, drop, refl}
+use Rattle.section_work.proofs.Terms.{sym, ap, ◌∙◌, arith, length-append, append_assoc, take-suc, take-append-drop, not-true, and_parts, nat_tests, State}
+use Rattle.section_work.proofs.Terms.{Writes, touches, rewritten, are_distinct, words_at, with_lock, with_locks, with_writes, objects_of, count_unheld}
+use Rattle.section_work.proofs.Terms.{or_assoc, or-false, subst}
+use Rattle.section_work.proofs.OwnWrites.{distinct_parts}
 pub use Rattle.section_work.proofs.OwnWrites.{touches-with_lock, touches-with_writes}
 
-or_assoc : (x y z : Bool) → (x || y) || z ≡ x || (y || z)
-or_assoc true y z = refl
-or_assoc false y z = refl
-
 pub touches-with_locks : (s : State) (own xs : Writes) (p : ℕ) → touches (with_locks s own (objects_of xs)) p ≡ touches own p || touches xs p
-touches-with_locks s own [] p = or_false (touches own p)
-  where
-    or_false : (x : Bool) → x ≡ x || false
-    or_false true = refl
-    or_false false = refl
+touches-with_locks s own [] p = sym (or-false (touches own p))
 touches-with_locks s own (x ∷ xs) p =
     touches-with_locks s (with_lock s own x.0) xs p ∙ ap (λ (b : Bool). b || touches xs p) (touches-with_lock s own x.0 p)
     ∙ or_assoc (touches own p) (eqb x.0 p) (touches xs p)
@@ -74,20 +68,7 @@ at_place ws i d lt =
     sym (take-append-drop (suc i) ws) ∙ ap (λ (u : Writes). u ++ drop (suc i) ws) (take-suc ws i d lt)
     ∙ append_assoc (take i ws) (get_or ws i d ∷ []) (drop (suc i) ws)
 
-pub distinct_front : (xs ys : Writes) → are_distinct (xs ++ ys) ≡ true → are_distinct xs ≡ true
-distinct_front [] ys d = refl
-distinct_front (x ∷ xs) ys d =
-    let parts = and_parts (not (touches (xs ++ ys) x.0)) (are_distinct (xs ++ ys)) d in
-    let r = distinct_front xs ys parts.1 in
-    let n : touches (xs ++ ys) x.0 ≡ false = not-true (touches (xs ++ ys) x.0) parts.0 in
-    let e = touches-append xs ys x.0 in
-    let m : touches xs x.0 ≡ false = grind (arith, nat_tests) in grind (arith, nat_tests)
-
-pub distinct_apart : (xs ys : Writes) (x : ℕ × List ℕ) → are_distinct (xs ++ x ∷ ys) ≡ true → touches xs x.0 ≡ false
-distinct_apart [] ys x d = refl
-distinct_apart (y ∷ xs) ys x d =
-    let parts = and_parts (not (touches (xs ++ x ∷ ys) y.0)) (are_distinct (xs ++ x ∷ ys)) d in
-    let r : touches xs x.0 ≡ false = distinct_apart xs ys x parts.1 in
-    let n : touches (xs ++ x ∷ ys) y.0 ≡ false = not-true (touches (xs ++ x ∷ ys) y.0) parts.0 in
-    let e = touches-append xs (x ∷ ys) y.0 in
-    let m : y.0 ≢ x.0 = grind (arith, nat_tests) in grind (arith, nat_tests)
+pub distinct_at : (ws : Writes) (i : ℕ) (d : ℕ × List ℕ) → i < length ws → are_distinct ws ≡ true
+    → (are_distinct (take i ws) ≡ true) × (touches (take i ws) (get_or ws i d).0 ≡ false)
+distinct_at ws i d lt distinct =
+    distinct_parts (take i ws) (drop (suc i) ws) (get_or ws i d) (subst (λ (u : Writes). are_distinct u ≡ true) (at_place ws i d lt) distinct)

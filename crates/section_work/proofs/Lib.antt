@@ -4,7 +4,6 @@ pub mod OwnWrites
 pub mod HeldWrites
 pub mod Holding
 pub mod Entering
-pub mod Stopping
 pub mod Exchanges
 pub mod Outcomes
 pub mod Planned

@@ -1,6 +1,6 @@
 -- Which objects are written.
-use Rattle.std.proofs.Common.{◌≡◌, ◌≢◌, ◌⊎◌, ◌||◌, ◌∷◌, ◌++◌, ℕ, List, inl, inr, Bool, true, false, eqb, [], refl, sym, ap, ◌∙◌, arith, eq-eqb, eqb-true}
-use Rattle.section_work.proofs.Terms.{true≢false, nat_tests, Writes, touches, are_distinct, objects_of}
+use Rattle.section_work.proofs.Terms.{◌≡◌, ◌≢◌, ◌⊎◌, ◌||◌, ◌∷◌, ◌++◌, ℕ, List, inl, inr, Bool, true, false, eqb, [], sym, ap, ◌∙◌, arith, eq-eqb, eqb-true}
+use Rattle.section_work.proofs.Terms.{refl, true≢false, nat_tests, false_from_ne_true, Writes, touches, are_distinct, objects_of}
 
 -- the object is one of these, as a choice of one of them
 abbrev pub IsIn : ℕ → List ℕ → Type 0
@@ -37,11 +37,7 @@ in-touches (w ∷ ws) o e = go (eqb w.0 o) refl (in-touches ws o) e
     go false q r f = inr (r f)
 
 pub touches-out : (ws : Writes) (o : ℕ) → (IsIn o (objects_of ws) → ⊥) → touches ws o ≡ false
-touches-out ws o n = go (touches ws o) refl
-  where
-    go : (b : Bool) → touches ws o ≡ b → b ≡ false
-    go true e = absurd (n (in-touches ws o e))
-    go false e = refl
+touches-out ws o n = false_from_ne_true (touches ws o) (λ e. n (in-touches ws o e))
 
 pub out-touches : (ws : Writes) (o : ℕ) → touches ws o ≡ false → IsIn o (objects_of ws) → ⊥
 out-touches ws o e i = true≢false (sym (touches-in ws o i) ∙ e)

@@ -1,9 +1,10 @@
 -- What a section's writes do, after more locks and more writes.
-use Rattle.std.proofs.Common.{◌≡◌, ◌≢◌, ◌<◌, ◌≤◌, ◌⊎◌, ◌||◌, ◌∷◌, ◌++◌, ℕ, inl, inr, Bool, true, false, cond, eqb, not, List, [], length, set, refl, sym, ap}
-use Rattle.section_work.proofs.Terms.{◌∙◌, arith, append_assoc, append-nil, length-set, true≢false, eq-eqb, get_or-set_same, get_or-set_other, set-get_or}
-use Rattle.section_work.proofs.Terms.{get_or_past, cases_eq, cases_lt, not-true, and_parts, nat_tests, State, Writes, written, touches, rewritten, are_distinct}
-use Rattle.section_work.proofs.Terms.{words_at, written-append, touches-append, touches-rewritten, are_distinct-push, are_distinct-rewritten, written-rewritten}
-use Rattle.section_work.proofs.Terms.{with_lock, with_locks, with_writes, objects_of}
+use Rattle.section_work.proofs.Terms.{◌≡◌, ◌≢◌, ◌⊎◌, ◌||◌, ◌∷◌, ◌++◌, ℕ, inl, inr, Bool, true, false, cond, eqb, not, List, [], length, set, refl}
+use Rattle.section_work.proofs.Terms.{sym, ap, ◌∙◌, arith, append_assoc, append-nil, length-set, set-get_or}
+use Rattle.section_work.proofs.Terms.{not-true, and_parts, nat_tests, State, Writes, written, touches, rewritten, are_distinct, words_at}
+use Rattle.section_work.proofs.Terms.{written-append, touches-append, touches-rewritten, are_distinct-push, are_distinct-rewritten, written-rewritten}
+use Rattle.section_work.proofs.Terms.{rewritten-last, with_lock, with_locks, with_writes, objects_of}
+use Rattle.std.proofs.lemmas.Grind.{common_steps}
 use Rattle.section_work.proofs.Objects.{IsIn}
 
 -- a lock with the words that the object has changes no state
@@ -23,11 +24,7 @@ written-with_locks s t own (x ∷ os) f =
     written-with_locks s t (with_lock t own x) os (λ o i. f o (inr i) ∙ ap (λ u. words_at u o) (sym e)) ∙ e
 
 pub touches-with_lock : (s : State) (own : Writes) (o p : ℕ) → touches (with_lock s own o) p ≡ touches own p || eqb o p
-touches-with_lock s own o p = go (touches own o) refl
-  where
-    go : (b : Bool) → touches own o ≡ b → touches (cond b own (own ++ (o, words_at s o) ∷ [])) p ≡ touches own p || eqb o p
-    go true e = grind (arith, nat_tests)
-    go false e = grind (arith, nat_tests, touches-append own ((o, words_at s o) ∷ []) p)
+touches-with_lock s own o p = grind (arith, nat_tests, touches-append own ((o, words_at s o) ∷ []) p)
 
 -- what was held is, and what was locked
 pub touches-with_locks : (s : State) (own : Writes) (os : List ℕ) (p : ℕ) → (touches own p ≡ true) ⊎ IsIn p os → touches (with_locks s own os) p ≡ true
@@ -66,65 +63,60 @@ written-with_writes s own (w ∷ ws) d f =
     written-with_writes s (rewritten own w.0 w.1) ws (are_distinct-rewritten own w.0 w.1 ∙ d) (λ o i. touches-rewritten own w.0 w.1 o ∙ f o (inr i))
     ∙ ap (λ u. written u ws) (written-rewritten s own w.0 w.1 d (f w.0 (inl refl)))
 
+set_as : (s t : State) (p o : ℕ) (words : List ℕ) → length s ≡ length t → words_at s o ≡ words_at t o → words_at (set s p words) o ≡ words_at (set t p words) o
+set_as s t p o words l e = grind (arith, common_steps)
+
 -- Where two states of one length agree on an object, they do after the same writes.
 pub words-written_as : (s t : State) (ws : Writes) (o : ℕ) → length s ≡ length t → words_at s o ≡ words_at t o
     → words_at (written s ws) o ≡ words_at (written t ws) o
 words-written_as s t [] o l e = e
 words-written_as s t (w ∷ ws) o l e =
-    words-written_as (set s w.0 w.1) (set t w.0 w.1) ws o (length-set s w.0 w.1 ∙ l ∙ sym (length-set t w.0 w.1)) (one (cases_eq o w.0) (cases_lt o (length s)))
+    words-written_as (set s w.0 w.1) (set t w.0 w.1) ws o (length-set s w.0 w.1 ∙ l ∙ sym (length-set t w.0 w.1)) (set_as s t w.0 o w.1 l e)
+
+-- what comes before one of different objects differs, and from it
+pub distinct_parts : (xs ys : Writes) (x : ℕ × List ℕ) → are_distinct (xs ++ x ∷ ys) ≡ true → (are_distinct xs ≡ true) × (touches xs x.0 ≡ false)
+distinct_parts [] ys x d = (refl, refl)
+distinct_parts (y ∷ xs) ys x d =
+    let parts = and_parts (not (touches (xs ++ x ∷ ys) y.0)) (are_distinct (xs ++ x ∷ ys)) d in
+    let r = distinct_parts xs ys x parts.1 in
+    let n : touches (xs ++ x ∷ ys) y.0 ≡ false = not-true (touches (xs ++ x ∷ ys) y.0) parts.0 in
+    let e = touches-append xs (x ∷ ys) y.0 in
+    let m : touches xs y.0 ≡ false = grind (arith, nat_tests) in
+    let o : y.0 ≢ x.0 = grind (arith, nat_tests) in
+    let front : are_distinct (y ∷ xs) ≡ true = grind (arith, nat_tests) in
+    let apart : touches (y ∷ xs) x.0 ≡ false = grind (arith, nat_tests) in (front, apart)
+
+rewritten-append : (xs ys : Writes) (o : ℕ) (words : List ℕ) → touches xs o ≡ true → rewritten (xs ++ ys) o words ≡ rewritten xs o words ++ ys
+rewritten-append [] ys o words t = absurd (cc)
+rewritten-append (x ∷ xs) ys o words t = grind (arith, nat_tests, rewritten-append xs ys o words)
+
+-- a held object may be written before others are locked
+rewritten-with_locks : (s : State) (own : Writes) (os : List ℕ) (o : ℕ) (words : List ℕ) → touches own o ≡ true
+    → rewritten (with_locks s own os) o words ≡ with_locks s (rewritten own o words) os
+rewritten-with_locks s own [] o words t = refl
+rewritten-with_locks s own (x ∷ os) o words t =
+    rewritten-with_locks s (with_lock s own x) os o words (touches-with_lock s own x o ∙ ap (λ b. b || eqb x o) t)
+    ∙ ap (λ u. with_locks s u os) (one (touches own x)
+    ∙ ap (λ (b : Bool). cond b (rewritten own o words) (rewritten own o words ++ (x, words_at s x) ∷ [])) (sym (touches-rewritten own o words x)))
   where
-    one : (o ≡ w.0) ⊎ (o ≢ w.0) → (o < length s) ⊎ (length s ≤ o) → words_at (set s w.0 w.1) o ≡ words_at (set t w.0 w.1) o
-    one (inr n) _ = get_or-set_other s w.0 o w.1 [] n ∙ e ∙ sym (get_or-set_other t w.0 o w.1 [] n)
-    one (inl q) (inr ge) =
-        let a = length-set s w.0 w.1 in let b = length-set t w.0 w.1 in
-        get_or_past (set s w.0 w.1) o [] (omega arith) ∙ sym (get_or_past (set t w.0 w.1) o [] (omega arith))
-    one (inl q) (inl lt) =
-        ap (words_at (set s w.0 w.1)) q ∙ get_or-set_same s w.0 w.1 [] (omega arith) ∙ sym (get_or-set_same t w.0 w.1 [] (omega arith))
-        ∙ ap (words_at (set t w.0 w.1)) (sym q)
+    one : (b : Bool) → rewritten (cond b own (own ++ (x, words_at s x) ∷ [])) o words
+        ≡ cond b (rewritten own o words) (rewritten own o words ++ (x, words_at s x) ∷ [])
+    one true = refl
+    one false = rewritten-append own ((x, words_at s x) ∷ []) o words t
 
--- the objects of writes, with the words of a state
-abbrev words_of : State → Writes → Writes
-words_of s [] = []
-words_of s (w ∷ ws) = (w.0, words_at s w.0) ∷ words_of s ws
-
--- nothing that the one writes is written by the other
-abbrev AreApartFrom : Writes → Writes → Type 0
-AreApartFrom own ws = (o : ℕ) → touches ws o ≡ true → touches own o ≡ false
-
-apart_step : (own ws : Writes) (w : ℕ × List ℕ) (words : List ℕ) → are_distinct (w ∷ ws) ≡ true → AreApartFrom own (w ∷ ws)
-    → AreApartFrom (own ++ (w.0, words) ∷ []) ws
-apart_step own ws w words d a o t =
-    let here : touches ws w.0 ≡ false = not-true (touches ws w.0) (and_parts (not (touches ws w.0)) (are_distinct ws) d).0 in
-    let more : touches (w ∷ ws) o ≡ true = grind (arith, nat_tests) in
-    let out : touches own o ≡ false = a o more in
-    let n : w.0 ≢ o = λ e. true≢false (sym t ∙ ap (touches ws) (sym e) ∙ here) in
-    touches-append own ((w.0, words) ∷ []) o ∙ grind (arith, nat_tests)
-
--- locks of objects that are not held
-locks-apart : (s : State) (own ws : Writes) → are_distinct ws ≡ true → AreApartFrom own ws → with_locks s own (objects_of ws) ≡ own ++ words_of s ws
-locks-apart s own [] d a = sym (append-nil own)
-locks-apart s own (w ∷ ws) d a =
-    let out : touches own w.0 ≡ false = a w.0 (ap (λ b. b || touches ws w.0) (eq-eqb w.0 w.0 refl)) in
-    let one : with_lock s own w.0 ≡ own ++ (w.0, words_at s w.0) ∷ [] = ap (λ (b : Bool). cond b own (own ++ (w.0, words_at s w.0) ∷ [])) out in
-    let rest : are_distinct ws ≡ true = (and_parts (not (touches ws w.0)) (are_distinct ws) d).1 in
-    ap (λ u. with_locks s u (objects_of ws)) one ∙ locks-apart s (own ++ (w.0, words_at s w.0) ∷ []) ws rest (apart_step own ws w (words_at s w.0) d a)
-    ∙ append_assoc own ((w.0, words_at s w.0) ∷ []) (words_of s ws)
-
-rewritten-behind : (front rest : Writes) (o : ℕ) (words new : List ℕ) → touches front o ≡ false
-    → rewritten (front ++ (o, words) ∷ rest) o new ≡ front ++ (o, new) ∷ rest
-rewritten-behind [] rest o words new out = ap (λ (b : Bool). cond b ((o, new) ∷ rest) ((o, words) ∷ rewritten rest o new)) (eq-eqb o o refl)
-rewritten-behind (x ∷ front) rest o words new out = grind (arith, nat_tests, rewritten-behind front rest o words new)
-
-writes-apart : (s : State) (front ws : Writes) → are_distinct ws ≡ true → AreApartFrom front ws → with_writes (front ++ words_of s ws) ws ≡ front ++ ws
-writes-apart s front [] d a = refl
-writes-apart s front (w ∷ ws) d a =
-    let out : touches front w.0 ≡ false = a w.0 (ap (λ b. b || touches ws w.0) (eq-eqb w.0 w.0 refl)) in
-    let one : rewritten (front ++ words_of s (w ∷ ws)) w.0 w.1 ≡ (front ++ w ∷ []) ++ words_of s ws =
-    rewritten-behind front (words_of s ws) w.0 (words_at s w.0) w.1 out ∙ sym (append_assoc front (w ∷ []) (words_of s ws)) in
-    let rest : are_distinct ws ≡ true = (and_parts (not (touches ws w.0)) (are_distinct ws) d).1 in
-    ap (λ u. with_writes u ws) one ∙ writes-apart s (front ++ w ∷ []) ws rest (apart_step front ws w w.1 d a) ∙ append_assoc front (w ∷ []) ws
+-- Different objects, locked and written behind others.
+own_behind : (s : State) (own ws : Writes) → are_distinct (own ++ ws) ≡ true → with_writes (with_locks s own (objects_of ws)) ws ≡ own ++ ws
+own_behind s own [] d = sym (append-nil own)
+own_behind s own (w ∷ ws) d =
+    let out : touches own w.0 ≡ false = (distinct_parts own ws w d).1 in
+    let lock : with_lock s own w.0 ≡ own ++ (w.0, words_at s w.0) ∷ [] = ap (λ (b : Bool). cond b own (own ++ (w.0, words_at s w.0) ∷ [])) out in
+    let held : touches (with_lock s own w.0) w.0 ≡ true = touches-with_lock s own w.0 w.0 ∙ grind (arith, nat_tests) in
+    let assoc : (own ++ w ∷ []) ++ ws ≡ own ++ w ∷ ws = append_assoc own (w ∷ []) ws in
+    ap (λ u. with_writes u ws) (rewritten-with_locks s (with_lock s own w.0) (objects_of ws) w.0 w.1 held
+    ∙ ap (λ u. with_locks s (rewritten u w.0 w.1) (objects_of ws)) lock
+    ∙ ap (λ u. with_locks s u (objects_of ws)) (rewritten-last own w.0 (words_at s w.0) w.1 out))
+    ∙ own_behind s (own ++ w ∷ []) ws (ap are_distinct assoc ∙ d) ∙ assoc
 
 -- Where nothing was held, the section holds exactly these writes.
 pub own_from_none : (s : State) (ws : Writes) → are_distinct ws ≡ true → with_writes (with_locks s [] (objects_of ws)) ws ≡ ws
-own_from_none s ws d =
-    ap (λ u. with_writes u ws) (locks-apart s [] ws d (λ o t. refl)) ∙ writes-apart s [] ws d (λ o t. refl)
+own_from_none s ws d = own_behind s [] ws d

@@ -1,11 +1,9 @@
 -- What an attempt of a work leaves, by its answer.
 use Rattle.mv_history.specs.declared.history.Commit.{Commit}
 use Rattle.mv_history.specs.declared.history.Entry.TheVariants.{Change}
-use Rattle.std.specs.Prelude.{◌≡◌, ◌+◌, ◌-◌, ◌<◌, ◌≤◌, ◌⊎◌, ◌==◌, ◌∷◌, ◌++◌}
-use Rattle.section_work.specs.Terms.{ℕ, true, List, [], length, State, Writes, touches, state_at, Holder, Seat, InSection, Holds, snapshot_of, state_of_time}
-use Rattle.section_work.specs.Terms.{commit_exchanges, IsOneLost, call_trail, Continues, IsAsBefore, GoesOn, Prepares, Leaves, IsEntryAt, Overtakes, AtCommit}
-use Rattle.section_work.specs.Terms.{Read, Refusal, Lock, Rival, LogFull, Attempt, Done, Again}
-use Rattle.section_work.specs.declared.causes.Cause.{Cause}
+use Rattle.section_work.specs.Terms.{◌≡◌, ◌+◌, ◌-◌, ◌<◌, ◌≤◌, ◌⊎◌, ◌==◌, ◌∷◌, ◌++◌, ℕ, true, List, [], length, State, Writes, touches, state_at, Holder, Seat}
+use Rattle.section_work.specs.Terms.{InSection, Holds, snapshot_of, state_of_time, commit_exchanges, IsOneLost, call_trail, Continues, IsAsBefore, GoesOn}
+use Rattle.section_work.specs.Terms.{Prepares, Leaves, IsEntryAt, Overtakes, AtCommit, Read, Refusal, Lock, Rival, LogFull, Attempt, Done, Again, Cause}
 use Rattle.section_work.specs.Causes.{Causes}
 use Rattle.section_work.specs.Sections.{IsEntered}
 use Rattle.section_work.specs.Locking.{Stops}
@@ -29,11 +27,6 @@ module _ {R : Type 0} (k : Causes) (m : Meaning R) where
     pub mine : new.mine ≡ old.mine ++ commit ∷ []
     pub plan : m.plans (state_at new.start new.seen commit.snapshot) commit.tag commit.writes reply
     pub makes : m.makes (state_of_time new (time - 1)) (state_of_time new time) reply
-
-  -- The section that a call had entered made that commit.
-  pub record IsDoneIn (entered : InSection) (new : Seat) (reply : R) (time : ℕ) : Type 0 where
-    pub done : IsDone entered.seat new reply time
-    pub snapshot : done.commit.snapshot ≡ entered.at
 
   -- The call entered a section from the old seat, and that section made that commit.
   pub record IsDoneAt (old new : Seat) (reply : R) (time : ℕ) : Type 0 where
@@ -83,12 +76,6 @@ module _ {R : Type 0} (k : Causes) (m : Meaning R) where
   IsWhy held_back entered new (Rival rival) = k.may_refuse × IsOvertaken entered new rival.seat rival.time
   IsWhy held_back entered new (LogFull holder) = k.may_refuse × held_back holder
 
-  -- The change was given up in a section that the call had entered, and this is why; no commit was made.
-  pub record GivesUpIn (entered : InSection) (new : Seat) (cause : Cause) : Type 0 where
-    pub continues : Continues entered.seat new
-    pub mine : new.mine ≡ entered.seat.mine
-    pub why : IsWhy (λ holder. ⊥) entered new cause
-
   -- The work would change something in the state of the section that the call entered, which is not at the last time; this is why it
   -- did not, and no commit was made.
   pub record GivesUp (old new : Seat) (cause : Cause) : Type 0 where
@@ -106,12 +93,6 @@ module _ {R : Type 0} (k : Causes) (m : Meaning R) where
   Attempted old new (Done reply (AtCommit time)) = IsDoneAt old new reply time
   Attempted old new (Done reply (Read time)) = IsReadAt old new reply time
   Attempted old new (Again cause) = GivesUp old new cause
-
-  -- the same, of a section that the call had entered
-  abbrev pub AttemptedIn : InSection → Seat → Attempt R → Type 0
-  AttemptedIn entered new (Done reply (AtCommit time)) = IsDoneIn entered new reply time
-  AttemptedIn entered new (Done reply (Read time)) = IsReadAt entered.seat new reply time
-  AttemptedIn entered new (Again cause) = GivesUpIn entered new cause
 
 -- the section holds nothing, and may hold so many objects
 pub record HasSpace (most : ℕ) (s : InSection) : Type 0 where

@@ -1,9 +1,6 @@
 -- Which calls of its store an attempt makes, one after another, by its answer.
-use Rattle.mv_history.specs.declared.answers.Rival.{Rival as RivalEntry}
-use Rattle.std.specs.Prelude.{◌≡◌, ◌+◌, ◌-◌, ◌<◌, ◌≤◌, ◌⊎◌}
-use Rattle.section_work.specs.Terms.{ℕ, List, length, Writes, Holder, Seat, InSection, IsWorn, call_trail, IsAsBefore, Prepares, Enters, Leaves, Commits}
-use Rattle.section_work.specs.Terms.{Overtakes, AtCommit, Read}
-use Rattle.section_work.specs.Terms.{Refusal, Lock, Rival, LogFull, Attempt, Done, Again}
+use Rattle.section_work.specs.Terms.{RivalEntry, ◌≡◌, ◌+◌, ◌-◌, ◌<◌, ◌≤◌, ◌⊎◌, ℕ, List, length, Writes, Holder, Seat, InSection, IsWorn, call_trail, IsAsBefore}
+use Rattle.section_work.specs.Terms.{GoesOn, Prepares, Enters, Leaves, Commits, Overtakes, AtCommit, Read, Refusal, Lock, Rival, LogFull, Attempt, Done, Again}
 use Rattle.section_work.specs.OwnWrites.{objects_of}
 use Rattle.section_work.specs.Locking.{Rewritten, RefusesWith}
 use Rattle.section_work.specs.Causes.{Causes}
@@ -20,6 +17,15 @@ module _ {Open : Type 0} (section : Open → InSection) (as_before : Open → Op
     pub enters : Enters before (section entered)
     pub took : k.took before (section entered)
     pub only_read : as_before entered found
+
+  -- one look from the seat: a section was entered, and then only read; this is its printed time
+  pub record Looks (before : Seat) (found : Open) (time : ℕ) : Type 0 where
+    pub entered : Open
+    pub into : LooksInto before entered found
+    pub at : (section entered).at ≤ length (section entered).seat.seen
+    pub same : IsAsBefore (section entered) (section found)
+    pub goes_on : GoesOn (section entered) (section found)
+    pub time_is : time ≡ (section entered).seat.base + (section entered).at
 
   -- it was left, as it was found; this is its printed time
   pub record LeavesAt (found : Open) (new : Seat) (time : ℕ) : Type 0 where

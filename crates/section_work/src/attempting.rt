@@ -1,12 +1,11 @@
 // One work as one section of a store.
-ghost use Rattle.mv_history.specs.Calls.{Continues, NamesNoCommit};
-ghost use Rattle.std.specs.Prelude.{◌≡◌, ◌≤◌};
-ghost use Rattle.section_work.specs.Terms.{true, State, state_of, IsWorn};
+ghost use Rattle.section_work.specs.declared.work.Decision.TheVariants.{Settled, Change};
+ghost use Rattle.section_work.specs.Terms.{◌≡◌, ◌≢◌, ◌≤◌, ◌==◌, ℕ, State, Seat, snapshot_of, Continues, Prepares};
 ghost use Rattle.section_work.specs.Sections.{TriesOne};
 ghost use Rattle.section_work.specs.Causes.{causes};
-ghost use Rattle.section_work.specs.Works.{IsFound, IsPlanned};
-ghost use Rattle.section_work.specs.Attempts.{Attempted, AttemptedIn, HasSpace, IsReadAt, Noted, MayNote};
-ghost use Rattle.section_work.specs.Steps.{IsStepped, Follows, LooksOnce};
+ghost use Rattle.section_work.specs.Works.{IsFound, IsChange};
+ghost use Rattle.section_work.specs.Attempts.{Attempted, HasSpace, Noted, MayNote};
+ghost use Rattle.section_work.specs.Steps.{IsStepped, Follows, Looks};
 
 use crate::causes::Cause;
 use crate::locking::hold_planned;
@@ -54,15 +53,7 @@ pub fn attempt_work<W: Work, S: Store<Rules = W::Rules>>(
 {
     let mut store = store;
     let room = store.prepare();
-    let section = store.enter();
-    let time = section.at();
-    let last = section.last();
-    let (section, found) = work.decide(memo, section, time);
-    if time == last {
-        let place = Place::Read(time);
-        let reply = late(work, found);
-        return (section.leave(), Attempt::Done { reply, place });
-    }
+    let (section, time, found) = look(store, work, memo);
     match found {
         Decision::Settled(reply) => {
             let place = Place::Read(time);
@@ -75,18 +66,52 @@ pub fn attempt_work<W: Work, S: Store<Rules = W::Rules>>(
     }
 }
 
-// The reply at the last time, where a change comes too late.
-fn late<W: Work>(work: &W, found: Decision<W::Reply, W::WriteSet>) -> W::Reply
-    ensures { (memo : W.Memo) (s : State) → IsFound W.Rules.allowed (W.means work.now) (W.tag_of work.now) (W.writes_of memo) s found
-        → (W.means work.now).settles s true result }
+// Enters a section and decides in it, as of its printed time. At the last time nothing is changed any more.
+fn look<W: Work, S: Store<Rules = W::Rules>>(
+    store: S,
+    work: &W,
+    memo: &mut W::Memo,
+) -> (S::Open, u64, Decision<W::Reply, W::WriteSet>)
+    requires accepts { W.accepts work.now }
+    requires knows { W.knows memo.old (S.seat_of store) }
+    ensures looks { let shows = causes S.Open.may_refuse S.Open.has_trail S.took S.holds_back S.Open.found_held S.Open.loaded in
+        Looks S.Open.section S.Open.as_before shows (S.seat_of store) result.0 result.1 }
+    ensures settled { (reply : W.Reply) → result.2 ≡ Settled reply →
+        (W.means work.now).settles (snapshot_of (S.Open.section result.0)) (result.1 == (S.Open.section result.0).seat.last) reply }
+    ensures change { (plan : W.WriteSet) (reply : W.Reply) → result.2 ≡ Change plan reply → IsChange W.Rules.allowed (W.means work.now)
+        (S.Open.section result.0) (W.tag_of work.now plan) (W.writes_of memo.new plan) reply }
+    ensures knows { W.knows memo.new (S.Open.section result.0).seat }
+    ensures notes { W.notes work.now memo.old memo.new (snapshot_of (S.Open.section result.0)) }
 {
+    let section = store.enter();
+    let time = section.at();
+    let last = section.last();
+    let (section, found) = work.decide(memo, section, time);
+    let found = in_time(work, found, time, last);
+    (section, time, found)
+}
+
+// What is found at this time, where at the last time a change comes too late.
+fn in_time<W: Work>(
+    work: &W,
+    found: Decision<W::Reply, W::WriteSet>,
+    time: u64,
+    last: u64,
+) -> Decision<W::Reply, W::WriteSet>
+    ensures settled { (memo : W.Memo) (s : State) (reply : W.Reply) → IsFound W.Rules.allowed (W.means work.now) (W.tag_of work.now) (W.writes_of memo) s found
+        → result ≡ Settled reply → (W.means work.now).settles s (time == last) reply }
+    ensures change { (plan : W.WriteSet) (reply : W.Reply) → result ≡ Change plan reply → (time ≢ last) × (found ≡ Change plan reply) }
+{
+    if time != last {
+        return found;
+    }
     match found {
-        Decision::Settled(reply) => reply,
-        Decision::Change { plan: _, reply } => work.at_last(reply),
+        Decision::Settled(reply) => Decision::Settled(reply),
+        Decision::Change { plan: _, reply } => Decision::Settled(work.at_last(reply)),
     }
 }
 
-// Locks what is planned, with its words, in a section that holds nothing, and commits it.
+// Locks what is planned, with its words, in a section that was only read, and commits it.
 fn commit<W: Work, S: Store<Rules = W::Rules>>(
     section: S::Open,
     work: &W,
@@ -94,17 +119,18 @@ fn commit<W: Work, S: Store<Rules = W::Rules>>(
     plan: W::WriteSet,
     reply: W::Reply,
 ) -> (S, Attempt<W::Reply>)
-    requires planned { IsPlanned W.Rules.allowed (W.means work.now) (state_of (S.Open.section section)) (W.tag_of work.now plan)
+    requires change { IsChange W.Rules.allowed (W.means work.now) (S.Open.section section) (W.tag_of work.now plan)
         (W.writes_of memo.old plan) reply }
     requires space { HasSpace (W.means work.now).most (S.Open.section section) }
     requires accepts { W.accepts work.now }
     requires knows { W.knows memo.old (S.Open.section section).seat }
     ensures attempted { let shows = causes S.Open.may_refuse S.Open.has_trail S.took S.holds_back S.Open.found_held S.Open.loaded in
-        AttemptedIn shows (W.means work.now) (S.Open.section section) (S.seat_of result.0) result.1 }
+        (old before : Seat) (time : ℕ) → Prepares old before → Looks S.Open.section S.Open.as_before shows before section time →
+        Attempted shows (W.means work.now) old (S.seat_of result.0) result.1 }
     ensures continues { Continues (S.Open.section section).seat (S.seat_of result.0) }
     ensures at_most_one { TriesOne (S.Open.section section).seat (S.seat_of result.0) }
     ensures knows { W.knows memo.new (S.seat_of result.0) }
-    ensures noted { MayNote (W.notes work.now) (S.Open.section section).seat (S.seat_of result.0) memo.old memo.new }
+    ensures noted { (old : Seat) → Continues old (S.Open.section section).seat → MayNote (W.notes work.now) old (S.seat_of result.0) memo.old memo.new }
     ensures follows { let shows = causes S.Open.may_refuse S.Open.has_trail S.took S.holds_back S.Open.found_held S.Open.loaded in
         Follows S.Open.section S.Open.as_before shows section (S.seat_of result.0) result.1 }
 {
@@ -121,35 +147,14 @@ fn commit<W: Work, S: Store<Rules = W::Rules>>(
             (section.abort(), Attempt::Again(Cause::Rival(rival)))
         }
         CommitAnswer::End(section) => {
-            let (store, reply, time) = look_at_last(section.abort(), work, memo);
+            // Its seat has no time left, so that a second look is settled.
+            let (section, time, found) = look(section.abort(), work, memo);
+            let Decision::Settled(reply) = found else {
+                unreachable!()
+            };
+            let store: S = section.leave();
             let place = Place::Read(time);
             (store, Attempt::Done { reply, place })
         }
     }
-}
-
-// Answers after the last time has been reached.
-fn look_at_last<W: Work, S: Store<Rules = W::Rules>>(
-    store: S,
-    work: &W,
-    memo: &mut W::Memo,
-) -> (S, W::Reply, u64)
-    requires worn { IsWorn (S.seat_of store) }
-    requires accepts { W.accepts work.now }
-    requires knows { W.knows memo.old (S.seat_of store) }
-    ensures read { let shows = causes S.Open.may_refuse S.Open.has_trail S.took S.holds_back S.Open.found_held S.Open.loaded in
-        IsReadAt shows (W.means work.now) (S.seat_of store) (S.seat_of result.0) result.1 result.2 }
-    ensures none { NamesNoCommit (S.seat_of store) (S.seat_of result.0) }
-    ensures continues { Continues (S.seat_of store) (S.seat_of result.0) }
-    ensures knows { W.knows memo.new (S.seat_of result.0) }
-    ensures noted { MayNote (W.notes work.now) (S.seat_of store) (S.seat_of result.0) memo.old memo.new }
-    ensures looks { let shows = causes S.Open.may_refuse S.Open.has_trail S.took S.holds_back S.Open.found_held S.Open.loaded in
-        LooksOnce S.Open.section S.Open.as_before shows (S.seat_of store) (S.seat_of result.0) result.2 }
-    ensures last { result.2 ≡ (S.seat_of result.0).last }
-{
-    let section = store.enter();
-    let time = section.at();
-    let (section, found) = work.decide(memo, section, time);
-    let reply = late(work, found);
-    (section.leave(), reply, time)
 }

@@ -1,10 +1,9 @@
 // Locks and writes.
-ghost use Rattle.std.specs.Prelude.{◌≡◌, ◌<◌, true, [], ◌∷◌, length, OnOk, IfErr};
-ghost use Rattle.mv_history.specs.Legal.{are_distinct, AreWithin};
-ghost use Rattle.mv_history.specs.Meaning.{Lacks, state_of};
-ghost use Rattle.mv_history.specs.Calls.{GoesOn, LocksWith};
+ghost use Rattle.std.specs.Prelude.{OnOk, IfErr};
+ghost use Rattle.section_work.specs.Terms.{◌≡◌, ◌<◌, true, [], ◌∷◌, length, are_distinct, AreWithin, Lacks, state_of, GoesOn, LocksWith};
 ghost use Rattle.section_work.specs.OwnWrites.{objects_of, with_locks};
 ghost use Rattle.section_work.specs.Held.{HasRoom, HoldsMore};
+ghost use Rattle.section_work.specs.Attempts.{HasSpace};
 ghost use Rattle.section_work.specs.Locking.{IsRefused, Refuses, RefusesWith, Rewritten};
 
 use crate::causes::Refusal;
@@ -51,11 +50,11 @@ pub(crate) fn hold_planned<S: Section>(
     section: &mut S,
     changes: &[(u32, Words)],
 ) -> Result<(), Refusal>
-    requires none { (S.section section.old).own ≡ [] }
+    requires space { HasSpace (length changes.now) (S.section section.old) }
     requires distinct { are_distinct changes.now ≡ true }
     requires within { AreWithin changes.now (length (state_of (S.section section.old))) }
-    requires room { HasRoom (S.section section.old) (objects_of changes.now) }
     ensures held { OnOk result (Rewritten (S.section section.old) (S.section section.new) (objects_of changes.now) changes.now) }
+    ensures own { OnOk result ((S.section section.new).own ≡ changes.now) }
     ensures refused { IfErr result
         (λ refusal. RefusesWith S.may_refuse S.found_held (S.section section.old) (S.section section.new) changes.now refusal) }
 {

@@ -13,9 +13,7 @@ pub enum Decision<R, P> {
 ///
 /// It says what it reads as a reply, what it writes and what its commits mean. [`attempt_work`](crate::attempt_work) does the rest.
 pub trait Work {
-    ghost use Rattle.mv_history.specs.Drift.{Drifts};
-    ghost use Rattle.std.specs.Prelude.{◌≡◌};
-    ghost use Rattle.section_work.specs.Terms.{ℕ, true, List, State, Writes, written, Seat, InSection, Continues};
+    ghost use Rattle.section_work.specs.Terms.{◌≡◌, ℕ, true, List, State, Writes, written, Seat, InSection, Continues, Drifts};
     ghost use Rattle.section_work.specs.Works.{Meaning, IsFound, IsHere};
 
     /// The rules of the stores that it may be done in.

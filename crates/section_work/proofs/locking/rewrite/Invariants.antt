@@ -1,5 +1,4 @@
-use Rattle.section_work.proofs.Terms.{take, state_of, objects_of, with_locks, HoldsMore}
-use Rattle.section_work.proofs.Holding.{IsWriting}
+use Rattle.section_work.proofs.Terms.{take, state_of, objects_of, with_locks, HoldsMore, Rewritten}
 use Rattle.section_work.proofs.locking.rewrite.Given as goal
 
 abbrev pub invariant-loop-lock : goal.invariant-loop-lock
@@ -8,4 +7,5 @@ invariant-loop-lock g l =
     (with_locks (state_of (g.S.Section.section l.fn.section)) (g.S.Section.section l.fn.section).own (objects_of (take l.lock-index l.changes)))
 
 abbrev pub invariant-loop-change : goal.invariant-loop-change
-invariant-loop-change g l = IsWriting (g.S.Section.section l.fn.section) (g.S.Section.section l.section) l.changes (take l.change-index l.changes)
+invariant-loop-change g l =
+    Rewritten (g.S.Section.section l.fn.section) (g.S.Section.section l.section) (objects_of l.changes) (take l.change-index l.changes)

@@ -66,7 +66,9 @@ pub fn attempt_work<W: Work, S: Store<Rules = W::Rules>>(
     }
 }
 
-// Enters a section and decides in it, as of its printed time. At the last time nothing is changed any more.
+// Enters a section and decides in it, as of its printed time. At the last time nothing is changed any more. Inlined, so that
+// neither the section nor what is found is copied on its way out.
+#[inline(always)]
 fn look<W: Work, S: Store<Rules = W::Rules>>(
     store: S,
     work: &W,

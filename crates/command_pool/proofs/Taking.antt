@@ -6,14 +6,10 @@ use Rattle.std.proofs.lemmas.Option.{slice_get_within}
 use Rattle.script_workers.proofs.Runs.{chain_ran, chain_lines}
 use Rattle.command_pool.proofs.Terms.{◌≡◌, ◌-◌, ◌<◌, ◌∷◌, ◌++◌, ◌∙◌, ◌+◌, ◌≤◌, ◌==◌, flat_map, ℕ, zero, suc, List, [], length, map, All, Some, slice_get, refl, sym}
 use Rattle.command_pool.proofs.Terms.{ap, subst, arith, Vec, sum_by, sum_by-append, All-nil, All-cons, All-head, All-tail, Seat, Command, Place, Reply, Causes, Line}
-use Rattle.command_pool.proofs.Terms.{command_at, Answer, Chain, answered, HaveNumbers, line_of, row_of, LinkedDone, Serves, EachServed, view, IsPassOf, hand, Hand}
+use Rattle.command_pool.proofs.Terms.{command_at, Answer, Chain, answered, HaveNumbers, line_of, row_of, LinkedDone, Serves, EachServed, IsPassOf, hand, Hand}
 use Rattle.command_pool.proofs.Terms.{total_to, last_of, GaveTurn, HasEnded, AreTaken, PoolSource, QueueOf, IsBegun, IsLent, taken_of}
 use Rattle.command_pool.proofs.Terms.{lines_from, Took, TookLinked, EachSeat, PoolRan}
 use Rattle.command_pool.proofs.Sharing.{last_push}
-
--- a hand of one part is known by what it took
-pub hand_is : (v : Hand) (taken : List ℕ) → v ≡ hand 1 0 taken → v ≡ hand 1 0 v.taken
-hand_is v taken e = e ∙ ap (λ (w : Hand). hand 1 0 w.taken) (sym e)
 
 -- the command of a number, found at the place before it
 pub command_found : (commands : List Command) (number : ℕ) (command : Command) → 0 < number → slice_get commands (number - 1) ≡ Some command
@@ -90,10 +86,7 @@ module _ (k : Causes) {Q A : Type 0} (queue : QueueOf Q A) (commands : List Comm
       let e : HasEnded a b = subst (λ (c : PoolSource). HasEnded c b) h.1 ended in
       let now : taken_of b ≡ taken_of a ++ e.mark ∷ [] = ap (λ (v : Hand). v.taken) e.took.view_is in
       record {
-        lent = record {
-          pass = (e.took.pass.0 ∙ pass.0, e.took.pass.2 ∙ pass.1);
-          view_is = hand_is (view b.pass) (taken_of a ++ e.mark ∷ []) e.took.view_is;
-        };
+        lent = record { pass = (e.took.pass.0 ∙ pass.0, e.took.pass.2 ∙ pass.1); view_is = e.took.view_is ∙ ap (λ xs. hand 1 0 xs) (sym now) };
         mark = e.mark;
         beyond = subst (λ cs. length cs < e.mark) are e.beyond;
         took = λ f. omega (arith, ap (λ xs. sum_by f xs) now, sum_by_push f (taken_of a) e.mark);

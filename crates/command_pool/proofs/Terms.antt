@@ -13,7 +13,6 @@ pub use mathlib.Core.Option.{some, some-injective, some-ne-none}
 pub use lib.ListN.{get_elem?}
 pub use Rattle.command_pool.specs.Pool.{times_of, AreTaken, EachSeat, Took, TookLinked, PoolRan, lines_from}
 pub use Rattle.command_pool.specs.Queue.{total_to, last_of, hand, all_parts, AreFrom, IsHand, IsShared}
-pub use Rattle.command_pool.specs.Turns.{GaveTurn, HasEnded}
-pub use Rattle.command_pool.specs.Lending.{QueueOf, IsBegun, IsLent, taken_of}
+pub use Rattle.command_pool.specs.Turns.{QueueOf, IsBegun, IsLent, taken_of, GaveTurn, HasEnded}
 pub use Rattle.command_pool.specs.declared.queue.Hand.{Hand}
 pub use Rattle.command_pool.specs.declared.turns.PoolSource.{PoolSource}

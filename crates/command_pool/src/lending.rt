@@ -3,7 +3,7 @@ ghost use Rattle.std.specs.Prelude.{◌≡◌, ◌≤◌, ◌+◌, ◌-◌, [], 
 ghost use Rattle.std.specs.List.{flat_map};
 ghost use Rattle.crossbeam_queue.specs.Passes.{view, IsPassOf};
 ghost use Rattle.command_pool.specs.Queue.{hand, all_parts};
-ghost use Rattle.command_pool.specs.Lending.{IsBegun, IsLent, taken_of};
+ghost use Rattle.command_pool.specs.Turns.{IsBegun, IsLent, taken_of};
 
 use crate::queue::{Hand, Queue, WorkerPart};
 use crate::turns::PoolSource;

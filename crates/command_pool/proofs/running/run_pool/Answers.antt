@@ -23,16 +23,16 @@ learn_as-requires-clause-rule g c = learns _ _ c.take_back.ensures.whole
 -- there is room for the lines
 pub make_lines-requires-clause-room : goal.make_lines-requires-clause-room
 make_lines-requires-clause-room g c =
-    let done = pool_done _ _ _ _ _ _ _ _ c.share_out.ensures.begun c.in-Ok-run_sources.ensures.served in
     let some : 1 ≤ length (map g.S.Store.seat_of c.args.stores.items) = omega (arith, length-map c.args.stores.items g.S.Store.seat_of, c.requires.some) in
+    let done = pool_done _ _ _ _ _ _ _ _ c.share_out.ensures.begun c.in-Ok-run_sources.ensures.served in
     let ran = pool_ran _ _ _ _ _ _ _ _ some done c.take_back.ensures.taken c.learn_as.ensures.rule.1 in
     rw c.deref.ensures.value (omega (arith, ran.count, c.in-Ok.ensures.lines.1))
 
 -- each command was done once
 pub returns-in-Ok-run_sources : goal.returns-in-Ok-run_sources
 returns-in-Ok-run_sources g c =
-    let done = pool_done _ _ _ _ _ _ _ _ c.share_out.ensures.begun c.in-Ok-run_sources.ensures.served in
     let some : 1 ≤ length (map g.S.Store.seat_of c.args.stores.items) = omega (arith, length-map c.args.stores.items g.S.Store.seat_of, c.requires.some) in
+    let done = pool_done _ _ _ _ _ _ _ _ c.share_out.ensures.begun c.in-Ok-run_sources.ensures.served in
     let ran = pool_ran _ _ _ _ _ _ _ _ some done c.take_back.ensures.taken c.learn_as.ensures.rule.1 in
     record {
       pool = rw (c.make_lines.ensures, c.deref.ensures.value) ran;

@@ -18,7 +18,7 @@ returns-then-place-self-clause-taken g c =
       there.1,
       tt,
       record {
-        took = record { pass = took.pass; view_is = took.taken; commands = refl };
+        took = record { pass = took.pass; view_is = took.taken; commands = refl {a = commands} };
         later = took.later;
         there = command_found commands number there.0 (omega (arith, took.later)) there.1;
       },

@@ -1,4 +1,3 @@
 pub mod Terms
 pub mod Sharing
 pub mod Taking
-pub mod Gathering

@@ -1,4 +1,3 @@
 pub mod Pool
 pub mod Queue
 pub mod Turns
-pub mod Lending

@@ -1,7 +1,5 @@
 -- The queue of a pool: which numbers it holds, and what each pass has put in and taken.
-use Rattle.std.specs.Prelude.{◌≡◌, ℕ, zero, suc, ◌+◌, ◌<◌, ◌≤◌, List, [], ◌∷◌}
-use mathlib.Core.Option.{some}
-use lib.ListN.{get_elem?}
+use Rattle.std.specs.Prelude.{◌≡◌, ℕ, zero, suc, ◌+◌, ◌≤◌, List, [], ◌∷◌, length, sum_by, All, ⊤}
 use Rattle.command_pool.specs.declared.queue.Hand.{Hand}
 
 -- what a pass has: so many parts of the whole, so many numbers put in, and these taken
@@ -12,25 +10,15 @@ hand parts put taken = record { parts = parts; put = put; taken = taken }
 abbrev pub all_parts : ℕ
 all_parts = 9
 
--- the values at the elements of a list, added up
-abbrev pub total : {A : Type 0} → (A → ℕ) → List A → ℕ
-total f [] = 0
-total f (x ∷ xs) = f x + total f xs
-
 -- the values at the numbers from 1 to this one, added up
 abbrev pub total_to : (ℕ → ℕ) → ℕ → ℕ
 total_to f zero = 0
 total_to f (suc n) = total_to f n + f (suc n)
 
--- so many numbers, one after another from this one on
-abbrev pub numbers_from : ℕ → ℕ → List ℕ
-numbers_from first zero = []
-numbers_from first (suc count) = first ∷ numbers_from (suc first) count
-
--- the numbers rise, all above the one and none above the other
-abbrev pub IsRising : ℕ → List ℕ → ℕ → Type 0
-IsRising low [] high = low ≤ high
-IsRising low (x ∷ xs) high = (low < x) × IsRising x xs high
+-- the numbers follow one another from this one on
+abbrev pub AreFrom : ℕ → List ℕ → Type 0
+AreFrom first [] = ⊤
+AreFrom first (x ∷ xs) = (x ≡ first) × AreFrom (suc first) xs
 
 -- the last of the numbers, or 0
 abbrev pub last_of : List ℕ → ℕ
@@ -38,24 +26,22 @@ last_of [] = 0
 last_of (x ∷ []) = x
 last_of (x ∷ y ∷ xs) = last_of (y ∷ xs)
 
--- it holds of each view
-abbrev pub EachView : (Hand → Type 0) → List Hand → Type 0
-EachView F views = (port : ℕ) (v : Hand) → get_elem? views port ≡ some v → F v
+-- The last number that a pass took is not above this one, and with no part it has put nothing in and taken nothing.
+pub record IsHand (done : ℕ) (v : Hand) : Type 0 where
+  pub low : last_of v.taken ≤ done
+  pub idle : v.parts ≡ 0 → (v.put ≡ 0) × (v.taken ≡ [])
 
 -- The rule of the queue, of what it holds and of what each pass has.
 pub record IsShared (items : List ℕ) (views : List Hand) : Type 0 where
-  -- the last number that was taken, and how many the queue holds
+  -- the last number that was taken
   pub done : ℕ
-  pub left : ℕ
   -- it holds the numbers that follow
-  pub items_are : items ≡ numbers_from (suc done) left
+  pub items_are : AreFrom (suc done) items
   -- no part of the whole is lost
-  pub whole : total (λ (v : Hand). v.parts) views ≡ all_parts
+  pub whole : sum_by (λ (v : Hand). v.parts) views ≡ all_parts
   -- as many were put in as were taken and are held
-  pub put : total (λ (v : Hand). v.put) views ≡ done + left
+  pub put : sum_by (λ (v : Hand). v.put) views ≡ done + length items
   -- each number up to the last one was taken once, and no other
-  pub once : (f : ℕ → ℕ) → total (λ (v : Hand). total f v.taken) views ≡ total_to f done
-  -- what a pass took that puts nothing in rises
-  pub rising : EachView (λ v. v.put ≡ 0 → IsRising 0 v.taken done) views
-  -- a pass with no part has put nothing in and taken nothing
-  pub idle : EachView (λ v. v.parts ≡ 0 → (v.put ≡ 0) × (v.taken ≡ [])) views
+  pub once : (f : ℕ → ℕ) → sum_by (λ (v : Hand). sum_by f v.taken) views ≡ total_to f done
+  -- so each pass has what it may have
+  pub each : All (IsHand done) views

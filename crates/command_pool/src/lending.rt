@@ -3,7 +3,7 @@ ghost use Rattle.std.specs.Prelude.{◌≡◌, ◌≤◌, ◌+◌, ◌-◌, [], 
 ghost use Rattle.std.specs.List.{flat_map};
 ghost use Rattle.crossbeam_queue.specs.Passes.{view, IsPassOf};
 ghost use Rattle.command_pool.specs.Queue.{hand, all_parts};
-ghost use Rattle.command_pool.specs.Lending.{IsBegun, IsLent, taken_of};
+ghost use Rattle.command_pool.specs.Turns.{IsBegun, IsLent, taken_of};
 
 use crate::queue::{Hand, Queue, WorkerPart};
 use crate::turns::PoolSource;
@@ -20,7 +20,7 @@ pub(crate) fn share_out<'s>(
     turns: &mut Vec<PoolSource<'s>>,
 )
     requires pass { IsPassOf queue.now pass.old }
-    requires whole { ((view pass.old).parts ≡ all_parts) × (1 ≤ (view pass.old).put) × ((view pass.old).taken ≡ []) }
+    requires whole { ((view pass.old).parts ≡ all_parts) × ((view pass.old).taken ≡ []) }
     requires few { seats ≤ 8 }
     requires none { turns.old.items ≡ [] }
     requires room { seats ≤ vec_capacity turns.old }
@@ -41,7 +41,7 @@ pub(crate) fn share_out<'s>(
 
 // Takes the parts back.
 pub(crate) fn take_back(queue: &Queue, pass: &mut Pass<u32, Hand>, mut turns: Vec<PoolSource<'_>>)
-    requires pass { IsPassOf queue.now pass.old × (1 ≤ (view pass.old).put) × ((view pass.old).taken ≡ []) }
+    requires pass { IsPassOf queue.now pass.old × ((view pass.old).taken ≡ []) }
     requires part { ((view pass.old).parts + length turns.items ≡ all_parts) × (1 ≤ (view pass.old).parts) }
     requires lent { All (IsLent queue.now) turns.items }
     ensures pass { IsPassOf queue.now pass.new }

@@ -30,7 +30,7 @@
 //! up to that one was taken once. Behind the commands lies an end mark for each worker, a number that no command has. A
 //! worker ends when it takes one, and so knows, for good, that every command was taken: that a queue was found empty would
 //! tell a worker nothing of a later moment. When all have ended, the parts of the queue's pass are put together, and so each
-//! number was taken exactly once (`proofs/Gathering.antt`).
+//! number was taken exactly once (`proofs/Taking.antt`).
 //!
 //! A worker's turns, its part of the pass over the commands, are a `Source` of `item_workers`, which has the threads and gives
 //! the chain. With its lines numbered from 1 a chain is a run (`proofs/Taking.antt`).

@@ -1,7 +1,7 @@
 // The queue that the workers share: its rule, how it is filled, and how a pass takes a number out of it.
-ghost use Rattle.std.specs.Prelude.{◌≡◌, ◌≤◌, ◌+◌, ◌∷◌, ◌++◌, ℕ, suc, [], length};
+ghost use Rattle.std.specs.Prelude.{◌≡◌, ◌≤◌, ◌<◌, ◌+◌, ◌∷◌, ◌++◌, ℕ, suc, [], length, sum_by};
 ghost use Rattle.crossbeam_queue.specs.Passes.{view, IsPassOf, IsSamePass, ruled_capacity};
-ghost use Rattle.command_pool.specs.Queue.{hand, all_parts, total, total_to, IsRising};
+ghost use Rattle.command_pool.specs.Queue.{hand, all_parts, total_to, last_of};
 
 use crossbeam_queue::protocol::{Join, Lesson, Outcome, Protocol, Split};
 use crossbeam_queue::{Pass, RuledArrayQueue};
@@ -65,14 +65,14 @@ impl Lesson<u32, Hand> for Puts {
 pub(crate) struct Takes;
 
 impl Outcome<u32, Hand> for Takes {
-    ghost then = { λ v x w. (w ≡ hand v.parts v.put (v.taken ++ x ∷ [])) × IsRising 0 (v.taken ++ x ∷ []) x };
+    ghost then = { λ v x w. (w ≡ hand v.parts v.put (v.taken ++ x ∷ [])) × (last_of v.taken < x) };
 }
 
 // What the whole pass has taken are the numbers up to one, each once.
 pub(crate) struct All;
 
 impl Lesson<u32, Hand> for All {
-    ghost fact = { λ v items. (done : ℕ) × ((h : ℕ → ℕ) → total h v.taken ≡ total_to h done) };
+    ghost fact = { λ v items. (done : ℕ) × ((h : ℕ → ℕ) → sum_by h v.taken ≡ total_to h done) };
 }
 
 pub(crate) type Queue = RuledArrayQueue<u32, Hand, InOrder>;
@@ -86,21 +86,9 @@ pub(crate) fn fill<R: Wait>(rt: &R, queue: &Queue, pass: &mut Pass<u32, Hand>, l
     ensures filled { view pass.new ≡ hand all_parts last [] }
 {
     for count in 0..last {
-        put(rt, queue, pass, count + 1);
+        // It is never full.
+        let _ = queue.push_as::<Puts, R>(rt, pass, count + 1);
     }
-}
-
-// Puts the next number in.
-fn put<R: Wait>(rt: &R, queue: &Queue, pass: &mut Pass<u32, Hand>, number: u32)
-    requires pass { IsPassOf queue.now pass.old }
-    requires whole { (view pass.old).parts ≡ all_parts }
-    requires next { number ≡ suc (view pass.old).put }
-    requires room { number ≤ ruled_capacity queue.now }
-    ensures pass { IsPassOf queue.now pass.new }
-    ensures one_more { view pass.new ≡ hand all_parts number (view pass.old).taken }
-{
-    // It is never full.
-    let _ = queue.push_as::<Puts, R>(rt, pass, number);
 }
 
 // Takes the next number out. It waits while the queue is empty, or another takes one at the same moment.
@@ -109,7 +97,7 @@ pub(crate) fn take<R: Wait>(rt: &R, queue: &Queue, pass: &mut Pass<u32, Hand>) -
     requires part { ((view pass.old).parts ≡ 1) × ((view pass.old).put ≡ 0) }
     ensures pass { IsSamePass pass.old pass.new }
     ensures taken { view pass.new ≡ hand 1 0 ((view pass.old).taken ++ result ∷ []) }
-    ensures rising { IsRising 0 ((view pass.old).taken ++ result ∷ []) result }
+    ensures later { last_of (view pass.old).taken < result }
 {
     for _ in rt.forever() {
         match queue.try_pop_as::<Takes>(pass) {

@@ -1,8 +1,7 @@
 // The run of a pool.
 ghost use Rattle.std.specs.Prelude.{◌≡◌, ◌≤◌, ◌+◌, [], length, map, All as Each, IfOk, IfErr, vec_capacity};
 ghost use Rattle.crossbeam_queue.specs.Passes.{view, IsPassOf, ruled_capacity};
-ghost use Rattle.script_workers.specs.Lines.{row_of};
-ghost use Rattle.script_workers.specs.Terms.{flat_map, MOST_COMMANDS, causes, most_locks};
+ghost use Rattle.script_workers.specs.Terms.{MOST_COMMANDS, causes, most_locks};
 ghost use Rattle.command_pool.specs.Pool.{PoolRan, PoolLinked};
 ghost use Rattle.command_pool.specs.Queue.{hand, all_parts};
 
@@ -11,12 +10,11 @@ use crate::queue::{All, Hand, Queue, fill};
 use crate::turns::PoolSource;
 use crossbeam_queue::Pass;
 use host_io::Gate;
-use item_workers::{Answer, run_sources};
+use item_workers::run_sources;
 use mv_history::Store;
 use run_report::Line;
 use script_workers::{Hinted, make_lines};
-use section_work::Place;
-use set_model::{Command, Reply, SetRules};
+use set_model::{Command, SetRules};
 use std::alloc::{AllocError, Global};
 use std::sync::Wait;
 use std::thread::Threads;
@@ -54,69 +52,39 @@ where
         IfOk result (λ done. PoolLinked shows (map S.seat_of stores.items) (map S.seat_of done.0.items) commands.now done.1.items) }
     ensures err { IfErr result (λ refused. refused.0.items ≡ stores.items) }
 {
-    let (queue, pass, mut lines) = match make_room(alloc, stores.len(), commands.len()) {
+    let seats = stores.len();
+    let (queue, mut pass, mut turns, mut lines) = match make_room(alloc, seats, commands.len()) {
         Ok(room) => room,
         Err(error) => return Err((stores, error)),
     };
-    let (stores, rows) = run_turns(rt, alloc, &queue, pass, stores, commands, gate)?;
-    make_lines(&rows, &mut lines);
-    Ok((stores, lines))
+    fill(rt, &queue, &mut pass, (commands.len() + seats) as u32);
+    share_out(&queue, &mut pass, commands, seats, &mut turns);
+    match run_sources::<R, Hinted<S>, PoolSource<'_>, G>(rt, alloc, stores, turns, gate) {
+        Ok((stores, turns, rows)) => {
+            take_back(&queue, &mut pass, turns);
+            queue.learn_as::<All>(&mut pass);
+            make_lines(&rows, &mut lines);
+            Ok((stores, lines))
+        }
+        Err((stores, _, error)) => Err((stores, error)),
+    }
 }
 
-// A queue for the numbers of the commands and an end mark for each worker, with its pass, and room for the lines.
-fn make_room(
+// A queue for the numbers of the commands and an end mark for each worker, with its pass, and room for the turns and the lines.
+fn make_room<'s>(
     alloc: Global,
     seats: usize,
     commands: usize,
-) -> Result<(Queue, Pass<u32, Hand>, Vec<Line>), AllocError>
+) -> Result<(Queue, Pass<u32, Hand>, Vec<PoolSource<'s>>, Vec<Line>), AllocError>
     requires some { 1 ≤ seats }
     requires few { (seats ≤ 8) × (commands ≤ 65536) }
     ensures queue { IfOk result (λ made. (commands + seats ≤ ruled_capacity made.0) × IsPassOf made.0 made.1) }
     ensures pass { IfOk result (λ made. view made.1 ≡ hand all_parts 0 []) }
-    ensures lines { IfOk result (λ made. (made.2.items ≡ []) × (commands ≤ vec_capacity made.2)) }
+    ensures turns { IfOk result (λ made. (made.2.items ≡ []) × (seats ≤ vec_capacity made.2)) }
+    ensures lines { IfOk result (λ made. (made.3.items ≡ []) × (commands ≤ vec_capacity made.3)) }
 {
     let (queue, pass) = Queue::ruled(alloc, commands + seats)?;
+    let turns = Vec::with_capacity(alloc, seats)?;
     let lines = Vec::with_capacity(alloc, commands)?;
-    Ok((queue, pass, lines))
-}
-
-// Each worker does the commands whose numbers it takes out of the queue, and all have ended when this returns. It answers
-// what each did. The queue is empty, and there is room in it for the numbers and the end marks.
-fn run_turns<R: Threads + Wait + Sync, S: Store<Rules = SetRules> + Send, G: Gate>(
-    rt: &R,
-    alloc: Global,
-    queue: &Queue,
-    mut pass: Pass<u32, Hand>,
-    stores: Vec<S>,
-    commands: &[Command],
-    gate: &G,
-) -> Result<(Vec<S>, Vec<Vec<Answer<(Place, Reply)>>>), (Vec<S>, AllocError)>
-where
-    S::Open: Send,
-    requires some { 1 ≤ length stores.items }
-    requires few { length stores.items ≤ 8 }
-    requires short { length commands.now ≤ MOST_COMMANDS }
-    requires most { Each (λ store. most_locks ≤ (S.seat_of store).write_max) stores.items }
-    requires queue { IsPassOf queue.now pass × (length commands.now + length stores.items ≤ ruled_capacity queue.now) }
-    requires empty { view pass ≡ hand all_parts 0 [] }
-    ensures pool { IfOk result (λ done. PoolRan (map S.seat_of stores.items) (map S.seat_of done.0.items) commands.now (flat_map row_of done.1.items)) }
-    ensures linked { let shows = causes S.Open.may_refuse S.Open.has_trail S.took S.holds_back S.Open.found_held S.Open.loaded in
-        IfOk result (λ done. PoolLinked shows (map S.seat_of stores.items) (map S.seat_of done.0.items) commands.now (flat_map row_of done.1.items)) }
-    ensures err { IfErr result (λ refused. refused.0.items ≡ stores.items) }
-{
-    let seats = stores.len();
-    let mut turns = match Vec::with_capacity(alloc, seats) {
-        Ok(turns) => turns,
-        Err(error) => return Err((stores, error)),
-    };
-    fill(rt, queue, &mut pass, (commands.len() + seats) as u32);
-    share_out(queue, &mut pass, commands, seats, &mut turns);
-    match run_sources::<R, Hinted<S>, PoolSource<'_>, G>(rt, alloc, stores, turns, gate) {
-        Ok((stores, turns, rows)) => {
-            take_back(queue, &mut pass, turns);
-            queue.learn_as::<All>(&mut pass);
-            Ok((stores, rows))
-        }
-        Err((stores, _, error)) => Err((stores, error)),
-    }
+    Ok((queue, pass, turns, lines))
 }

@@ -17,14 +17,14 @@ pub(crate) struct PoolSource<'s> {
 
 impl<'s, S: Store<Rules = SetRules>> Source<Hinted<S>> for PoolSource<'s> {
     ghost use Rattle.std.specs.Prelude.{length, ◌-◌};
-    ghost use Rattle.crossbeam_queue.specs.Passes.{view};
-    ghost use Rattle.command_pool.specs.Turns.{MayTake, GaveTurn, HasEnded};
+    ghost use Rattle.command_pool.specs.Queue.{last_of};
+    ghost use Rattle.command_pool.specs.Turns.{taken_of, MayTake, GaveTurn, HasEnded};
 
     ghost may = { MayTake };
 
     ghost listed = { λ turns. turns.commands.now };
 
-    ghost left = { λ turns. length turns.commands.now - length (view turns.pass).taken };
+    ghost left = { λ turns. length turns.commands.now - last_of (taken_of turns) };
 
     ghost gives = { GaveTurn };
 

@@ -47,27 +47,6 @@ fn try_item<W: Runner>(runner: &mut W, item: &W::Item) -> Tried<W::Done>
     )
 }
 
-// Tries an item until it is done, and calls the gate around it.
-fn do_item<R: Wait, W: Runner, G: Gate>(
-    rt: &R,
-    runner: &mut W,
-    item: &W::Item,
-    gate: &G,
-    seat: u32,
-    number: u32,
-) -> Answer<W::Done>
-    requires ready { W.ready runner.old }
-    requires does { W.does item.now }
-    ensures link { W.link (W.kept_of runner.old) (W.kept_of runner.new) item.now result.done }
-    ensures ready { W.ready runner.new }
-    ensures by { (result.seat ≡ seat) × (result.number ≡ number) }
-{
-    gate.before(seat, number);
-    let done = run_item(rt, runner, item);
-    gate.after(seat, number);
-    Answer { seat, number, done }
-}
-
 /// Does the items that the source gives, until it has none to give, with an answer for each. There is room for the answers.
 ///
 /// The gate is called ahead of an item's first attempt and once it is done.
@@ -90,8 +69,10 @@ pub fn run_from<R: Wait, W: Runner, P: Source<W>, G: Gate>(
         match source.take(rt) {
             Some(Given { place, number }) => {
                 let item = &source.items()[place];
-                let answer = do_item(rt, runner, item, gate, seat, number);
-                answers.push_reserved(answer);
+                gate.before(seat, number);
+                let done = run_item(rt, runner, item);
+                gate.after(seat, number);
+                answers.push_reserved(Answer { seat, number, done });
             }
             None => return,
         }

@@ -3,8 +3,7 @@ use Rattle.command_pool.proofs.Sharing.{merges}
 use Rattle.command_pool.proofs.lending.take_back.Goals as goal
 
 pub absorb-requires-clause-rule : goal.absorb-requires-clause-rule
-absorb-requires-clause-rule c =
-    merges _ _ _ _ (omega (arith, c.loop-turns.invariant.parts.1)) (omega (arith, c.loop-turns.invariant.put))
+absorb-requires-clause-rule c = merges _ _ _ _ (omega (arith, c.loop-turns.invariant.parts.1))
 
 pub loop-turns-preserved : goal.loop-turns-preserved
 loop-turns-preserved c =
@@ -19,7 +18,6 @@ loop-turns-preserved c =
     let parts = ap (λ (v : Hand). v.parts) rule in
     record {
       pass = (c.absorb.ensures.queue.0 ∙ now.pass.0, c.absorb.ensures.queue.2 ∙ now.pass.1);
-      put = omega (arith, ap (λ (v : Hand). v.put) rule, now.put);
       parts = (
         omega (arith, parts, ap (λ (v : Hand). v.parts) mine.view_is, ap length first, now.parts.0),
         omega (arith, parts, now.parts.1),

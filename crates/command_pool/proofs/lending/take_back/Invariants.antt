@@ -4,7 +4,6 @@ use Rattle.command_pool.proofs.lending.take_back.Given as goal
 abbrev pub invariant-loop-turns : goal.invariant-loop-turns
 invariant-loop-turns l = record {
   pass : IsPassOf l.queue l.pass;
-  put : 1 ≤ (view l.pass).put;
   parts : ((view l.pass).parts + length l.turns.items ≡ all_parts) × (1 ≤ (view l.pass).parts);
   lent : All (IsLent l.queue) l.turns.items;
   taken : (view l.pass).taken ++ flat_map taken_of l.turns.items ≡ flat_map taken_of l.initial.turns.items;

@@ -14,8 +14,8 @@ bounds-items-place g c =
     slice_get_within c.items.result.now c.in-Some-take.field-0.place taken.0 (rw c.items.ensures taken.1)
 
 -- the item there is one that the runner does
-pub do_item-answer-requires-clause-does : goal.do_item-answer-requires-clause-does
-do_item-answer-requires-clause-does g c κs within =
+pub run_item-done-requires-clause-does : goal.run_item-done-requires-clause-does
+run_item-done-requires-clause-does g c =
     let taken = c.in-Some-take.ensures.taken in
     let items = c.items.result.now in
     let place = c.in-Some-take.field-0.place in
@@ -30,18 +30,18 @@ pub loop-preserved : goal.loop-preserved
 loop-preserved g c =
     let before = c.loop.invariant in
     let taken = c.in-Some-take.ensures.taken in
-    let done = c.do_item-answer.ensures in
+    let done = c.run_item-done.ensures in
     let item = c.index-items-place.result in
     let place = c.in-Some-take.field-0.place in
     let there : slice_get c.items.result.now place ≡ Some taken.0 = rw c.items.ensures taken.1 in
     let same : item ≡ taken.0 = c.index-items-place.is ∙ get_or_from_slice_get c.items.result.now place taken.0 item there in
     record {
       serves = rw c.push_reserved.ensures.items
-          (serves_more g.W.Runner.link g.P.Source.gives _ _ _ (g.W.Runner.kept_of c.loop.runner) c.loop.source _ _ c.loop.answers.items
-          c.do_item-answer.result before.serves (record {
+          (serves_more g.W.Runner.link g.P.Source.gives _ _ _ (g.W.Runner.kept_of c.loop.runner) c.loop.source _ _ c.loop.answers.items _
+          before.serves (record {
             item = taken.0;
-            given = rw done.by.1 taken.3;
-            by = done.by.0 ∙ c.seat-seat.ensures;
+            given = taken.3;
+            by = c.seat-seat.ensures;
             linked = rw same at done.link;
           }));
       ready = done.ready;

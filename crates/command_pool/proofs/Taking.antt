@@ -4,7 +4,7 @@ use Rattle.std.proofs.lemmas.Option.{slice_get_within}
 use Rattle.script_workers.proofs.Runs.{chain_ran, chain_lines}
 use Rattle.command_pool.proofs.Terms.{◌≡◌, ◌-◌, ◌<◌, ◌∷◌, ◌++◌, ◌∙◌, ◌+◌, ◌≤◌, flat_map, ℕ, zero, suc, List, [], length, map, All, Some, slice_get, refl, sym}
 use Rattle.command_pool.proofs.Terms.{ap, subst, arith, Vec, append_assoc, All-nil, All-cons, Serves, Seat, Command, Place, Reply, Causes, Line, command_at}
-use Rattle.command_pool.proofs.Terms.{Answer, Chain, answered, line_of, LinkedDone, hand, last_of, GaveTurn, HasEnded, AreTaken, view, Hand, PoolSource}
+use Rattle.command_pool.proofs.Terms.{Answer, Chain, answered, line_of, Linked, hand, last_of, GaveTurn, HasEnded, AreTaken, view, Hand, PoolSource}
 use Rattle.command_pool.proofs.Terms.{All-head, All-tail, HaveNumbers, lines_from, Took, TookLinked, EachServed, row_of, total, total_to, EachSeat, PoolRan}
 use Rattle.command_pool.proofs.Terms.{QueueOf, IsPassOf, IsBegun, IsLent, taken_of}
 use Rattle.command_pool.proofs.Gathering.{last_push, number_of, Gathered, gathered_none, gathered_more, each_once, all_told}
@@ -37,11 +37,11 @@ record TurnsDone (k : Causes) {Q A : Type 0} (queue : QueueOf Q A) (commands : L
   pub script : List Command
   pub rising : AreTaken commands (last_of (taken_of a)) (map line_of ds) script
   pub by : All (λ (line : Line). line.seat ≡ seat) (map line_of ds)
-  pub chain : Chain (answered (LinkedDone k)) s t script ds
+  pub chain : Chain (answered (Linked k)) s t script ds
 
 module _ (k : Causes) {Q A : Type 0} (queue : QueueOf Q A) (commands : List Command) (seat : ℕ) where
   turns_done : (s : Seat) (a : PoolSource) (t : Seat) (last b : PoolSource) (ds : List (Answer (Place × Reply))) → IsPassOf queue a.pass
-      → a.commands.now ≡ commands → Serves (LinkedDone k) GaveTurn seat s a t last ds → HasEnded last b → TurnsDone k queue commands seat s a t b ds
+      → a.commands.now ≡ commands → Serves (Linked k) GaveTurn seat s a t last ds → HasEnded last b → TurnsDone k queue commands seat s a t b ds
   turns_done s a t last b [] pass are h ended =
       let e : HasEnded a b = subst (λ (c : PoolSource). HasEnded c b) h.1 ended in
       record {
@@ -87,9 +87,9 @@ renumbered number (d ∷ ds) = record { seat = d.seat; number = number; done = d
 
 module _ (k : Causes) where
   -- A chain whose answers are by one seat is that of a script, with its answers numbered on.
-  did_renumbered : (s t : Seat) (seat number : ℕ) (script : List Command) (ds : List (Answer (Place × Reply))) → Chain (answered (LinkedDone k)) s t script ds
+  did_renumbered : (s t : Seat) (seat number : ℕ) (script : List Command) (ds : List (Answer (Place × Reply))) → Chain (answered (Linked k)) s t script ds
       → All (λ (line : Line). line.seat ≡ seat) (map line_of ds)
-      → Chain (answered (LinkedDone k)) s t script (renumbered number ds) × HaveNumbers (λ (c : Command). 1) seat number script (renumbered number ds)
+      → Chain (answered (Linked k)) s t script (renumbered number ds) × HaveNumbers (λ (c : Command). 1) seat number script (renumbered number ds)
   did_renumbered s t seat number [] [] c by = (c, tt)
   did_renumbered s t seat number (i ∷ script) (d ∷ ds) c by =
       let next : suc number ≡ number + 1 = omega arith in
@@ -112,7 +112,7 @@ lines_renumbered number (d ∷ ds) =
 -- a seat that did these commands in a chain took them, one after another
 pub took_of : (k : Causes) (commands : List Command) (s t : Seat) (script : List Command) (ds : List (Answer (Place × Reply)))
     → AreTaken commands 0 (map line_of ds) script → All (λ (line : Line). line.seat ≡ s.number) (map line_of ds)
-    → Chain (answered (LinkedDone k)) s t script ds → Took commands s t (map line_of ds) × TookLinked k commands s t (map line_of ds)
+    → Chain (answered (Linked k)) s t script ds → Took commands s t (map line_of ds) × TookLinked k commands s t (map line_of ds)
 took_of k commands s t script ds rising by c =
     let did = did_renumbered k s t s.number 1 script ds c by in
     let ran = chain_ran k s t script (renumbered 1 ds) (record { chain = did.0; numbers = did.1 }) in (
@@ -143,7 +143,7 @@ module _ (k : Causes) {Q A : Type 0} (queue : QueueOf Q A) (commands : List Comm
     pub linked : EachSeat (TookLinked k commands) olds news lines
 
   pub pool_done : (os : List Seat) (begun : List PoolSource) (ns : List Seat) (after : List PoolSource) (rows : List (Vec (Answer (Place × Reply)) Global))
-      → All (IsBegun queue commands) begun → EachServed (λ (u : Seat). u) (LinkedDone k) GaveTurn HasEnded os begun ns after rows
+      → All (IsBegun queue commands) begun → EachServed (λ (u : Seat). u) (Linked k) GaveTurn HasEnded os begun ns after rows
       → PoolDone os ns after (flat_map row_of rows)
   pool_done [] [] [] [] [] all h =
       record { lent = All-nil (IsLent queue); many = refl; gathered = gathered_none (length commands); took = refl; linked = refl }

@@ -17,8 +17,8 @@ pub use Rattle.run_report.proofs.history.Replay.{IsLeft, quiet_before, left_by_r
 pub use Rattle.run_report.proofs.history.Steps.{IsSamePlace, IsPlaced, StepsOf}
 pub use Rattle.domain_loan.specs.Met.{AllContinue, HasMet}
 pub use Rattle.domain_lines.proofs.OneHistory.{IsOneHistory, one_history}
-pub use Rattle.block_workers.specs.BlockLines.{DoneBlock, lines_of, lines_at}
-pub use Rattle.block_workers.specs.BlockRuns.{AllRanBlocks, BlockPlaceOf, BlocksOf, RanBlocks}
+pub use Rattle.script_workers.specs.Lines.{DoneBlock, lines_of, lines_at}
+pub use Rattle.script_workers.specs.BlockRuns.{AllRanBlocks, BlockPlaceOf, BlocksOf, RanBlocks}
 pub use Rattle.block_domain.specs.Legal.{commands_of, IsInBlockTime, IsOfOneBlock, IsOfOnePlace, LegalBlocks, ReplaysBlocks, head_of, start_from, block_from}
 pub use Rattle.block_domain.specs.Legal.{MayBlockStand, after_block, block_of, start_of}
 pub use Rattle.block_domain.specs.Whole.{BlockStandsIn, BlocksRunOf, commit_blocks}
@@ -27,5 +27,5 @@ pub use Rattle.std.proofs.lemmas.List.Elements.{All-head, All-tail, All-weaker, 
 pub use Rattle.std.proofs.lemmas.List.Sums.{sum_by-cons, sum_by_push}
 pub use Rattle.std.proofs.lemmas.List.{map-append, take_all, map-set, length-map}
 pub use Rattle.std.proofs.lemmas.List.Concat.{flat_map-append}
-pub use Rattle.block_workers.proofs.BlockPlaces.{block_longer, place_count}
+pub use Rattle.script_workers.proofs.Places.{block_longer, place_count}
 pub use Rattle.domain_loan.proofs.Seats.{new_own, left_for, as_many}

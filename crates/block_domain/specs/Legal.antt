@@ -34,7 +34,7 @@ use Rattle.set_blocks.specs.BlockReplies.{block_replies, block_changes, block_ne
 use Rattle.run_report.specs.declared.line.Line.{Line}
 use Rattle.run_report.specs.Order.{time_of, IsOrdered}
 use Rattle.run_report.specs.Legal.{EachPair, Follows, id_of, ids_of, is_commit, is_last}
-use Rattle.block_workers.specs.BlockLines.{DoneBlock, lines_of}
+use Rattle.script_workers.specs.Lines.{DoneBlock, lines_of}
 
 -- the commands of a script, block after block
 abbrev pub commands_of : List (List Command) → List Command

@@ -17,8 +17,8 @@ use Rattle.set_blocks.specs.BlockRules.{IsBlockCommit}
 use Rattle.run_report.specs.declared.line.Line.{Line}
 use Rattle.run_report.specs.Worked.{Past}
 use Rattle.run_report.specs.Whole.{IsTableOf, is_commit_of}
-use Rattle.block_workers.specs.BlockLines.{DoneBlock, lines_of}
-use Rattle.block_workers.specs.BlockRuns.{BlockPlaceOf}
+use Rattle.script_workers.specs.Lines.{DoneBlock, lines_of}
+use Rattle.script_workers.specs.BlockRuns.{BlockPlaceOf}
 use Rattle.block_domain.specs.Legal.{LegalBlocks, block_of}
 
 -- The block has its place and its replies in the history: a commit is the entry of its time, by the block's seat and with the tag of a

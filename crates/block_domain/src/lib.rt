@@ -22,7 +22,7 @@
 //! A run may go on forever where a block never gets what it needs; what is promised holds when it returns. Want of memory
 //! comes only before the first block, and hands back the domain and its seats.
 //!
-//! **Its place.** The crate stands on `block_workers`, which runs scripts of blocks over any stores in threads, and on `mvrlu`,
+//! **Its place.** The crate stands on `script_workers`, which runs scripts of blocks over any stores in threads, and on `mvrlu`,
 //! whose handles are such stores and whose meeting knows the whole history. The loan of the domain to its seats is that of
 //! `domain_loan`. How the lines of seats stand in one history, whatever they reply, comes from `run_report`.
 #![tactic(auto)]

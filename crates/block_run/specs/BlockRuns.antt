@@ -2,7 +2,7 @@
 use Rattle.std.specs.Prelude.{ℕ, List, length, Option}
 use Rattle.block_domain.specs.Whole.{BlocksRunOf}
 use Rattle.script_files.specs.block_parser.BlockGrammar.{parsed_blocks}
-use Rattle.block_workers.specs.BlockLinks.{AllLinkedBlocks}
+use Rattle.script_workers.specs.Links.{AllLinkedBlocks}
 use Rattle.run_kinds.specs.domain_loan.Shown.{handle_causes}
 use Rattle.mv_history.specs.Meaning.{Seat}
 use Rattle.run_kinds.specs.mvrlu.declared.closing.Closing.{Closing}

@@ -1,6 +1,6 @@
 // The run of scripts of blocks over a domain of its own.
 ghost use Rattle.std.specs.Prelude.{◌≡◌, ◌≤◌, All, IfErr, IfOk, MatchResult, length, map, string_bytes};
-ghost use Rattle.block_workers.specs.Workers.{blocks_of, count_of};
+ghost use Rattle.script_workers.specs.Workers.{blocks_of, count_of};
 ghost use Rattle.run_words.specs.Words.{FitOptions};
 ghost use Rattle.run_kinds.specs.Kinds.{IsLeft};
 ghost use Rattle.block_run.specs.BlockRuns.{IsTextOfBlocks, block_runs};

@@ -6,7 +6,7 @@ use Rattle.std.proofs.lemmas.Option.{slice_get_within}
 use Rattle.script_workers.proofs.Runs.{chain_ran, chain_lines}
 use Rattle.command_pool.proofs.Terms.{◌≡◌, ◌-◌, ◌<◌, ◌∷◌, ◌++◌, ◌∙◌, ◌+◌, ◌≤◌, ◌==◌, flat_map, ℕ, zero, suc, List, [], length, map, All, Some, slice_get, refl, sym}
 use Rattle.command_pool.proofs.Terms.{ap, subst, arith, Vec, sum_by, sum_by-append, All-nil, All-cons, All-head, All-tail, Seat, Command, Place, Reply, Causes, Line}
-use Rattle.command_pool.proofs.Terms.{command_at, Answer, Chain, answered, HaveNumbers, line_of, row_of, LinkedDone, Serves, EachServed, IsPassOf, hand, Hand}
+use Rattle.command_pool.proofs.Terms.{command_at, Answer, Chain, answered, HaveNumbers, line_of, row_of, Linked, Serves, EachServed, IsPassOf, hand, Hand}
 use Rattle.command_pool.proofs.Terms.{total_to, last_of, GaveTurn, HasEnded, AreTaken, PoolSource, QueueOf, IsBegun, IsLent, taken_of}
 use Rattle.command_pool.proofs.Terms.{lines_from, Took, TookLinked, EachSeat, PoolRan}
 use Rattle.command_pool.proofs.Sharing.{last_push}
@@ -75,13 +75,13 @@ record TurnsDone (k : Causes) {Q A : Type 0} (queue : QueueOf Q A) (commands : L
   pub script : List Command
   pub rising : AreTaken commands (last_of (taken_of a)) (map line_of ds) script
   pub by : All (λ (line : Line). line.seat ≡ seat) (map line_of ds)
-  pub chain : Chain (answered (LinkedDone k)) s t script ds
+  pub chain : Chain (answered (Linked k)) s t script ds
   -- and so they are a chain and numbered one by one, where they are numbered from any number on
-  pub on : (n : ℕ) → Chain (answered (LinkedDone k)) s t script (renumbered n ds) × HaveNumbers (λ (c : Command). 1) seat n script (renumbered n ds)
+  pub on : (n : ℕ) → Chain (answered (Linked k)) s t script (renumbered n ds) × HaveNumbers (λ (c : Command). 1) seat n script (renumbered n ds)
 
 module _ (k : Causes) {Q A : Type 0} (queue : QueueOf Q A) (commands : List Command) (seat : ℕ) where
   turns_done : (s : Seat) (a : PoolSource) (t : Seat) (last b : PoolSource) (ds : List (Answer (Place × Reply))) → IsPassOf queue a.pass
-      → a.commands.now ≡ commands → Serves (LinkedDone k) GaveTurn seat s a t last ds → HasEnded last b → TurnsDone k queue commands seat s a t b ds
+      → a.commands.now ≡ commands → Serves (Linked k) GaveTurn seat s a t last ds → HasEnded last b → TurnsDone k queue commands seat s a t b ds
   turns_done s a t last b [] pass are h ended =
       let e : HasEnded a b = subst (λ (c : PoolSource). HasEnded c b) h.1 ended in
       let now : taken_of b ≡ taken_of a ++ e.mark ∷ [] = ap (λ (v : Hand). v.taken) e.took.view_is in
@@ -156,7 +156,7 @@ module _ (k : Causes) {Q A : Type 0} (queue : QueueOf Q A) (commands : List Comm
     pub linked : EachSeat (TookLinked k commands) olds news lines
 
   pub pool_done : (os : List Seat) (begun : List PoolSource) (ns : List Seat) (after : List PoolSource) (rows : List (Vec (Answer (Place × Reply)) Global))
-      → All (IsBegun queue commands) begun → EachServed (λ (u : Seat). u) (LinkedDone k) GaveTurn HasEnded os begun ns after rows
+      → All (IsBegun queue commands) begun → EachServed (λ (u : Seat). u) (Linked k) GaveTurn HasEnded os begun ns after rows
       → PoolDone os ns after (flat_map row_of rows)
   pool_done [] [] [] [] [] all h = record {
     lent = All-nil (IsLent queue);

@@ -7,7 +7,7 @@ pub use Rattle.std.proofs.lemmas.List.Sums.{sum_by-append}
 pub use Rattle.script_workers.specs.Terms.{Line, flat_map, Seat, Command, Place, Reply, Causes, Answer, command_at, Chain, HaveNumbers, answered}
 pub use Rattle.item_workers.specs.Serving.{EachServed, Serves}
 pub use Rattle.script_workers.specs.Lines.{line_of, row_of}
-pub use Rattle.script_workers.specs.Links.{LinkedDone}
+pub use Rattle.script_workers.specs.Links.{Linked}
 pub use Rattle.crossbeam_queue.specs.Passes.{view, IsSamePass, IsPassOf}
 pub use mathlib.Core.Option.{some, some-injective, some-ne-none}
 pub use lib.ListN.{get_elem?}

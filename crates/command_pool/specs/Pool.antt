@@ -1,6 +1,6 @@
 -- What a pool leaves: each command was taken once, and what a seat took is a run of those commands on it.
 use Rattle.std.specs.Prelude.{◌≡◌, ℕ, suc, ◌<◌, ◌≤◌, ◌==◌, List, [], ◌∷◌, ◌++◌, length, count_by, All, Some, ⊤}
-use Rattle.script_workers.specs.Lines.{LinkedLine}
+use Rattle.script_workers.specs.Links.{LinkedLine}
 use Rattle.script_workers.specs.Terms.{Seat, Command, Causes, Line, command_at, Ran, Chain}
 
 -- The numbers rise from above this one, and this script has the commands of these numbers, in their order.

@@ -1,7 +1,7 @@
 -- The seats of a domain that nobody has used yet are numbered in order, and so are the handles that they are lent.
 use Rattle.mvrlu.specs.declared.domain.Seat.{Seat}
 use Rattle.mvrlu.specs.declared.handle.Handle.{Handle}
-use Rattle.script_workers.specs.Numbers.{AreNumbered}
+use Rattle.script_workers.specs.Workers.{AreNumbered}
 use Rattle.domain_loan.proofs.Seats.{new_may_hold}
 use Rattle.domain_lines.proofs.Terms.{◌≡◌, ◌≤◌, ◌∷◌, ◌∙◌, ℕ, suc, List, [], length, map, All, sym, ap, subst, length-map, numbers_of, seat_of, handled, Domain}
 use Rattle.domain_lines.proofs.Terms.{AreNewFrom}

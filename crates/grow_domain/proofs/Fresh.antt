@@ -7,14 +7,14 @@ use Rattle.section_work.specs.Causes.{Causes}
 use Rattle.section_work.specs.declared.place.Place.TheVariants.{Read}
 use Rattle.mvrlu.specs.Whole.{Whole}
 use Rattle.domain_lines.proofs.Fresh.{fresh_between}
-use Rattle.grow_workers.specs.Links.{GrowKept, LinkedTurn}
-use Rattle.grow_workers.proofs.Turns.{linked_fresh}
+use Rattle.script_workers.specs.GrowLinks.{GrowKept, LinkedTurn}
+use Rattle.script_workers.proofs.Turns.{turn_fresh}
 use Rattle.grow_domain.proofs.Terms.{◌≡◌, ◌+◌, ◌-◌, ◌≤◌, ℕ, Some, Seat, Command, HasMet}
 
 -- On a seat's way from its first to the one that met a command was begun, and it was a read. Then each entry that the seat had seen, of the
 -- commands and splits before it too, stands in the whole history, at its printed time, and the read's place isn't below that.
 pub fresh_turn : (k : Causes) (w : Whole) (first met : Seat) (s t : GrowKept) (command : Command) (time : ℕ) (answer : Reply) → HasMet w first met
-    → first.base ≡ w.base → Continues first s.seat → Continues s.seat met → LinkedTurn k s t command (Read time) answer
+    → first.base ≡ w.base → Continues first s.seat → Continues s.seat met → LinkedTurn k s t command (Read time, answer)
     → (at : ℕ) (e : Entry) → IsEntryAt s.seat at e → (at ≤ time) × (slice_get w.history (at - (w.base + 1)) ≡ Some e)
 fresh_turn k w first met s t command time answer has base from to linked =
-    fresh_between k w first met s.seat linked.between time has base from to (linked_fresh k s t command time answer linked)
+    fresh_between k w first met s.seat linked.between time has base from to (turn_fresh k s t command time answer linked)

@@ -20,7 +20,7 @@
 //! A run may go on forever where a command or a split never gets what it needs; what is promised holds when it returns. Want of
 //! memory comes only before the first command, and hands back the domain and its seats.
 //!
-//! **Its place.** The crate stands on `grow_workers`, which runs scripts over any stores in threads, and on `mvrlu`, whose handles
+//! **Its place.** The crate stands on `script_workers`, which runs scripts over any stores in threads, and on `mvrlu`, whose handles
 //! are such stores and whose meeting knows the whole history. The loan of the domain to its seats is that of `domain_loan`.
 //! How the turns of seats stand in one history comes from `grow_report`.
 #![tactic(auto)]

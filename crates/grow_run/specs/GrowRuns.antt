@@ -8,7 +8,7 @@ use Rattle.grow_hash.specs.declared.rules.GrowRules.{GrowRules}
 use Rattle.grow_report.specs.Text.{text_of_grown}
 use Rattle.grow_report.specs.Whole.{GrowRunOf}
 use Rattle.grow_script.specs.GrowGrammar.{parsed_grow}
-use Rattle.grow_workers.specs.Links.{AllLinkedTurns}
+use Rattle.script_workers.specs.GrowLinks.{AllLinkedTurns}
 use Rattle.mv_history.specs.Meaning.{Seat}
 use Rattle.run_kinds.specs.mvrlu.declared.closing.Closing.{Closing}
 use Rattle.run_kinds.specs.Kinds.{IsTextOfRead, Kind, config_of, kind_along, usual_options}

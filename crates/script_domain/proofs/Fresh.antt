@@ -13,7 +13,7 @@ use Rattle.script_domain.proofs.Terms.{◌≡◌, ◌+◌, ◌-◌, ◌≤◌, �
 
 -- A command was begun at one seat, and was a read: the read's place isn't below any entry that the seat had seen then.
 pub fresh_read : (k : Causes) (w : Whole) (first met s t : Seat) (command : Command) (time : ℕ) (answer : Reply) → HasMet w first met
-    → first.base ≡ w.base → Continues first s → Continues s met → Linked k s t command (Read time) answer
+    → first.base ≡ w.base → Continues first s → Continues s met → Linked k s t command (Read time, answer)
     → (at : ℕ) (e : Entry) → IsEntryAt s at e → (at ≤ time) × (slice_get w.history (at - (w.base + 1)) ≡ Some e)
 fresh_read k w first met s t command time answer has base from to linked =
     fresh_between k w first met s t time has base from to (linked_fresh k s t command time answer linked)

@@ -8,7 +8,7 @@ ghost use Rattle.mvrlu.specs.Meant.{numbers_of, opening_of, seat_of, whole_of};
 ghost use Rattle.mvrlu.specs.Whole.{last_state};
 ghost use Rattle.run_report.specs.Whole.{RunOf};
 ghost use Rattle.run_report.specs.Worked.{AllRan};
-ghost use Rattle.script_workers.specs.Lines.{AllLinked};
+ghost use Rattle.script_workers.specs.Links.{AllLinked};
 ghost use Rattle.script_workers.specs.Workers.{items_of};
 ghost use Rattle.domain_loan.specs.Met.{MetAlong};
 ghost use Rattle.domain_loan.specs.New.{AreNewFrom};

@@ -14,7 +14,7 @@ use Rattle.run_report.specs.Whole.{RunOf}
 use Rattle.run_words.specs.declared.request.Options.{Options}
 use Rattle.script_files.specs.Scripts.{AllScripts}
 use Rattle.script_parser.specs.Grammar.{parsed}
-use Rattle.script_workers.specs.Lines.{AllLinked}
+use Rattle.script_workers.specs.Links.{AllLinked}
 use Rattle.set_model.specs.Catalogue.{Maps}
 use Rattle.set_model.specs.Lawful.{IsOpening}
 use Rattle.set_model.specs.Rules.{IsSetCommit}

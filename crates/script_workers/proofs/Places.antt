@@ -1,16 +1,39 @@
--- The place of a command: what its attempt says of it, and that it stays as more of the history is seen.
+-- The place of a command or a block: what its attempt says of it, and that it stays as more of the history is seen.
 use Rattle.std.proofs.lemmas.Bool.{eqb-true}
-use Rattle.std.proofs.lemmas.Option.{slice_get_within}
+use Rattle.std.proofs.lemmas.List.Elements.{All-nil, All-cons, All-get_or}
 use Rattle.mv_history.proofs.Writing.{length-state_after}
+use Rattle.section_work.specs.Sections.{IsEntered}
 use Rattle.set_model.specs.Objects.{first_node}
 use Rattle.set_model.specs.Replies.{reply, changes}
-use Rattle.section_work.specs.Sections.{IsEntered}
-use Rattle.std.proofs.lemmas.List.Elements.{All-nil, All-cons, All-get_or}
-use Rattle.script_workers.proofs.Terms.{◌≡◌, ◌+◌, ◌-◌, ◌<◌, ◌≤◌, ◌==◌, if◌then◌else◌, ◌∷◌, ◌++◌, ◌∙◌, Entry, ℕ, eqb, Bool, true, false, List, [], length, take}
-use Rattle.script_workers.proofs.Terms.{drop, All, refl, sym, longer, IsEntryAt, ap, subst, arith, length-append, append-nil, get_or_push, take-append-drop}
-use Rattle.script_workers.proofs.Terms.{Rest, seen_grows, entered_continues, entered_within, Continues-Continues, Done, Attempted, Commit, Change, commits_of}
-use Rattle.script_workers.proofs.Terms.{Seat, InSection, IsSeat, Continues, catalogue_of, IsOpening, capacity, IsSetCommit, Command, Place, AtCommit, Read}
-use Rattle.script_workers.proofs.Terms.{Reply, Causes, Past, past_of, state_of_time, CommitsNone, Follows, RanTo, RanAt}
+use Rattle.set_blocks.specs.BlockAttempts.{BlockAttempted}
+use Rattle.set_blocks.specs.BlockReplies.{block_replies, block_changes, block_next}
+use Rattle.set_blocks.specs.BlockRules.{IsBlockCommit}
+use Rattle.set_blocks.specs.declared.attempt.BlockAttempt.TheVariants as blocks
+use Rattle.set_blocks.proofs.SingleBlocks.{length-block_replies}
+use Rattle.script_workers.proofs.Terms.{◌≡◌, ℕ, ◌+◌, ◌-◌, ◌<◌, ◌≤◌, ◌==◌, ◌++◌, ◌∷◌, [], ◌∙◌, Bool, true, false, if◌then◌else◌, eqb, List, length, take, drop}
+use Rattle.script_workers.proofs.Terms.{All, refl, sym, ap, subst, arith, length-append, append-nil, get_or_push, take-append-drop, slice_get_within, IsEntryAt}
+use Rattle.script_workers.proofs.Terms.{Continues-Continues, Entry, seen_grows, entered_continues, entered_within, longer, there_longer, state_longer, Seat}
+use Rattle.script_workers.proofs.Terms.{IsSeat, InSection, Continues, Commit, Rest, Change, commits_of, State, Command, Place, AtCommit, Read, Reply, Causes}
+use Rattle.script_workers.proofs.Terms.{catalogue_of, IsOpening, IsSetCommit, capacity, Attempted, Done, Follows, time_of, Past, past_of, PlaceOf}
+use Rattle.script_workers.proofs.Terms.{state_of_time, CommitsNone, Linked, LinkedBlock, BlockPlaceOf}
+
+-- Something took place there in the history that the seat has seen, behind all that it had seen before, and the seat's commits grew by
+-- exactly those of it.
+pub record RanTo (placed_in : Past → ℕ → List Commit → Type 0) (old new : Seat) (place : Place) : Type 0 where
+  pub continues : Continues old new
+  pub commits : List Commit
+  pub mine : new.mine ≡ old.mine ++ commits
+  pub follows : Follows (old.base + length old.seen) place
+  pub seen : time_of place ≤ new.base + length new.seen
+  pub placed : placed_in (past_of new) new.number commits
+
+-- the command took place there, with this reply
+abbrev pub RanAt : Seat → Seat → Command → Place → Reply → Type 0
+RanAt old new command place answer = RanTo (λ p seat commits. PlaceOf p seat command place answer commits) old new place
+
+-- the block took place there, with these replies
+abbrev pub RanBlock : Seat → Seat → List Command → Place → List Reply → Type 0
+RanBlock old new block place answers = RanTo (λ p seat commits. BlockPlaceOf p seat block place answers commits) old new place
 
 -- one more commit, if it is this seat's
 all_by_one : (seat : ℕ) (c : Commit) (cs : List Commit) (is : Bool) → eqb c.seat seat ≡ is → All (λ (d : Commit). d.seat ≡ seat) cs
@@ -33,9 +56,9 @@ last_by s cs c mine is =
     ap (λ (d : Commit). d.seat) (sym (get_or_push cs c c (length cs) refl))
     ∙ All-get_or (λ (d : Commit). d.seat ≡ s.number) (cs ++ c ∷ []) (length cs) c within all
 
--- each state has as many nodes as the first
-pub same_room : (s : Seat) (time : ℕ) → capacity (state_of_time (past_of s) time) ≡ capacity s.start
-same_room s time = ap (λ objects. objects - first_node) (length-state_after s.start (take (time - s.base) s.seen))
+-- each state has as many nodes, which are the objects from a first one on, as the first state
+pub same_room : (first : ℕ) (s : Seat) (time : ℕ) → length (state_of_time (past_of s) time) - first ≡ length s.start - first
+same_room first s time = ap (λ objects. objects - first) (length-state_after s.start (take (time - s.base) s.seen))
 
 -- what follows a time follows an earlier one
 pub follows_earlier : (a b : ℕ) (place : Place) → a ≤ b → Follows b place → Follows a place
@@ -86,7 +109,8 @@ ran_read placed_in k s t before entered time comes enters is mine placed =
 -- an attempt that is done
 pub done_at : (k : Causes) (s t : Seat) (command : Command) (place : Place) (answer : Reply) → IsSeat IsOpening IsSetCommit t
     → Attempted k s t command (Done answer place) → RanAt s t command place answer
-done_at k s t command (AtCommit time) answer lawful done =
+done_at k s t command (AtCommit time) answer lawful left =
+    let done = left.1.done in
     ran_commit _ s t done.commit time lawful.mine done.continues done.entry done.later done.mine
     (λ by. (
       done.commit,
@@ -95,22 +119,29 @@ done_at k s t command (AtCommit time) answer lawful done =
         later = done.entry.later;
         there = done.entry.there;
         seat_is = by;
-        tagged = done.tagged;
-        answers = done.answers ∙ ap (λ room. reply command (catalogue_of (state_of_time (past_of t) (time - 1))) room false) (same_room t (time - 1));
+        tagged = done.plan.tagged;
+        answers = done.makes ∙ ap (λ room. reply command (catalogue_of (state_of_time (past_of t) (time - 1))) room false) (same_room first_node t (time - 1));
       },
     ))
-done_at k s t command (Read time) answer lawful read =
-    ran_read _ k s t read.before read.entered time read.comes read.enters read.time_is read.mine
+done_at k s t command (Read time) answer lawful left =
+    let read = left.1 in
+    ran_read _ k s t read.enters.before read.entered time read.enters.comes read.enters.enters read.time_is read.mine
     (λ after seen. (
       refl,
       record {
         after = after;
         seen = seen;
-        answers = read.answers ∙ ap (λ room. reply command (catalogue_of (state_of_time (past_of t) time)) room (time == t.last)) (same_room t time);
-        unchanging = sym (ap (λ room. changes command (catalogue_of (state_of_time (past_of t) time)) room (time == t.last)) (same_room t time))
-            ∙ read.unchanging;
+        answers = read.settles.answers ∙ ap (λ room. reply command (catalogue_of (state_of_time (past_of t) time)) room (time == t.last)) (same_room first_node t time);
+        unchanging = sym (ap (λ room. changes command (catalogue_of (state_of_time (past_of t) time)) room (time == t.last)) (same_room first_node t time))
+            ∙ read.settles.unchanging;
       },
     ))
+
+-- The command of a link has its place.
+pub linked_ran : (k : Causes) (s t : Seat) (command : Command) (place : Place) (answer : Reply) → Linked k s t command (place, answer)
+    → RanAt s t command place answer
+linked_ran k s t command place answer l =
+    ran_after _ s l.from t place l.none (done_at k l.from t command place answer l.lawful l.attempted)
 
 -- what a seat sees later is a longer history
 pub past_later : (s t : Seat) → Continues s t → past_of t ≡ longer (past_of s) (drop (length s.seen) t.seen)
@@ -126,3 +157,89 @@ pub placed_later : (placed_in : Past → ℕ → List Commit → Type 0) (s t : 
 placed_later placed_in s t commits c stays h =
     subst (λ (m : ℕ). placed_in (past_of t) m commits) (sym c.number)
     (subst (λ q. placed_in q s.number commits) (sym (past_later s t c)) (stays (past_of s) (drop (length s.seen) t.seen) s.number h))
+
+-- an attempt of a block that is done
+block_done_at : (k : Causes) (s t : Seat) (block : List Command) (place : Place) (answers : List Reply) → IsSeat IsOpening IsBlockCommit t
+    → BlockAttempted k s t block (blocks.Done answers place) → RanBlock s t block place answers
+block_done_at k s t block (AtCommit time) answers lawful left =
+    let done = left.done in
+    let before : State = state_of_time (past_of t) (time - 1) in
+    let room = same_room first_node t (time - 1) in
+    ran_commit _ s t done.commit time lawful.mine done.continues done.entry done.later done.mine
+    (λ by. (
+      done.commit,
+      refl,
+      record {
+        later = done.entry.later;
+        there = done.entry.there;
+        seat_is = by;
+        tagged = done.plan.tagged;
+        answers_are = done.makes.answers_are ∙ (λ i. block_replies block (catalogue_of before) (room i) false);
+        changing = sym (λ i. block_changes block (catalogue_of before) (room i) false) ∙ done.makes.changing;
+        leaves = done.makes.leaves ∙ (λ i. block_next block (catalogue_of before) (room i) false);
+      },
+    ))
+block_done_at k s t block (Read time) answers lawful read =
+    let now : State = state_of_time (past_of t) time in
+    let room = same_room first_node t time in
+    ran_read _ k s t read.enters.before read.entered time read.enters.comes read.enters.enters read.time_is read.mine
+    (λ after seen. (
+      refl,
+      record {
+        after = after;
+        seen = seen;
+        answers_are = read.settles.0 ∙ (λ i. block_replies block (catalogue_of now) (room i) (time == t.last));
+        unchanging = sym (λ i. block_changes block (catalogue_of now) (room i) (time == t.last)) ∙ read.settles.1;
+      },
+    ))
+
+-- The block of a link has its place.
+pub block_ran : (k : Causes) (s t : Seat) (block : List Command) (place : Place) (answers : List Reply) → LinkedBlock k s t block (place, answers)
+    → RanBlock s t block place answers
+block_ran k s t block place answers l =
+    ran_after _ s l.1.from t place l.1.none (block_done_at k l.1.from t block place answers l.1.lawful l.1.attempted)
+
+-- a block has a reply for each of its commands
+pub place_count : (p : Past) (seat : ℕ) (block : List Command) (place : Place) (answers : List Reply) (commits : List Commit)
+    → BlockPlaceOf p seat block place answers commits → length answers ≡ length block
+place_count p seat block (AtCommit time) answers commits h =
+    ap length h.2.answers_are ∙ length-block_replies block (catalogue_of (state_of_time p (time - 1))) (capacity p.start) false
+place_count p seat block (Read time) answers commits h =
+    ap length h.1.answers_are ∙ length-block_replies block (catalogue_of (state_of_time p time)) (capacity p.start) (time == p.last)
+
+pub replies_count : (k : Causes) (s t : Seat) (block : List Command) (place : Place) (answers : List Reply) → LinkedBlock k s t block (place, answers)
+    → length answers ≡ length block
+replies_count k s t block place answers l =
+    let ran = block_ran k s t block place answers l in place_count (past_of t) t.number block place answers ran.commits ran.placed
+
+-- The place of a block stays its place in a longer history.
+pub block_longer : (p : Past) (more : List Entry) (seat : ℕ) (block : List Command) (place : Place) (answers : List Reply) (commits : List Commit)
+    → BlockPlaceOf p seat block place answers commits → BlockPlaceOf (longer p more) seat block place answers commits
+block_longer p more seat block (AtCommit time) answers commits placed =
+    let made = placed.2 in
+    let within = slice_get_within p.entries (time - (p.base + 1)) (Change placed.0) made.there in
+    let before = state_longer p more (time - 1) (omega (arith, made.later, within)) in
+    let now = state_longer p more time (omega (arith, made.later, within)) in (
+      placed.0,
+      placed.1,
+      record {
+        later = made.later;
+        there = there_longer p.entries more (time - (p.base + 1)) (Change placed.0) made.there;
+        seat_is = made.seat_is;
+        tagged = made.tagged;
+        answers_are = made.answers_are ∙ sym (λ i. block_replies block (catalogue_of (before i)) (capacity p.start) false);
+        changing = (λ i. block_changes block (catalogue_of (before i)) (capacity p.start) false) ∙ made.changing;
+        leaves = ap catalogue_of now ∙ made.leaves ∙ sym (λ i. block_next block (catalogue_of (before i)) (capacity p.start) false);
+      },
+    )
+block_longer p more seat block (Read time) answers commits placed =
+    let read = placed.1 in
+    let same = state_longer p more time read.seen in (
+      placed.0,
+      record {
+        after = read.after;
+        seen = omega (arith, read.seen, length-append p.entries more);
+        answers_are = read.answers_are ∙ sym (λ i. block_replies block (catalogue_of (same i)) (capacity p.start) (time == p.last));
+        unchanging = (λ i. block_changes block (catalogue_of (same i)) (capacity p.start) (time == p.last)) ∙ read.unchanging;
+      },
+    )

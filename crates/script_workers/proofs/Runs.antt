@@ -1,29 +1,25 @@
--- A chain of links is a run, and what all seats did.
-use Rattle.section_work.specs.declared.causes.Cause.{Cause}
-use Rattle.std.proofs.Common.{sum, take_at}
+-- A chain of links is a run, of commands or of blocks, what all seats did, and the number of their lines.
+use Rattle.std.proofs.Common.{length-take-le, sum}
+use Rattle.std.proofs.lemmas.List.Elements.{All-nil, All-cons, All-map}
 use Rattle.std.proofs.lemmas.List.Sums.{sum_by-cons, sum_by-le, sum-map}
 use Rattle.std.proofs.lemmas.Simd.{map-map}
-use Rattle.item_workers.proofs.Links.{chain_length, did_to}
-use Rattle.script_workers.proofs.Terms.{◌≡◌, ◌+◌, ◌≤◌, ◌∷◌, ◌++◌, ◌<◌, ◌^◌, ◌∙◌, flat_map, sum_by, All, Vec, get_or, length-append, most_locks, ℕ, suc, List}
-use Rattle.script_workers.proofs.Terms.{[], length, map, refl, sym, ap, subst, arith, append_assoc, append-nil, Continues-Continues, Done, Again, Attempted}
-use Rattle.script_workers.proofs.Terms.{LinesOf, chain_told, gave_up, under_still, Commit, Seat, IsSeat, Continues, Continues-itself, Command, Place, Reply}
-use Rattle.script_workers.proofs.Terms.{Causes, IsOpening, IsSetCommit, Line, time_of, past_of, PlaceOf, Ran, Answer, Chain, DidAll, HaveNumbers, answered}
-use Rattle.script_workers.proofs.Terms.{IsUnder, Linked, LinkedDone, RanAt, line_of, LinkedLine, place_longer, entered_fresh, Read, IsEnteredBetween, drop_at}
-use Rattle.script_workers.proofs.Terms.{length-map, each_seat, MOST_COMMANDS, AllRan, Global, BySeat, DidTo, EachDid, row_of, AllLinked, items_of}
-use Rattle.script_workers.proofs.Terms.{command_count, Past, Follows, RanTo, longer, Entry}
-use Rattle.script_workers.proofs.Places.{done_at, placed_later, ran_after, follows_earlier}
-
--- The command of a link has its place.
-pub linked_ran : (k : Causes) (s t : Seat) (command : Command) (place : Place) (answer : Reply) → Linked k s t command place answer
-    → RanAt s t command place answer
-linked_ran k s t command place answer l =
-    ran_after _ s l.from t place l.none (done_at k l.from t command place answer l.lawful l.attempted)
+use Rattle.section_work.specs.declared.causes.Cause.{Cause}
+use Rattle.script_workers.proofs.Places.{RanTo, linked_ran, follows_earlier, placed_later, block_ran, block_longer, replies_count}
+use Rattle.script_workers.proofs.Terms.{◌≡◌, ℕ, suc, ◌+◌, ◌<◌, ◌≤◌, ◌^◌, ◌++◌, ◌∷◌, [], ◌∙◌, List, length, map, take, sum_by, All, Vec, Some, refl, sym, ap}
+use Rattle.script_workers.proofs.Terms.{subst, arith, get_or, slice_get, length-append, append_assoc, take_at, drop_at, length-map, append-nil, take_more}
+use Rattle.script_workers.proofs.Terms.{get_or_from_slice_get, Continues-Continues, Entry, each_seat, chain_told, chain_length, did_to, entered_fresh, gave_up}
+use Rattle.script_workers.proofs.Terms.{under_still, longer, place_longer, flat_map, Global, Seat, IsSeat, Continues, Continues-itself, Commit, Command, Place}
+use Rattle.script_workers.proofs.Terms.{Read, Reply, Causes, Line, IsOpening, IsSetCommit, MOST_COMMANDS, Attempted, most_locks, Done, Again, Follows, time_of}
+use Rattle.script_workers.proofs.Terms.{Past, past_of, PlaceOf, BySeat, LinesOf, Ran, AllRan, Answer, Chain, DidAll, DidTo, EachDid, HaveNumbers, answered}
+use Rattle.script_workers.proofs.Terms.{IsUnder, IsEnteredBetween, items_of, command_count, blocks_of, count_of, line_of, row_of, lines_at, lines_of, done_of}
+use Rattle.script_workers.proofs.Terms.{lines_in, row_in, block_row, FitsNumbers, AllFit, Linked, LinkedLine, AllLinked, LinkedBlock, LinkedBlockOf}
+use Rattle.script_workers.proofs.Terms.{AllLinkedBlocks, BlockPlaceOf, BlocksOf, RanBlocks, AllRanBlocks}
 
 -- What an attempt leaves under a command that was begun: its link,
 pub under_done : (k : Causes) (s t u : Seat) (command : Command) (place : Place) (answer : Reply) → IsUnder most_locks s t → IsSeat IsOpening IsSetCommit u
-    → Attempted k t u command (Done answer place) → Linked k s u command place answer × (most_locks ≤ u.write_max)
+    → Attempted k t u command (Done answer place) → Linked k s u command (place, answer) × (most_locks ≤ u.write_max)
 under_done k s t u command place answer h lawful left =
-    let l : Linked k s u command place answer = record { from = t; none = h.none; attempted = left; lawful = lawful } in
+    let l : Linked k s u command (place, answer) = record { from = t; none = h.none; attempted = left; lawful = lawful } in
     (l, omega (arith, h.may, h.none.continues.write_max, (linked_ran k s u command place answer l).continues.write_max))
 
 -- or that it is still under it
@@ -74,9 +70,9 @@ module _ {I D : Type 0} (link : Seat → Seat → I → D → Type 0) (width : I
 
 -- So a chain is a run.
 pub chain_ran : (k : Causes) (s u : Seat) (commands : List Command) (ds : List (Answer (Place × Reply)))
-    → DidAll (λ (t : Seat). t) (LinkedDone k) (λ (c : Command). 1) s u commands ds → Ran s u commands (map line_of ds)
+    → DidAll (λ (t : Seat). t) (Linked k) (λ (c : Command). 1) s u commands ds → Ran s u commands (map line_of ds)
 chain_ran k s u commands ds did =
-    let ran = ran_from (LinkedDone k) (λ (c : Command). 1) (λ (d : Place × Reply). d.0) (λ i d p seat cs. PlaceOf p seat i d.0 d.1 cs)
+    let ran = ran_from (Linked k) (λ (c : Command). 1) (λ (d : Place × Reply). d.0) (λ i d p seat cs. PlaceOf p seat i d.0 d.1 cs)
     (λ s t i d l. linked_ran k s t i d.0 d.1 l) (λ i d cs p later seat h. place_longer p later seat i d.0 d.1 cs h)
     (λ number before commands ds p seat cs. LinesOf p seat number before commands (map line_of ds) cs) (λ number before p seat. refl)
     (λ s t number before i is d ds p seat own others l by numbered follows place rest.
@@ -92,14 +88,14 @@ chain_ran k s u commands ds did =
 
 -- The chain of the answers is that of the lines.
 pub chain_lines : (k : Causes) (s u : Seat) (commands : List Command) (ds : List (Answer (Place × Reply)))
-    → Chain (answered (LinkedDone k)) s u commands ds → Chain (LinkedLine k) s u commands (map line_of ds)
-chain_lines k = chain_told (answered (LinkedDone k)) (LinkedLine k) line_of (λ s t i d l. l)
+    → Chain (answered (Linked k)) s u commands ds → Chain (LinkedLine k) s u commands (map line_of ds)
+chain_lines k = chain_told (answered (Linked k)) (LinkedLine k) line_of (λ s t i d l. l)
 
 -- No read is older than what its seat had seen when the command began.
-pub linked_fresh : (k : Causes) (s t : Seat) (command : Command) (time : ℕ) (answer : Reply) → Linked k s t command (Read time) answer
+pub linked_fresh : (k : Causes) (s t : Seat) (command : Command) (time : ℕ) (answer : Reply) → Linked k s t command (Read time, answer)
     → IsEnteredBetween k s t time
 linked_fresh k s t command time answer l =
-    let r = l.attempted in entered_fresh k l.from t r.before r.entered time r.comes r.enters r.time_is s l.none
+    let r = l.attempted.1 in entered_fresh k l.from t r.enters.before r.entered time r.enters.comes r.enters.enters r.time_is s l.none
 
 -- the commands of scripts that are short have few numbers
 pub few_numbers : (scripts : List (Vec Command Global)) → All (λ (script : Vec Command Global). length script.items ≤ MOST_COMMANDS) scripts
@@ -142,16 +138,135 @@ module _ {T X : Type 0} (first : T → X) (seat_of : X → Seat) (link : X → X
 -- Stores whose runners keep nothing but the seat.
 module _ (k : Causes) {T : Type 0} (seat_in : T → Seat) (ts : List T) (ns : List Seat) (scripts : List (List Command))
     (rows : List (Vec (Answer (Place × Reply)) Global))
-    (each : EachDid (λ (t : Seat). t) (LinkedDone k) (λ (c : Command). 1) (map seat_in ts) ns scripts rows) where
+    (each : EachDid (λ (t : Seat). t) (Linked k) (λ (c : Command). 1) (map seat_in ts) ns scripts rows) where
   -- what all seats ran
   pub all_ran : AllRan (map seat_in ts) ns scripts (flat_map row_of rows)
   all_ran =
-      by_seat seat_in (λ (t : Seat). t) (LinkedDone k) seat_in Ran
-      (λ t n s r h. chain_ran k (seat_in t) n s r.items (did_to (LinkedDone k) (λ (c : Command). 1) (seat_in t) n s r.items h)) ts ns scripts rows each
+      by_seat seat_in (λ (t : Seat). t) (Linked k) seat_in Ran
+      (λ t n s r h. chain_ran k (seat_in t) n s r.items (did_to (Linked k) (λ (c : Command). 1) (seat_in t) n s r.items h)) ts ns scripts rows each
 
   -- and that each went on from where it was
   pub all_linked : AllLinked k (map seat_in ts) ns scripts (flat_map row_of rows)
   all_linked =
-      by_seat seat_in (λ (t : Seat). t) (LinkedDone k) seat_in (Chain (LinkedLine k))
+      by_seat seat_in (λ (t : Seat). t) (Linked k) seat_in (Chain (LinkedLine k))
       (λ t n s r h.
-      chain_lines k (seat_in t) n s r.items (did_to (LinkedDone k) (λ (c : Command). 1) (seat_in t) n s r.items h).chain) ts ns scripts rows each
+      chain_lines k (seat_in t) n s r.items (did_to (Linked k) (λ (c : Command). 1) (seat_in t) n s r.items h).chain) ts ns scripts rows each
+
+-- one more line of a block
+pub lines_push : (seat number : ℕ) (place : Place) (answers : List Reply) (answer : Reply)
+    → lines_at seat number place (answers ++ answer ∷ [])
+    ≡ lines_at seat number place answers ++ (record { seat = seat; number = number + length answers; place = place; reply = answer }) ∷ []
+lines_push seat number place [] answer =
+    let none : number ≡ number + 0 = omega arith in
+    ap (λ n. (record { seat = seat; number = n; place = place; reply = answer }) ∷ []) none
+lines_push seat number place (a ∷ answers) answer =
+    let next : suc number + length answers ≡ number + length (a ∷ answers) = omega arith in
+    ap (λ ls. (record { seat = seat; number = number; place = place; reply = a }) ∷ ls)
+    (lines_push seat (suc number) place answers answer
+    ∙ ap (λ n. lines_at seat (suc number) place answers ++ (record { seat = seat; number = n; place = place; reply = answer }) ∷ []) next)
+
+-- the lines of one more reply
+pub lines_next : (seat first i : ℕ) (place : Place) (answers : List Reply) (answer : Reply) → i < length answers → slice_get answers i ≡ Some answer
+    → lines_at seat first place (take (i + 1) answers)
+    ≡ lines_at seat first place (take i answers) ++ (record { seat = seat; number = first + i; place = place; reply = answer }) ∷ []
+lines_next seat first i place answers answer lt is =
+    let one : take (i + 1) answers ≡ take i answers ++ answer ∷ [] =
+    take_more answers i answer lt ∙ ap (λ a. take i answers ++ a ∷ []) (get_or_from_slice_get answers i answer answer is) in
+    let count : length (take i answers) ≡ i = length-take-le i answers (omega (arith, lt)) in
+    ap (lines_at seat first place) one
+    ∙ lines_push seat first place (take i answers) answer
+    ∙ ap (λ n. lines_at seat first place (take i answers) ++ (record { seat = seat; number = first + n; place = place; reply = answer }) ∷ []) count
+
+-- as many lines as replies
+pub lines_count : (seat number : ℕ) (place : Place) (answers : List Reply) → length (lines_at seat number place answers) ≡ length answers
+lines_count seat number place [] = refl
+lines_count seat number place (answer ∷ answers) = ap (λ n. suc n) (lines_count seat (suc number) place answers)
+
+-- The lines of the answers are those of what became of the blocks.
+pub done_lines : (ds : List (Answer (Place × List Reply))) → row_in ds ≡ flat_map lines_of (map done_of ds)
+done_lines [] = refl
+done_lines (d ∷ ds) = ap (λ ls. lines_of (done_of d) ++ ls) (done_lines ds)
+
+-- So a chain of blocks is a run.
+pub block_chain_ran : (k : Causes) (s u : Seat) (blocks : List (List Command)) (ds : List (Answer (Place × List Reply)))
+    → DidAll (λ (t : Seat). t) (LinkedBlock k) length s u blocks ds → RanBlocks s u blocks (row_in ds)
+block_chain_ran k s u blocks ds did =
+    let ran = ran_from (LinkedBlock k) length (λ (d : Place × List Reply). d.0) (λ i d p seat cs. BlockPlaceOf p seat i d.0 d.1 cs)
+    (λ s t i d l. block_ran k s t i d.0 d.1 l) (λ i d cs p later seat h. block_longer p later seat i d.0 d.1 cs h)
+    (λ number before blocks ds p seat cs. BlocksOf p seat number before blocks (map done_of ds) cs) (λ number before p seat. refl)
+    (λ s t number before i is d ds p seat own others l by numbered follows place rest.
+    (own, others, refl, record { some = l.0; by = by; numbered = numbered; follows = follows; place = place }, rest))
+    s u 1 (s.base + length s.seen) blocks ds (omega arith) did.chain did.numbers in
+    record { continues = ran.continues; commits = ran.commits; mine = ran.mine; done = map done_of ds; lines_are = done_lines ds; each = ran.each }
+
+-- the blocks of scripts that are short have few numbers
+pub few_in_blocks : (scripts : List (Vec (List Command) Global)) → All (λ (script : Vec (List Command) Global). count_of script ≤ MOST_COMMANDS) scripts
+    → All (λ (script : Vec (List Command) Global). 1 + sum_by length script.items < 2 ^ 32) scripts
+few_in_blocks scripts short = λ i d lt. omega (arith, short i d lt)
+
+module _ (k : Causes) where
+  -- there are as many lines as commands, and no number is too great
+  counted : (s u : Seat) (seat number : ℕ) (blocks : List (List Command)) (ds : List (Answer (Place × List Reply)))
+      → Chain (answered (LinkedBlock k)) s u blocks ds → HaveNumbers length seat number blocks ds
+      → (length (row_in ds) ≡ sum_by length blocks) × (number + sum_by length blocks < 2 ^ 32 → All FitsNumbers ds)
+  counted s u seat number [] [] c n = (refl, λ few. All-nil FitsNumbers)
+  counted s u seat number (b ∷ blocks) (d ∷ ds) c n =
+      let sum = sum_by-cons length b blocks in
+      let own : length d.done.1 ≡ length b = replies_count k s c.0 b d.done.0 d.done.1 c.1 in
+      let lines = lines_count d.seat d.number d.done.0 d.done.1 in
+      let both : length (row_in (d ∷ ds)) ≡ length (lines_in d) + length (row_in ds) = length-append (lines_in d) (row_in ds) in
+      let others = counted c.0 u seat (number + length b) blocks ds c.2 n.2 in (
+        omega (arith, both, lines, own, others.0, sum),
+        λ few. All-cons FitsNumbers d ds (omega (arith, few, sum, own, n.1)) (others.1 (omega (arith, few, sum))),
+      )
+  counted s u seat number _ _ c n = absurd c
+
+module _ (k : Causes) {T : Type 0} (seat_in : T → Seat) (ts : List T) (ns : List Seat) (scripts : List (Vec (List Command) Global))
+    (rows : List (Vec (Answer (Place × List Reply)) Global))
+    (each : EachDid (λ (t : Seat). t) (LinkedBlock k) length (map seat_in ts) ns (map blocks_of scripts) rows) where
+  -- what all seats ran, and that each went on from where it was
+  pub all_blocks_ran : AllRanBlocks (map seat_in ts) ns (map blocks_of scripts) (flat_map block_row rows)
+      × AllLinkedBlocks k (map seat_in ts) ns (map blocks_of scripts) (flat_map block_row rows)
+  all_blocks_ran =
+      each_seat seat_in (λ (t : Seat). t) (LinkedBlock k) length
+      (λ ts ns scripts rows. AllRanBlocks (map seat_in ts) ns scripts (flat_map block_row rows)
+      × AllLinkedBlocks k (map seat_in ts) ns scripts (flat_map block_row rows))
+      (refl, refl)
+      (λ t n s r ts ns scripts rows h rest.
+      (let did = did_to (LinkedBlock k) length (seat_in t) n s r.items h in (
+        (block_row r, flat_map block_row rows, refl, block_chain_ran k (seat_in t) n s r.items did, rest.0),
+        (
+          map done_of r.items,
+          flat_map block_row rows,
+          ap (λ ls. ls ++ flat_map block_row rows) (done_lines r.items),
+          chain_told (answered (LinkedBlock k)) (LinkedBlockOf k) done_of (λ a b c d l. l) (seat_in t) n s r.items did.chain,
+          rest.1,
+        ),
+      )))
+      ts ns (map blocks_of scripts) rows each
+
+  -- there are as many lines as commands, and no number is too great
+  pub blocks_counted : All (λ (script : Vec (List Command) Global). count_of script ≤ MOST_COMMANDS) scripts
+      → (length (flat_map block_row rows) ≡ sum_by count_of scripts) × All AllFit rows
+  blocks_counted short =
+      let both = each_seat seat_in (λ (t : Seat). t) (LinkedBlock k) length
+      (λ ts ns lists rows. (length (flat_map block_row rows) ≡ sum (map (sum_by length) lists))
+      × (All (λ (list : List (List Command)). 1 + sum_by length list < 2 ^ 32) lists → All AllFit rows))
+      (refl, λ few. All-nil AllFit)
+      (λ t n s r ts ns lists rows h rest.
+      (let did = did_to (LinkedBlock k) length (seat_in t) n s r.items h in
+      let own = counted k (seat_in t) n (seat_in t).number 1 s r.items did.chain did.numbers in
+      let more = sum_by-cons (λ (m : ℕ). m) (sum_by length s) (map (sum_by length) lists) in (
+        omega (arith, length-append (block_row r) (flat_map block_row rows), own.0, rest.0, more),
+        λ few. All-cons AllFit r rows (own.1 (few 0 s (omega arith))) (rest.1 (λ i d lt. few (suc i) d (omega (arith, lt)))),
+      )))
+      ts ns (map blocks_of scripts) rows each in (
+        both.0 ∙ ap sum (map-map (sum_by length) blocks_of scripts) ∙ sum-map count_of scripts,
+        both.1 (All-map (λ (list : List (List Command)). 1 + sum_by length list < 2 ^ 32) blocks_of scripts (few_in_blocks scripts short)),
+      )
+
+-- No such block is older than what its seat had seen when it began.
+pub block_fresh : (k : Causes) (s t : Seat) (block : List Command) (time : ℕ) (answers : List Reply) → LinkedBlock k s t block (Read time, answers)
+    → IsEnteredBetween k s t time
+block_fresh k s t block time answers l =
+    let r = l.1.attempted in entered_fresh k l.1.from t r.enters.before r.entered time r.enters.comes r.enters.enters r.time_is s l.1.none

@@ -1,6 +1,6 @@
 pub mod Terms
-pub mod Commands
-pub mod Links
-pub mod Lines
-pub mod Numbers
 pub mod Workers
+pub mod Lines
+pub mod Links
+pub mod GrowLinks
+pub mod BlockRuns

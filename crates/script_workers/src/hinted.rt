@@ -17,7 +17,7 @@ pub struct Hinted<S: Store<Rules = SetRules>> {
 impl<S: Store<Rules = SetRules>> Runner for Hinted<S> {
     ghost use Rattle.std.specs.Prelude.{⊤, ◌≤◌};
     ghost use Rattle.script_workers.specs.Terms.{Seat, most_locks, causes, IsUnder, none_begun};
-    ghost use Rattle.script_workers.specs.Links.{LinkedDone};
+    ghost use Rattle.script_workers.specs.Links.{Linked};
 
     type Item = Command;
 
@@ -47,7 +47,7 @@ impl<S: Store<Rules = SetRules>> Runner for Hinted<S> {
 
     ghost under = { λ s command w. IsUnder most_locks s (S.seat_of w.hinted.store) };
 
-    ghost link = { LinkedDone (causes S.Open.may_refuse S.Open.has_trail S.took S.holds_back S.Open.found_held S.Open.loaded) };
+    ghost link = { Linked (causes S.Open.may_refuse S.Open.has_trail S.took S.holds_back S.Open.found_held S.Open.loaded) };
 
     fn memo(alloc: Global) -> Result<Box<Memo>, AllocError> {
         Memo::new(alloc, HINTS)

@@ -1,5 +1,5 @@
 use Rattle.mvrlu.specs.Meant.{seat_of}
-use Rattle.block_workers.specs.Workers.{blocks_of}
+use Rattle.script_workers.specs.Workers.{blocks_of}
 use Rattle.block_domain.proofs.Terms.{◌∙◌, sym, length-map, IsOpening, IsBlockCommit, as_many, one_history}
 use Rattle.block_domain.proofs.OneRun.{all_continue, blocks_met}
 use Rattle.block_domain.proofs.running.run_block_domain.Goals as goal

@@ -1,7 +1,7 @@
 use Rattle.std.proofs.Common.{length, map}
 use Rattle.block_domain.specs.Whole.{BlocksRunOf}
 use Rattle.block_domain.proofs.OneRun.{run_permuted}
-use Rattle.block_workers.specs.Workers.{blocks_of}
+use Rattle.script_workers.specs.Workers.{blocks_of}
 use Rattle.run_kinds.specs.Kinds.{config_of, usual_options}
 use Rattle.run_kinds.proofs.InOrder.{text_in_order}
 use Rattle.script_files.specs.set_blocks.BlockRules.{IsBlockCommit}

@@ -2,7 +2,7 @@ use Rattle.std.proofs.Common.{ap, length, map, sym}
 use Rattle.std.proofs.lemmas.List.{length-map}
 use Rattle.std.proofs.lemmas.List.Sorted.{IsPermutation-refl}
 use Rattle.block_domain.specs.Whole.{BlocksRunOf}
-use Rattle.block_workers.specs.Workers.{blocks_of}
+use Rattle.script_workers.specs.Workers.{blocks_of}
 use Rattle.run_kinds.specs.Kinds.{config_of}
 use Rattle.run_kinds.proofs.Along.{left_along}
 use Rattle.run_kinds.proofs.Opened.{back_meets}

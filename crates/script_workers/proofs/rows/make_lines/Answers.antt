@@ -1,5 +1,4 @@
-use Rattle.std.proofs.lemmas.List.Folds.{length-flat_map-take}
-use Rattle.script_workers.proofs.Terms.{ap, length, arith, Vec, length-map, Global, Place, Reply, Answer, line_of, row_of}
+use Rattle.script_workers.proofs.Terms.{length, Vec, ap, arith, length-map, length-flat_map-take, Global, Place, Reply, Answer, line_of, row_of}
 use Rattle.script_workers.proofs.rows.make_lines.Goals as goal
 
 -- there is room for the lines of one more row

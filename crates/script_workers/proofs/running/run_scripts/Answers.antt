@@ -1,5 +1,5 @@
-use Rattle.script_workers.proofs.Terms.{arith, all_free, all_may, LinkedDone}
 use Rattle.script_workers.proofs.Runs.{few_numbers, all_ran, all_linked, line_counts}
+use Rattle.script_workers.proofs.Terms.{arith, all_free, all_may, Linked}
 use Rattle.script_workers.proofs.running.run_scripts.Goals as goal
 
 -- each command may be done on each store
@@ -12,7 +12,7 @@ make_lines-requires-clause-room g c =
     rw c.deref.ensures.value
     (omega (
       arith,
-      line_counts g.S.Store.seat_of _ (LinkedDone _) c.args.stores.items _ c.args.scripts.now c.in_ok-stores.rows.items c.in_ok-stores.ensures.did,
+      line_counts g.S.Store.seat_of _ (Linked _) c.args.stores.items _ c.args.scripts.now c.in_ok-stores.rows.items c.in_ok-stores.ensures.did,
       c.in-Ok.ensures.1,
     ))
 

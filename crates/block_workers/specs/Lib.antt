@@ -1,4 +1,0 @@
-pub mod BlockLines
-pub mod BlockLinks
-pub mod BlockRuns
-pub mod Workers

@@ -120,7 +120,8 @@ done_at k s t command (AtCommit time) answer lawful left =
         there = done.entry.there;
         seat_is = by;
         tagged = done.plan.tagged;
-        answers = done.makes ∙ ap (λ room. reply command (catalogue_of (state_of_time (past_of t) (time - 1))) room false) (same_room first_node t (time - 1));
+        answers = done.makes
+            ∙ ap (λ room. reply command (catalogue_of (state_of_time (past_of t) (time - 1))) room false) (same_room first_node t (time - 1));
       },
     ))
 done_at k s t command (Read time) answer lawful left =

@@ -26,7 +26,8 @@ kept seat odd = record { seat = seat; odd = odd }
 -- Behind attempts that made no commit there was one of this command that was done.
 abbrev pub LinkedCommand : Causes → Seat → Seat → Command → Place × Reply → Type 0
 LinkedCommand k s t command done =
-    DoneBehind (λ old new. GrowAttempted grow_levels k old new command (Done done.1 done.0)) (IsSeat (IsGrownOpening grow_levels) (IsGrowCommit grow_levels)) s t
+    DoneBehind (λ old new. GrowAttempted grow_levels k old new command (Done done.1 done.0))
+    (IsSeat (IsGrownOpening grow_levels) (IsGrowCommit grow_levels)) s t
 
 -- one try of a split led from the one seat to the other, and answered
 pub record IsAnsweredBy (k : Causes) (old new : Seat) : Type 0 where

@@ -4,11 +4,11 @@ use Rattle.std.proofs.lemmas.Bool.Decides.{nat_tests}
 use Rattle.std.proofs.lemmas.List.Sums.{sum_by-cons, sum_by_push}
 use Rattle.std.proofs.lemmas.Option.{slice_get_within}
 use Rattle.script_workers.proofs.Runs.{chain_ran, chain_lines}
-use Rattle.command_pool.proofs.Terms.{◌≡◌, ◌-◌, ◌<◌, ◌∷◌, ◌++◌, ◌∙◌, ◌+◌, ◌≤◌, ◌==◌, flat_map, ℕ, zero, suc, List, [], length, map, All, Some, slice_get, refl, sym}
-use Rattle.command_pool.proofs.Terms.{ap, subst, arith, Vec, sum_by, sum_by-append, All-nil, All-cons, All-head, All-tail, Seat, Command, Place, Reply, Causes, Line}
+use Rattle.command_pool.proofs.Terms.{◌≡◌, ◌-◌, ◌<◌, ◌∷◌, ◌++◌, ◌∙◌, ◌+◌, ◌≤◌, ◌==◌, flat_map, ℕ, zero, suc, List, [], length, map, All, Some, refl}
+use Rattle.command_pool.proofs.Terms.{ap, subst, arith, Vec, sum_by, sum_by-append, All-nil, All-cons, All-head, All-tail, Seat, Command, Place, Reply}
 use Rattle.command_pool.proofs.Terms.{command_at, Answer, Chain, answered, HaveNumbers, line_of, row_of, Linked, Serves, EachServed, IsPassOf, hand, Hand}
 use Rattle.command_pool.proofs.Terms.{total_to, last_of, GaveTurn, HasEnded, AreTaken, PoolSource, QueueOf, IsBegun, IsLent, taken_of}
-use Rattle.command_pool.proofs.Terms.{lines_from, Took, TookLinked, EachSeat, PoolRan}
+use Rattle.command_pool.proofs.Terms.{lines_from, Took, TookLinked, EachSeat, PoolRan, Causes, Line, slice_get, sym}
 use Rattle.command_pool.proofs.Sharing.{last_push}
 
 -- the command of a number, found at the place before it

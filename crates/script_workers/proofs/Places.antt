@@ -132,7 +132,8 @@ done_at k s t command (Read time) answer lawful left =
       record {
         after = after;
         seen = seen;
-        answers = read.settles.answers ∙ ap (λ room. reply command (catalogue_of (state_of_time (past_of t) time)) room (time == t.last)) (same_room first_node t time);
+        answers = read.settles.answers
+            ∙ ap (λ room. reply command (catalogue_of (state_of_time (past_of t) time)) room (time == t.last)) (same_room first_node t time);
         unchanging = sym (ap (λ room. changes command (catalogue_of (state_of_time (past_of t) time)) room (time == t.last)) (same_room first_node t time))
             ∙ read.settles.unchanging;
       },

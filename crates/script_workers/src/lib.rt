@@ -16,8 +16,8 @@
 //! its split. Its link (`Linked`, `LinkedBlock`, `LinkedTurn`) says that
 //!
 //! - after attempts that made no commit there was one of this very command or block that was done, with this place and these
-//!   replies. A commit is later than all that the seat had seen, and a read is of a section that this attempt entered, whose
-//!   time it took then (`took`);
+//!   replies, in a section that this attempt entered. A commit is later than all that the seat had seen, and a read has that
+//!   section's time, which it took then (`took`);
 //! - so a read's snapshot holds all that the seat had seen when the command or block began (`linked_fresh` and `block_fresh` in
 //!   proofs/Runs.antt, `turn_fresh` in proofs/Turns.antt): nothing is answered from memory;
 //! - where a split is due behind a command, after tries that made no commit there was one that answered: a bucket was split,

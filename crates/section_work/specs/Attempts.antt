@@ -1,7 +1,8 @@
 -- What an attempt of a work leaves, by its answer.
 use Rattle.mv_history.specs.declared.history.Commit.{Commit}
 use Rattle.mv_history.specs.declared.history.Entry.TheVariants.{Change}
-use Rattle.section_work.specs.Terms.{◌≡◌, ◌+◌, ◌-◌, ◌<◌, ◌≤◌, ◌⊎◌, ◌==◌, ◌∷◌, ◌++◌, ℕ, true, List, [], length, State, Writes, touches, state_at, Holder, Seat}
+use Rattle.std.specs.Prelude.{◌≡◌, ◌+◌, ◌-◌, ◌<◌, ◌≤◌, ◌⊎◌, ◌==◌, ◌∷◌, ◌++◌}
+use Rattle.section_work.specs.Terms.{ℕ, true, List, [], length, State, Writes, touches, state_at, Holder, Seat}
 use Rattle.section_work.specs.Terms.{InSection, Holds, snapshot_of, state_of_time, commit_exchanges, IsOneLost, call_trail, Continues, IsAsBefore, GoesOn}
 use Rattle.section_work.specs.Terms.{Prepares, Leaves, IsEntryAt, Overtakes, AtCommit, Read, Refusal, Lock, Rival, LogFull, Attempt, Done, Again, Cause}
 use Rattle.section_work.specs.Causes.{Causes}

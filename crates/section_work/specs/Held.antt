@@ -1,5 +1,6 @@
 -- What a section may hold, and what it holds after a call.
-use Rattle.section_work.specs.Terms.{◌+◌, ◌≡◌, ◌≤◌, if◌then◌else◌, ◌∷◌, ℕ, List, [], length, Writes, touches, InSection, snapshot_of, GoesOn}
+use Rattle.std.specs.Prelude.{◌+◌, ◌≡◌, ◌≤◌, if◌then◌else◌, ◌∷◌}
+use Rattle.section_work.specs.Terms.{ℕ, List, [], length, Writes, touches, InSection, snapshot_of, GoesOn}
 
 -- how many of these different objects are not held
 abbrev pub count_unheld : Writes → List ℕ → ℕ

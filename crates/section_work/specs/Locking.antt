@@ -1,5 +1,6 @@
 -- What the locks and writes of a section leave, by their answers.
-use Rattle.section_work.specs.Terms.{◌≡◌, ◌≢◌, ◌∷◌, ◌++◌, ℕ, List, Writes, written, InSection, Lacks, state_of, IsAsBefore, GoesOn, IsStale, Refusal}
+use Rattle.std.specs.Prelude.{◌≡◌, ◌≢◌, ◌∷◌, ◌++◌}
+use Rattle.section_work.specs.Terms.{ℕ, List, Writes, written, InSection, Lacks, state_of, IsAsBefore, GoesOn, IsStale, Refusal}
 use Rattle.section_work.specs.OwnWrites.{with_locks, with_writes, objects_of}
 use Rattle.section_work.specs.Held.{HoldsMore}
 use Rattle.section_work.specs.declared.causes.Refusal.TheVariants.{Busy, Stale}

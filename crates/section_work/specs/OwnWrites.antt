@@ -1,5 +1,6 @@
 -- What a section holds after locks and writes.
-use Rattle.section_work.specs.Terms.{if◌then◌else◌, ◌∷◌, ◌++◌, ℕ, List, [], State, Writes, touches, rewritten, words_at}
+use Rattle.std.specs.Prelude.{if◌then◌else◌, ◌∷◌, ◌++◌}
+use Rattle.section_work.specs.Terms.{ℕ, List, [], State, Writes, touches, rewritten, words_at}
 
 -- the writes once the object is held too, with its words in this state
 abbrev pub with_lock : State → Writes → ℕ → Writes

@@ -1,5 +1,6 @@
 -- How a call enters a section, and how many commits it tries.
-use Rattle.section_work.specs.Terms.{◌≤◌, length, Seat, InSection, commit_exchanges, call_trail, Continues, Enters}
+use Rattle.std.specs.Prelude.{◌≤◌}
+use Rattle.section_work.specs.Terms.{length, Seat, InSection, commit_exchanges, call_trail, Continues, Enters}
 use Rattle.section_work.specs.Causes.{Causes}
 
 -- The call entered this section from the seat `before`, at a time that it took; what the section saw is among what is seen afterwards.

@@ -1,5 +1,6 @@
 -- Which calls of its store an attempt makes, one after another, by its answer.
-use Rattle.section_work.specs.Terms.{RivalEntry, ◌≡◌, ◌+◌, ◌-◌, ◌<◌, ◌≤◌, ◌⊎◌, ℕ, List, length, Writes, Holder, Seat, InSection, IsWorn, call_trail, IsAsBefore}
+use Rattle.std.specs.Prelude.{◌≡◌, ◌+◌, ◌-◌, ◌<◌, ◌≤◌, ◌⊎◌}
+use Rattle.section_work.specs.Terms.{RivalEntry, ℕ, List, length, Writes, Holder, Seat, InSection, IsWorn, call_trail, IsAsBefore}
 use Rattle.section_work.specs.Terms.{GoesOn, Prepares, Enters, Leaves, Commits, Overtakes, AtCommit, Read, Refusal, Lock, Rival, LogFull, Attempt, Done, Again}
 use Rattle.section_work.specs.OwnWrites.{objects_of}
 use Rattle.section_work.specs.Locking.{Rewritten, RefusesWith}

@@ -1,6 +1,7 @@
 // One work as one section of a store.
 ghost use Rattle.section_work.specs.declared.work.Decision.TheVariants.{Settled, Change};
-ghost use Rattle.section_work.specs.Terms.{◌≡◌, ◌≢◌, ◌≤◌, ◌==◌, ℕ, State, Seat, snapshot_of, Continues, Prepares};
+ghost use Rattle.std.specs.Prelude.{◌≡◌, ◌≢◌, ◌≤◌, ◌==◌};
+ghost use Rattle.section_work.specs.Terms.{ℕ, State, Seat, snapshot_of, Continues, Prepares};
 ghost use Rattle.section_work.specs.Sections.{TriesOne};
 ghost use Rattle.section_work.specs.Causes.{causes};
 ghost use Rattle.section_work.specs.Works.{IsFound, IsChange};

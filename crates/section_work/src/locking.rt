@@ -1,6 +1,6 @@
 // Locks and writes.
-ghost use Rattle.std.specs.Prelude.{OnOk, IfErr};
-ghost use Rattle.section_work.specs.Terms.{◌≡◌, ◌<◌, true, [], ◌∷◌, length, are_distinct, AreWithin, Lacks, state_of, GoesOn, LocksWith};
+ghost use Rattle.std.specs.Prelude.{OnOk, IfErr, ◌≡◌, ◌<◌, ◌∷◌};
+ghost use Rattle.section_work.specs.Terms.{true, [], length, are_distinct, AreWithin, Lacks, state_of, GoesOn, LocksWith};
 ghost use Rattle.section_work.specs.OwnWrites.{objects_of, with_locks};
 ghost use Rattle.section_work.specs.Held.{HasRoom, HoldsMore};
 ghost use Rattle.section_work.specs.Attempts.{HasSpace};

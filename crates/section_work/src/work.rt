@@ -13,7 +13,8 @@ pub enum Decision<R, P> {
 ///
 /// It says what it reads as a reply, what it writes and what its commits mean. [`attempt_work`](crate::attempt_work) does the rest.
 pub trait Work {
-    ghost use Rattle.section_work.specs.Terms.{◌≡◌, ℕ, true, List, State, Writes, written, Seat, InSection, Continues, Drifts};
+    ghost use Rattle.std.specs.Prelude.{◌≡◌};
+    ghost use Rattle.section_work.specs.Terms.{ℕ, true, List, State, Writes, written, Seat, InSection, Continues, Drifts};
     ghost use Rattle.section_work.specs.Works.{Meaning, IsFound, IsHere};
 
     /// The rules of the stores that it may be done in.

@@ -112,7 +112,7 @@ static BROKEN: [Refused; 15] = [
 ];
 
 // A block where none may be.
-const OUTSIDE: Row<'static> = Row {
+static OUTSIDE: Row<'static> = Row {
     name: "a block outside of blocks",
     script: b"begin\nadd l0 1\nend\n",
     err: b"script 0 line 1: unknown command\n",

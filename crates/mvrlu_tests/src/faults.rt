@@ -79,7 +79,7 @@ fn the_first_faulty_file_is_told(rt: HostRuntime) -> Result<(), Fail> {
 }
 
 // A read that would fail, and isn't made.
-const ALL_READ: Row<'static> = Row {
+static ALL_READ: Row<'static> = Row {
     name: "a read that isn't made",
     file_fails: &[21],
     most: 1,
@@ -113,7 +113,7 @@ fn a_failing_read_is_status_5(rt: HostRuntime) -> Result<(), Fail> {
 }
 
 // A write that would fail, and isn't made.
-const ALL_WRITTEN: Row<'static> = Row {
+static ALL_WRITTEN: Row<'static> = Row {
     name: "a write that isn't made",
     out_fails: &[83],
     most: 1,

@@ -125,7 +125,7 @@ const MOST_BYTES: Row<'static> = Row {
 };
 
 // One byte more.
-const MORE_BYTES: Row<'static> = Row {
+static MORE_BYTES: Row<'static> = Row {
     name: "1,048,577 bytes",
     status: 4,
     out: b"",
@@ -174,7 +174,7 @@ const MORE_COMMANDS: Row<'static> = Row {
 };
 
 // The same in blocks.
-const MORE_BLOCKS: Row<'static> = Row {
+static MORE_BLOCKS: Row<'static> = Row {
     name: "65,537 blocks of one",
     words: &["block", "a"],
     ..MORE_COMMANDS

@@ -13,7 +13,7 @@ use std::test::Fail;
 use std::thread::Threads;
 
 // A pool of one seat.
-const ONE_SEAT: Row<'static> = Row {
+static ONE_SEAT: Row<'static> = Row {
     name: "a pool of one seat",
     words: &["pool", "1", "a"],
     script: b"add l1 1\nadd l1 3\nadd l1 2\ndel l1 3\n",
@@ -42,7 +42,7 @@ static POOLS: [Refused; 9] = [
 ];
 
 // A pool over a broken script.
-const BROKEN: Row<'static> = Row {
+static BROKEN: Row<'static> = Row {
     name: "a pool over a broken script",
     words: &["pool", "2", "a"],
     script: b"has l0 1\nhas l0\n",

@@ -250,14 +250,14 @@ const MORE_STEPS: Row<'static> = Row {
 };
 
 // Two steps more, and a bad number behind them.
-const LATER_NUMBER: Row<'static> = Row {
+static LATER_NUMBER: Row<'static> = Row {
     name: "65,538 steps, and a bad number behind them",
     err: b"limit: script 0 line 7 commands\n",
     ..MORE_STEPS
 };
 
 // A bad number on the line with that step.
-const NUMBER: Row<'static> = Row {
+static NUMBER: Row<'static> = Row {
     name: "a bad number on the line with the 65,537th step",
     status: 3,
     err: b"script 0 line 6: bad number\n",
@@ -277,7 +277,7 @@ fn the_steps_of_a_plan_are_limited(rt: HostRuntime) -> Result<(), Fail> {
 }
 
 // One byte more than a plan may have.
-const MORE_BYTES: Row<'static> = Row {
+static MORE_BYTES: Row<'static> = Row {
     name: "1,048,577 bytes",
     words: &["replay", "a"],
     most: 1 << 16,

@@ -146,10 +146,10 @@ fn del<S: Section>(section: &mut S, kind: Kind, key: u32) -> Removed
     }
 }
 
-// Makes the changes of a case. Whether each call answers as it should.
-fn change<S: Section>(section: &mut S, case: &Case) -> bool
+// Adds the keys of a case. Whether each was new.
+fn add_all<S: Section>(section: &mut S, case: &Case) -> bool
     requires filled { IsFilled (S.section section.old) 0 }
-    ensures { result ≡ true → IsLawful (S.state section.new) }
+    ensures { result ≡ true → IsFilled (S.section section.new) 3 }
 {
     for i in 0..3 {
         let key = case.added[i];
@@ -157,23 +157,52 @@ fn change<S: Section>(section: &mut S, case: &Case) -> bool
             return false;
         };
     }
+    true
+}
+
+// Puts the value that a key has, and then another one. Whether the second alone changes something.
+fn put_twice<S: Section>(section: &mut S, case: &Case) -> bool
+    requires filled { IsFilled (S.section section.old) 3 }
+    ensures { result ≡ true → IsFilled (S.section section.new) 4 }
+{
     let (key, old, new) = case.put;
     let Some(SetStep::No) = put(section, case.kind, key, old) else {
         return false;
     };
-    let Some(SetStep::Yes) = put(section, case.kind, key, new) else {
-        return false;
-    };
+    matches!(put(section, case.kind, key, new), Some(SetStep::Yes))
+}
+
+// Adds a key that is there, and takes out one that isn't. Whether neither changes anything.
+fn change_nothing<S: Section>(section: &mut S, case: &Case) -> bool
+    requires filled { IsFilled (S.section section.old) 4 }
+    ensures { result ≡ true → IsFilled (S.section section.new) 4 }
+{
     let SetStep::No = add(section, case.kind, case.again, 7, 4) else {
         return false;
     };
-    let Removed::Absent = del(section, case.kind, case.absent) else {
-        return false;
-    };
+    matches!(del(section, case.kind, case.absent), Removed::Absent)
+}
+
+// Takes a key out. Whether it stood in its node.
+fn take_out<S: Section>(section: &mut S, case: &Case) -> bool
+    requires filled { IsFilled (S.section section.old) 4 }
+    ensures { result ≡ true → IsLawful (S.state section.new) }
+{
     let Removed::Took { node, inner: 0 } = del(section, case.kind, case.taken.0) else {
         return false;
     };
     node == case.taken.1
+}
+
+// Makes the changes of a case. Whether each call answers as it should.
+fn change<S: Section>(section: &mut S, case: &Case) -> bool
+    requires filled { IsFilled (S.section section.old) 0 }
+    ensures { result ≡ true → IsLawful (S.state section.new) }
+{
+    add_all(section, case)
+        && put_twice(section, case)
+        && change_nothing(section, case)
+        && take_out(section, case)
 }
 
 // Asks a list one question. Whether its answer is the one that is wanted.

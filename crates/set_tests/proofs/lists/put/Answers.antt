@@ -8,6 +8,11 @@ put_in-requires-clause-room g c node _ =
     filled_room_one _ _ node (filled_same _ _ _ (g.met.S.Section.lawful _).at (g.met.S.Section.others_stay _ _ c.has_in.ensures.as_before) c.requires.filled)
     (omega arith)
 
+pub put_in-requires-in-Table-clause-room : goal.put_in-requires-in-Table-clause-room
+put_in-requires-in-Table-clause-room g c node _ =
+    filled_room_one _ _ node (filled_same _ _ _ (g.met.S.Section.lawful _).at (g.met.S.Section.others_stay _ _ c.has_in-in-Table.ensures.as_before) c.requires.filled)
+    (omega arith)
+
 pub returns-else-not-has_in-clause-no : goal.returns-else-not-has_in-clause-no
 returns-else-not-has_in-clause-no g c e =
     let no : c.put_in.result ≡ No = cc in

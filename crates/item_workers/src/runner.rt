@@ -77,7 +77,7 @@ pub trait Runner: Sized {
     // From the one to the other the item was done, with this answer.
     ghost link: { Self.Kept → Self.Kept → Self.Item → Self.Done → Type 0 };
 
-    /// Takes the memory for what one runner remembers.
+    /// Takes the memory for what one runner remembers. An error is want of memory.
     fn memo(alloc: Global) -> Result<Self::Memo, AllocError>;
 
     /// Puts a store and its memo together.

@@ -1,9 +1,7 @@
 // Replays: the text of a given schedule, and what is no plan.
 use crate::comparing::{assert_same, must};
 use crate::limits::{USAGE, line_ends};
-use crate::row::{
-    PLAIN, Printed, REFUSED, Row, named, owned, print, run_refused, run_rows, run_text,
-};
+use crate::row::{PLAIN, REFUSED, Row, print_texts, run_refused, run_rows, run_text};
 use host_io::OpenGate;
 use mvrlu_run::LeftDomain;
 use std::alloc::{AllocError, Global};
@@ -264,16 +262,25 @@ static NUMBER: Row<'static> = Row {
     ..MORE_STEPS
 };
 
+// Runs the plan of so many turns with this text behind them.
+fn run_turns<R: Abort + Threads + Wait + Sync>(
+    rt: &R,
+    alloc: Global,
+    row: &Row<'_>,
+    count: u32,
+    behind: &[u8],
+) -> Result<(), Fail> {
+    let mut plan = turns(alloc, count)?;
+    plan.extend_from_slice(behind)?;
+    run_text(rt, alloc, row, &plan, &OpenGate)
+}
+
 #[test]
 fn the_steps_of_a_plan_are_limited(rt: HostRuntime) -> Result<(), Fail> {
     let alloc = rt.alloc();
-    run_text(&rt, alloc, &MORE_STEPS, &turns(alloc, 65_537)?, &OpenGate)?;
-    let mut plan = turns(alloc, 65_536)?;
-    plan.extend_from_slice(b"\nstep 0 0\nstep 1\n")?;
-    run_text(&rt, alloc, &LATER_NUMBER, &plan, &OpenGate)?;
-    let mut plan = turns(alloc, 65_536)?;
-    plan.extend_from_slice(b"step 0 1\n")?;
-    run_text(&rt, alloc, &NUMBER, &plan, &OpenGate)
+    run_turns(&rt, alloc, &MORE_STEPS, 65_537, b"")?;
+    run_turns(&rt, alloc, &LATER_NUMBER, 65_536, b"\nstep 0 0\nstep 1\n")?;
+    run_turns(&rt, alloc, &NUMBER, 65_536, b"step 0 1\n")
 }
 
 // One byte more than a plan may have.
@@ -301,18 +308,12 @@ fn the_bytes_of_a_plan_are_limited(rt: HostRuntime) -> Result<(), Fail> {
 #[test]
 fn as_many_steps_as_may_be_are_replayed_on_no_domain(rt: HostRuntime) -> Result<(), Fail> {
     let alloc = rt.alloc();
-    let words = owned(alloc, &["replay", "a"])?;
-    let mut texts = Vec::new(alloc);
-    texts.push(named(alloc, "a", &turns(alloc, 65_536)?)?)?;
-    let Printed {
-        status,
-        closed,
-        out,
-        err,
-    } = print(&rt, alloc, &words, texts, &OpenGate)?;
-    assert_same(&rt, &(status, err.bytes()), &(0, b"".as_slice()), "the end");
-    must(&rt, matches!(&closed, LeftDomain::No), "no domain");
-    expect_idle(&rt, out.bytes());
+    let plan = turns(alloc, 65_536)?;
+    let printed = print_texts(&rt, alloc, &["replay", "a"], &[("a", &plan)], &OpenGate)?;
+    let ended = (printed.status, printed.err.bytes());
+    assert_same(&rt, &ended, &(0, b"".as_slice()), "the end");
+    must(&rt, matches!(&printed.closed, LeftDomain::No), "no domain");
+    expect_idle(&rt, printed.out.bytes());
     Ok(())
 }
 

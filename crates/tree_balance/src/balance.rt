@@ -60,6 +60,20 @@ fn child_inside(parent: Words, child: u32, words: Words) -> u64 {
     }
 }
 
+// The step that gives an inner node this rank.
+fn ranked(node: u32, rank: u64) -> BalanceStep {
+    BalanceStep::Rank { node, rank }
+}
+
+// The step by which the child takes the place of the parent.
+fn rotated(grand: u32, parent: u32, child: u32) -> BalanceStep {
+    BalanceStep::Rotate {
+        grand,
+        parent,
+        child,
+    }
+}
+
 impl WritePlan {
     // The object of this number, with its words once they are written, if there is such an object.
     fn look<V: View>(&self, view: &mut V, object: u64) -> Option<(u32, Words)>
@@ -100,12 +114,8 @@ impl WritePlan {
             } else {
                 here[word::RANK]
             };
-            let raise = BalanceStep::Rank {
-                node: parent,
-                rank: most.saturating_add(1),
-            };
             return Some(Choice {
-                steps: [raise; 5],
+                steps: [ranked(parent, most.saturating_add(1)); 5],
                 count: 1,
                 next: parent,
             });
@@ -129,20 +139,12 @@ impl WritePlan {
         ensures as_before { V.as_before view.old view.new }
     {
         let (inside, words) = self.look(view, child_inside(above, child, here))?;
-        let lower = BalanceStep::Rank {
-            node: parent,
-            rank: above[word::RANK].saturating_sub(1),
-        };
+        let lower = ranked(parent, above[word::RANK].saturating_sub(1));
         if words[word::KIND] != word::INNER
             || here[word::RANK] >= words[word::RANK].saturating_add(2)
         {
-            let turn = BalanceStep::Rotate {
-                grand,
-                parent,
-                child,
-            };
             return Some(Choice {
-                steps: [turn, lower, lower, lower, lower],
+                steps: [rotated(grand, parent, child), lower, lower, lower, lower],
                 count: 2,
                 next: child,
             });
@@ -150,26 +152,14 @@ impl WritePlan {
         if self.count() + 4 > limit {
             return None;
         }
-        let first = BalanceStep::Rotate {
-            grand: parent,
-            parent: child,
-            child: inside,
-        };
-        let second = BalanceStep::Rotate {
-            grand,
-            parent,
-            child: inside,
-        };
-        let raise = BalanceStep::Rank {
-            node: inside,
-            rank: words[word::RANK].saturating_add(1),
-        };
-        let lower_child = BalanceStep::Rank {
-            node: child,
-            rank: here[word::RANK].saturating_sub(1),
-        };
         Some(Choice {
-            steps: [first, second, raise, lower_child, lower],
+            steps: [
+                rotated(parent, child, inside),
+                rotated(grand, parent, inside),
+                ranked(inside, words[word::RANK].saturating_add(1)),
+                ranked(child, here[word::RANK].saturating_sub(1)),
+                lower,
+            ],
             count: 5,
             next: inside,
         })
@@ -243,11 +233,7 @@ impl WritePlan {
         ensures extends { Extends (V.state view.old) root limit (writes_in self.old) (writes_in self.new) }
         ensures as_before { V.as_before view.old view.new }
     {
-        let first = BalanceStep::Rank {
-            node: from,
-            rank: 1,
-        };
-        if !self.take_all(view, root, &[first], limit) {
+        if !self.take_all(view, root, &[ranked(from, 1)], limit) {
             return;
         }
         let falls = way.falls();
